@@ -1,0 +1,16 @@
+# make play             builds the program and plays examples/sessions/moved.session
+# make play SESSION=F   plays the session in the file F
+# make test             the gate (every proof, test and must-fail edit), then every session
+# make bench            times 10,000 and 20,000 queries
+SESSION ?= examples/sessions/moved.session
+
+.PHONY: play test bench
+
+play:
+	@tools/play "$(SESSION)"
+
+test:
+	@tools/test
+
+bench:
+	@program=$$(tools/build) && tools/bench "$$program"

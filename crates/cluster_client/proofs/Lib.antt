@@ -1,0 +1,9 @@
+pub mod Addresses
+pub mod LinkPlaces
+pub mod Bytes
+pub mod Pairing
+pub mod Events
+pub mod Agree
+pub mod Chains
+pub mod OneCall
+pub mod Nodes

@@ -1,0 +1,31 @@
+-- A call of one link in a list.
+use Rattle.std.specs.Prelude.{slice_get, Some}
+use Rattle.std.proofs.Common.{◌≡◌, ℕ, ◌<◌, List, length, set, get_or, refl, ap, ◌∙◌}
+use Rattle.std.proofs.lemmas.List.{map-set}
+use Rattle.std.proofs.lemmas.Option.{slice_get-map, slice_get_read, slice_get-get_or}
+use Rattle.std.specs.Option.{option_map}
+use Rattle.resp_link.specs.Call.{Seen}
+use Rattle.cluster_routing.specs.Seen.{address}
+use Rattle.cluster_routing.specs.declared.address.NodeAddress.{NodeAddress}
+use Rattle.cluster_client.specs.World.{Node, nodes, Calls}
+
+pub calls_one : {L : Type 0} (seen : L → Seen) (links : List (NodeAddress × L)) (which : ℕ) (pair : NodeAddress × L) (new : L) (Call : Seen → Seen → Type 0)
+    → which < length links → pair ≡ get_or links which pair → Call (seen pair.1) (seen new)
+    → Calls (nodes seen links) (nodes seen (set links which (pair.0, new))) which Call
+calls_one seen links which pair new Call within is call =
+    let node : NodeAddress × _ → Node = λ p. record { address = address p.0; link = seen p.1 } in
+    record {
+      before = node pair;
+      after = node (pair.0, new);
+      found = slice_get-map node links which ∙ ap (λ o. option_map node o) (slice_get_read links (length links) which pair refl within is);
+      others = map-set node links which (pair.0, new);
+      address = refl;
+      call = call;
+    }
+
+-- the node at an index is the one that was read there
+pub node_there : {L : Type 0} (seen : L → Seen) (links : List (NodeAddress × L)) (which : ℕ) (pair : NodeAddress × L)
+    → which < length links → pair ≡ get_or links which pair → slice_get (nodes seen links) which ≡ Some (record { address = address pair.0; link = seen pair.1 })
+node_there seen links which pair within is =
+    let node : NodeAddress × _ → Node = λ p. record { address = address p.0; link = seen p.1 } in
+    slice_get-map node links which ∙ ap (λ o. option_map node o) (slice_get_read links (length links) which pair refl within is)

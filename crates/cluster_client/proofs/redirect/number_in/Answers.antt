@@ -1,0 +1,10 @@
+use Rattle.std.specs.Str.{is_utf8}
+use Rattle.std.proofs.lemmas.Bool.{false_from_ne_true}
+use Rattle.std.proofs.lemmas.Str.{is_utf8-from_IsUtf8, IsUtf8-from_is_utf8}
+use Rattle.cluster_client.proofs.redirect.number_in.Goals as goal
+
+pub returns-in-Ok : goal.returns-in-Ok
+returns-in-Ok c = rw (is_utf8-from_IsUtf8 c.args.word.now c.in-Ok.ensures.cases.1, ← c.in-Ok.ensures.cases.0) c.number_of.ensures
+
+pub returns-in-Err : goal.returns-in-Err
+returns-in-Err c = rw (false_from_ne_true (is_utf8 c.args.word.now) (λ e. c.in-Err.ensures.cases.0 (IsUtf8-from_is_utf8 _ e)))

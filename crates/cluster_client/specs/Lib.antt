@@ -1,0 +1,14 @@
+pub mod Request
+pub mod Reply
+pub mod Log
+pub mod World
+pub mod Places
+pub mod Events
+pub mod Keyed
+pub mod Plan
+pub mod Answer
+pub mod Accepted
+pub mod Played
+pub mod Converted
+pub mod Hops
+pub mod Whole

@@ -1,0 +1,194 @@
+//! The client: it refreshes its slot map, and sends keyed commands to the nodes that serve them.
+ghost use Rattle.std.specs.Prelude.{◌≡◌, ◌≢◌, ◌↔◌, Err, [], true, IfOk, option_map};
+ghost use Rattle.resp_core.specs.Errors.{by_cause};
+ghost use Rattle.resp_core.specs.View.{view};
+ghost use Rattle.resp_core.specs.declared.errors.redis_error.Cause.TheVariants.{Memory, RepeatedAddress};
+ghost use Rattle.cluster_routing.specs.Seen.{address};
+ghost use Rattle.cluster_routing.specs.SlotMap.{put_all};
+ghost use Rattle.cluster_routing.specs.SlotsReply.{ranges};
+ghost use Rattle.cluster_client.specs.Plan.{Refresh, Query};
+ghost use Rattle.cluster_client.specs.Answer.{told, refreshed};
+ghost use Rattle.cluster_client.specs.Played.{CallMade};
+ghost use Rattle.cluster_client.specs.Converted.{QueryMade};
+ghost use Rattle.cluster_client.specs.World.{addresses_of, has_repeats, link_at, new_world, nodes, viewed};
+ghost use Rattle.cluster_client.specs.Accepted.{IsAccepted};
+ghost use Rattle.cluster_client.specs.Whole.{whole};
+
+use crate::asked::Asked;
+use crate::hops::{Turn, first_place, turn_by};
+use crate::links::{has_repeats, open_place, place_of};
+use crate::reply::needs_refresh;
+use crate::sending::send;
+use cluster_routing::{NodeAddress, SlotMap, parse_slots, slot_cmd};
+use resp_args::{Cmd, FromRedisValue, from_redis_value};
+use resp_core::{Cause, RedisError, Value};
+use resp_link::ConnectionLike;
+use std::alloc::{AllocError, Global};
+
+/// A client of a Redis Cluster over links that its maker hands in, one for each node.
+///
+/// It opens no link and closes none; a link that failed is not used again. Calls are made one at a
+/// time, and each tells what it sent by `asked`.
+#[derive(Drop)]
+pub struct ClusterClient<L> {
+    links: Vec<(NodeAddress, L)>,
+    read_only: Vec<Vec<u8>>,
+    budget: u16,
+    slots: SlotMap,
+    needs_refresh: bool,
+    asked: Vec<Asked>,
+}
+
+impl<L: ConnectionLike + Drop> ClusterClient<L> {
+    /// A client without a slot map, over these links.
+    ///
+    /// `read_only` are the names of commands that may be answered by replicas, `budget` is how many
+    /// redirects one request follows.
+    ///
+    /// # Errors
+    /// `RepeatedAddress` where an address is given twice; the links are dropped.
+    pub fn new(
+        alloc: Global,
+        links: Vec<(NodeAddress, L)>,
+        read_only: Vec<Vec<u8>>,
+        budget: u16,
+    ) -> Result<ClusterClient<L>, RedisError>
+        ensures made { IfOk result (λ client. whole L.seen client ≡ new_world (nodes L.seen links.items) budget) }
+        ensures repeated { (result ≡ Err (by_cause RepeatedAddress)) ↔ (has_repeats (addresses_of (nodes L.seen links.items)) ≡ true) }
+    {
+        if has_repeats(&links) {
+            return Err(RedisError::from(Cause::RepeatedAddress));
+        }
+        Ok(ClusterClient {
+            links,
+            read_only,
+            budget,
+            slots: SlotMap::new(alloc),
+            needs_refresh: false,
+            asked: Vec::new(alloc),
+        })
+    }
+
+    /// Asks one node for the slot map, by `CLUSTER SLOTS`, and puts it in place of the old one.
+    ///
+    /// # Errors
+    /// `NoLink` where no usable link leads to the node; the server's error where the reply is or
+    /// holds one; `Io` and `Parse` where the link failed, which is closed then; `Memory`. Each
+    /// leaves the slot map and `needs_refresh` as they were. No redirect is followed.
+    pub fn refresh(&mut self, alloc: Global, node: &NodeAddress) -> Result<(), RedisError>
+        ensures played { result ≢ Err (by_cause Memory) → CallMade (whole L.seen self.old) (whole L.seen self.new) (Refresh (address node.now)) (refreshed result) }
+    {
+        self.asked = Vec::new(alloc);
+        let Some(which) = open_place(&self.links, node) else {
+            return Err(RedisError::from(Cause::NoLink));
+        };
+        let args = slot_cmd(alloc)?.wire_args(alloc)?;
+        let reply = send(
+            &mut self.links,
+            &mut self.asked,
+            alloc,
+            which,
+            node,
+            &args,
+            false,
+        )?;
+        self.slots = accepted(alloc, reply, node)?;
+        self.needs_refresh = false;
+        Ok(())
+    }
+
+    /// Sends a keyed command to the node that serves its key's slot, and answers the reply as a `T`.
+    ///
+    /// A reply that is itself MOVED or ASK is followed, within the budget, to the node that it
+    /// names; behind ASK the request goes out with `ASKING` before it, in one write. `picks` is for
+    /// routes to any node, which are not taken yet.
+    ///
+    /// # Errors
+    /// In the order of the checks: `NoResponse` for a command that waits for none; `NoRoute` for one
+    /// other than GET and SET, in any case of letters; `NoNode` where no node serves the slot;
+    /// `NoLink` where no usable link leads to it, or to the node that a redirect names; the server's
+    /// error where the last reply is or holds one, a redirect out of budget or without a readable
+    /// node among them; `Io` and `Parse` where the link failed, which is closed then;
+    /// `UnexpectedReturnType` where the reply is no `T`, which leaves the link in step; `Memory`.
+    /// Until `NoLink` of the first node nothing is sent.
+    pub fn query<T: FromRedisValue>(
+        &mut self,
+        alloc: Global,
+        cmd: &Cmd,
+        picks: u64,
+    ) -> Result<T, RedisError>
+        ensures answered { result ≢ Err (by_cause Memory) → QueryMade (whole L.seen self.old) (whole L.seen self.new) cmd.now T.meaning T.convert result }
+    {
+        let reply = self.reply_to(alloc, cmd, picks)?;
+        Ok(from_redis_value(alloc, reply)?)
+    }
+
+    /// The one reply to a keyed command, behind its redirects.
+    fn reply_to(&mut self, alloc: Global, cmd: &Cmd, picks: u64) -> Result<Value, RedisError>
+        ensures played { result ≢ Err (by_cause Memory) → CallMade (whole L.seen self.old) (whole L.seen self.new) (Query cmd.now) (told (viewed view result)) }
+    {
+        self.asked = Vec::new(alloc);
+        let mut place = first_place(&self.links, &self.slots, cmd, picks)?;
+        let args = cmd.wire_args(alloc)?;
+        let mut left = self.budget;
+        'requests: loop {
+            let reply = send(
+                &mut self.links,
+                &mut self.asked,
+                alloc,
+                place.which,
+                &place.node,
+                &args,
+                place.asking,
+            )?;
+            self.needs_refresh = needs_refresh(self.needs_refresh, &reply);
+            match turn_by(alloc, &self.links, left, reply)? {
+                Turn::Answered(value) => return Ok(value),
+                Turn::On(next) => {
+                    left -= 1;
+                    place = next;
+                }
+            }
+        }
+    }
+
+    /// Whether a request was answered by MOVED since the last accepted refresh.
+    pub fn needs_refresh(&self) -> bool
+        ensures { result ≡ (whole L.seen self.now).needs_refresh }
+    {
+        self.needs_refresh
+    }
+
+    /// The last call's requests, in order of sending.
+    pub fn asked(&self) -> &[Asked]
+        ensures { result.now ≡ (whole L.seen self.now).log }
+    {
+        self.asked.as_slice()
+    }
+
+    /// The link to a node.
+    pub fn link(&self, node: &NodeAddress) -> Option<&L>
+        ensures { option_map (λ link. L.seen link.now) result ≡ link_at (whole L.seen self.now).nodes (address node.now) }
+    {
+        match place_of(&self.links, node) {
+            Some(which) => Some(&self.links[which].1),
+            None => None,
+        }
+    }
+}
+
+/// The slot map that a reply to `CLUSTER SLOTS` of this node lists, or the error in it.
+fn accepted(alloc: Global, reply: Value, node: &NodeAddress) -> Result<SlotMap, RedisError>
+    ensures { result ≢ Err (by_cause Memory) → IsAccepted (view reply) (address node.now).host result }
+{
+    let reply = reply.extract_error()?;
+    Ok(listed(alloc, &reply, node)?)
+}
+
+/// The slot map that a reply to `CLUSTER SLOTS` of this node lists.
+fn listed(alloc: Global, reply: &Value, node: &NodeAddress) -> Result<SlotMap, AllocError>
+    ensures { IfOk result (λ map. map ≡ put_all [] (ranges (view reply.now) (address node.now).host)) }
+{
+    let ranges = parse_slots(alloc, reply, node.host())?;
+    SlotMap::from_slots(alloc, ranges)
+}

@@ -1,0 +1,11 @@
+pub mod Division
+pub mod Tags
+pub mod Addresses
+pub mod RangeMaps
+pub mod Puts
+pub mod Lends
+pub mod Distinct
+pub mod Tuples
+pub mod Tables
+pub mod Replies
+pub mod LawProofs

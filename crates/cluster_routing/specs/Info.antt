@@ -1,0 +1,45 @@
+-- What the code's answers on routes are.
+use Rattle.std.specs.Prelude.{ℕ, List, [], ◌∷◌, map, Option, Some, None, Vec}
+use Rattle.std.specs.Borrow.{Bor}
+use Rattle.std.specs.Global.{Global}
+use Rattle.cluster_routing.specs.Seen.{address}
+use Rattle.cluster_routing.specs.Routing.{Destination, to_any_node, to_any_primary, to_route, to_address, to_all_nodes, to_all_primaries, to_parts}
+use Rattle.cluster_routing.specs.declared.route.Route.{Route}
+use Rattle.cluster_routing.specs.declared.policy.ResponsePolicy.{ResponsePolicy}
+use Rattle.cluster_routing.specs.declared.policy.MultiSlotArgPattern.{MultiSlotArgPattern}
+use Rattle.cluster_routing.specs.declared.routing.RoutingInfo.{RoutingInfo}
+use Rattle.cluster_routing.specs.declared.routing.RoutingInfo.TheVariants.{SingleNode, MultiNode}
+use Rattle.cluster_routing.specs.declared.routing.SingleNodeRoutingInfo.{SingleNodeRoutingInfo}
+use Rattle.cluster_routing.specs.declared.routing.SingleNodeRoutingInfo.TheVariants.{Random, RandomPrimary, SpecificNode, ByAddress}
+use Rattle.cluster_routing.specs.declared.routing.MultipleNodeRoutingInfo.{MultipleNodeRoutingInfo}
+use Rattle.cluster_routing.specs.declared.routing.MultipleNodeRoutingInfo.TheVariants.{AllNodes, AllMasters, MultiSlot}
+
+-- a set of names, and lent arguments, as their bytes
+abbrev pub texts : List (Vec ℕ Global) → List (List ℕ)
+texts names = map (λ (v : Vec ℕ Global). v.items) names
+
+abbrev pub lent : List (Bor (List ℕ)) → List (List ℕ)
+lent args = map (λ (a : Bor (List ℕ)). a.now) args
+
+abbrev pub shown_part : Route × Vec ℕ Global → Route × List ℕ
+shown_part p = (p.0, p.1.items)
+
+abbrev pub shown_single : SingleNodeRoutingInfo → Destination
+shown_single Random = to_any_node
+shown_single RandomPrimary = to_any_primary
+shown_single (SpecificNode route) = to_route route
+shown_single (ByAddress a) = to_address (address a)
+
+abbrev pub shown_multiple : Option ResponsePolicy → MultipleNodeRoutingInfo → Destination
+shown_multiple policy AllNodes = to_all_nodes policy
+shown_multiple policy AllMasters = to_all_primaries policy
+shown_multiple policy (MultiSlot p) = to_parts (map shown_part p.0.items) p.1 policy
+
+abbrev pub shown_info : RoutingInfo → Destination
+shown_info (SingleNode info) = shown_single info
+shown_info (MultiNode info) = shown_multiple info.1 info.0
+
+-- a route leads to its node, no route to any node
+abbrev pub single_of : Option Route → SingleNodeRoutingInfo
+single_of None = Random
+single_of (Some route) = SpecificNode route

@@ -1,0 +1,51 @@
+-- Laws of addresses, slots, range maps and routes, over the definitions alone.
+use Rattle.std.specs.Prelude.{◌≡◌, ℕ, ◌<◌, ◌≤◌, ◌^◌, Bool, true, false, ◌&&◌, List, [], ◌∷◌, Option, Some, None, slice_get, ◌↔◌, ⊤}
+use Rattle.std.specs.List.{list_all}
+use Rattle.std.specs.Str.{str_to_ascii_lowercase}
+use Rattle.std.specs.declared.cmp.Ordering.TheVariants.{Equal}
+use Rattle.resp_args.specs.declared.cmd.Arg.TheVariants.{Simple}
+use Rattle.cluster_routing.specs.Address.{Address, address_cmp, address_read, is_plain, same_address, written}
+use Rattle.cluster_routing.specs.HashSlot.{hash_slot, tag}
+use Rattle.cluster_routing.specs.Ranges.{Entry, IsAscending, value_at}
+use Rattle.cluster_routing.specs.Command.{Args}
+use Rattle.cluster_routing.specs.Table.{Row, Rule, table, rule_of, same_rule}
+use Rattle.cluster_routing.specs.Routing.{destination}
+
+-- an address comes back from its text exactly where its host is plain
+abbrev pub RoundTrip : Type 0
+RoundTrip = (a : Address) → a.port < 2 ^ 16 → (address_read (written a) ≡ Some a) ↔ (is_plain a.host ≡ true)
+
+-- keys with an equal tag that is not empty have an equal slot
+abbrev pub EqualTags : Type 0
+EqualTags = (key other : List ℕ) (b : ℕ) (bs : List ℕ) → tag key ≡ Some (b ∷ bs) → tag other ≡ Some (b ∷ bs) → hash_slot key ≡ hash_slot other
+
+-- the case of the word's ASCII letters changes no route
+abbrev pub CaseOfTheWord : Type 0
+CaseOfTheWord =
+    (word other : List ℕ) (args : Args) (read_only : List (List ℕ)) → str_to_ascii_lowercase word ≡ str_to_ascii_lowercase other
+    → destination (Simple word ∷ args) read_only ≡ destination (Simple other ∷ args) read_only
+
+-- equal arguments go to one place
+abbrev pub EqualArguments : Type 0
+EqualArguments = (args other : Args) (read_only : List (List ℕ)) → args ≡ other → destination args read_only ≡ destination other read_only
+
+-- no range is reversed, and each begins behind the end of the one before
+abbrev pub BeginsBehind : {V : Type 0} → ℕ → List (Entry V) → Type 0
+BeginsBehind end [] = ⊤
+BeginsBehind end (e ∷ es) = end < e.1.0
+
+abbrev pub AreApart : {V : Type 0} → List (Entry V) → Type 0
+AreApart [] = ⊤
+AreApart (e ∷ es) = (e.1.0 ≤ e.0) × BeginsBehind e.0 es × AreApart es
+
+-- where ranges are apart, the value of a slot is that of the one range that holds it, if there is one
+pub record OneRange (V : Type 0) : Type 0 where
+  pub held : (entries : List (Entry V)) (i : ℕ) (e : Entry V) (slot : ℕ) → AreApart entries → slice_get entries i ≡ Some e → e.1.0 ≤ slot → slot ≤ e.0 → value_at slot entries ≡ Some e.1.1
+  pub free : (entries : List (Entry V)) (slot : ℕ) → AreApart entries → ((i : ℕ) (e : Entry V) → slice_get entries i ≡ Some e → e.1.0 ≤ slot → e.0 < slot) → value_at slot entries ≡ None
+
+-- each name of the table is routed by its own row, and by no other
+abbrev pub is_routed_by : Rule → List ℕ → Bool
+is_routed_by rule name = same_rule (rule_of name true) rule && same_rule (rule_of name false) rule
+
+abbrev pub EachNameHasItsRow : Type 0
+EachNameHasItsRow = list_all (λ (r : Row). list_all (is_routed_by r.rule) r.names) table ≡ true

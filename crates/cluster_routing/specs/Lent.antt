@@ -1,0 +1,8 @@
+-- What a strategy is lent.
+use Rattle.cluster_routing.specs.Candidates.{Candidates, any_node, replicas_only}
+use Rattle.cluster_routing.specs.declared.candidates.ReadCandidates.{ReadCandidates}
+use Rattle.cluster_routing.specs.declared.candidates.ReadCandidates.TheVariants.{AnyNode, ReplicasOnly}
+
+abbrev pub lent : ReadCandidates → Candidates
+lent (AnyNode c) = any_node c.slot c.nodes
+lent (ReplicasOnly c) = replicas_only c.slot c.replicas

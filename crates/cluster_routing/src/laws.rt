@@ -1,0 +1,56 @@
+//! Laws of addresses, slots, range maps and routes. Each is the contract of a call that does
+//! nothing, or that makes the one call that it speaks of.
+
+ghost use Rattle.std.specs.Prelude.{◌≡◌, ℕ};
+ghost use Rattle.cluster_routing.specs.Address.{address_cmp, same_address};
+ghost use Rattle.cluster_routing.specs.Laws.{CaseOfTheWord, EachNameHasItsRow, EqualArguments, EqualTags, OneRange, RoundTrip};
+ghost use Rattle.cluster_routing.specs.Seen.{address};
+
+use crate::address::NodeAddress;
+use std::cmp::Ordering;
+
+/// An address comes back from its text exactly where its host is not empty, does not begin with
+/// `[` and does not end with `]`.
+pub fn addresses_come_back()
+    ensures { RoundTrip }
+{}
+
+/// The order of addresses is by the bytes of the host, and then by the port as a number.
+pub fn order_of_addresses(a: &NodeAddress, b: &NodeAddress) -> Ordering
+    ensures { result ≡ address_cmp (address a.now) (address b.now) }
+{
+    a.cmp(b)
+}
+
+/// Two addresses are equal where host and port are.
+pub fn equality_of_addresses(a: &NodeAddress, b: &NodeAddress) -> bool
+    ensures { result ≡ same_address (address a.now) (address b.now) }
+{
+    a == b
+}
+
+/// Keys with an equal tag that is not empty have an equal slot.
+pub fn equal_tags_have_equal_slots()
+    ensures { EqualTags }
+{}
+
+/// The case of the ASCII letters of a command's word changes no route.
+pub fn case_changes_no_route()
+    ensures { CaseOfTheWord }
+{}
+
+/// Equal arguments have equal routes.
+pub fn equal_arguments_have_equal_routes()
+    ensures { EqualArguments }
+{}
+
+/// Where ranges are apart and none is reversed, the value of a slot is that of the one range that
+/// holds it.
+pub fn the_one_range_serves()
+    ensures { OneRange ℕ }
+{}
+
+/// Each name of the routing table is routed by its own row, and by no other.
+pub fn each_name_has_its_row()
+    ensures { EachNameHasItsRow }
+{}

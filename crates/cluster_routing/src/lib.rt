@@ -1,0 +1,34 @@
+//! Where commands go in a Redis Cluster: addresses, slots, the map of slots, and the routing table.
+#![tactic(auto)]
+
+mod address;
+mod candidates;
+pub mod laws;
+mod parts;
+mod policy;
+mod range;
+mod range_map;
+mod routable;
+mod route;
+mod routing;
+mod slot;
+mod slot_map;
+mod slots_reply;
+mod strategy;
+mod table;
+
+pub use address::NodeAddress;
+pub use candidates::{AnyNodeCandidates, ReadCandidates, Replicas, ReplicasOnlyCandidates};
+pub use policy::{AggregateOp, LogicalAggregateOp, MultiSlotArgPattern, ResponsePolicy};
+pub use range::{SlotAddrs, SlotAddrsIter, SlotRange};
+pub use range_map::{SlotRangeMap, SlotRangeValues, SlotRanges};
+pub use routable::Routable;
+pub use route::{Route, SlotAddr};
+pub use routing::{MultipleNodeRoutingInfo, Redirect, RoutingInfo, SingleNodeRoutingInfo};
+pub use slot::Slot;
+pub use slot_map::SlotMap;
+pub use slots_reply::{parse_slots, slot_cmd};
+pub use strategy::ReadRoutingStrategy;
+
+#[cfg(test)]
+mod tests;

@@ -1,0 +1,240 @@
+//! The parts of a split command.
+
+ghost use Rattle.std.specs.Prelude.{◌≡◌, ◌<◌, ◌≤◌, ◌+◌, ◌*◌, ◌^◌, ◌++◌, drop, length, map, take, nat_eq, option_map, IfOk};
+ghost use Rattle.cluster_routing.specs.Info.{lent, shown_info, shown_part};
+ghost use Rattle.cluster_routing.specs.Lists.{among, firsts};
+ghost use Rattle.cluster_routing.specs.Parts.{argument_slots, group, groups, in_tuples, len_in_tuples, places_from, tuple_count, tuple_slot, tuples_from, tuples_of, width_of};
+ghost use Rattle.cluster_routing.specs.Routing.{part_to, to_some_parts, to_split, to_tuples};
+
+use crate::policy::{MultiSlotArgPattern, ResponsePolicy};
+use crate::route::{Route, SlotAddr};
+use crate::routing::{MultipleNodeRoutingInfo, RoutingInfo, SingleNodeRoutingInfo};
+use crate::slot::Slot;
+use std::alloc::{AllocError, Global};
+
+/// Where a split command goes whose arguments, with the word, are these bytes.
+pub(crate) fn split(
+    alloc: Global,
+    args: &[&[u8]],
+    role: SlotAddr,
+    pattern: MultiSlotArgPattern,
+    policy: ResponsePolicy,
+) -> Result<Option<RoutingInfo>, AllocError>
+    ensures { IfOk result (λ o. option_map shown_info o ≡ to_split role pattern policy (lent args.now)) }
+{
+    match args {
+        [_, behind @ ..] => info_behind(alloc, behind, role, pattern, policy),
+        [] => info_behind(alloc, args, role, pattern, policy),
+    }
+}
+
+/// Where a split command goes whose arguments behind the word are these.
+fn info_behind(
+    alloc: Global,
+    args: &[&[u8]],
+    role: SlotAddr,
+    pattern: MultiSlotArgPattern,
+    policy: ResponsePolicy,
+) -> Result<Option<RoutingInfo>, AllocError>
+    ensures { IfOk result (λ o. option_map shown_info o ≡ to_tuples role pattern policy (tuples_of (width_of pattern) (in_tuples pattern (lent args.now)))) }
+{
+    info_of_tuples(alloc, in_tuples(pattern, args), role, pattern, policy)
+}
+
+/// The arguments that stand in tuples.
+fn in_tuples<'a, 'b>(pattern: MultiSlotArgPattern, args: &'a [&'b [u8]]) -> &'a [&'b [u8]]
+    ensures { lent result.now ≡ in_tuples pattern (lent args.now) }
+{
+    &args[..len_in_tuples(pattern, args.len())]
+}
+
+fn len_in_tuples(pattern: MultiSlotArgPattern, len: usize) -> usize
+    ensures count { result ≡ len_in_tuples pattern len }
+    ensures fits { result ≤ len }
+{
+    match pattern {
+        MultiSlotArgPattern::KeysAndLastArg => len.saturating_sub(1),
+        _ => len,
+    }
+}
+
+/// Where a split command goes whose tuples are these arguments.
+fn info_of_tuples(
+    alloc: Global,
+    args: &[&[u8]],
+    role: SlotAddr,
+    pattern: MultiSlotArgPattern,
+    policy: ResponsePolicy,
+) -> Result<Option<RoutingInfo>, AllocError>
+    ensures { IfOk result (λ o. option_map shown_info o ≡ to_tuples role pattern policy (tuples_of (width_of pattern) (lent args.now))) }
+{
+    let width = width_of(pattern);
+    match tuple_count(width, args.len()) {
+        None => Ok(None),
+        Some(count) => {
+            let slots = slots_of(alloc, args, width, count)?;
+            info_of_slots(alloc, &slots, role, pattern, policy)
+        }
+    }
+}
+
+/// Where a split command goes whose arguments have these slots.
+fn info_of_slots(
+    alloc: Global,
+    slots: &[u16],
+    role: SlotAddr,
+    pattern: MultiSlotArgPattern,
+    policy: ResponsePolicy,
+) -> Result<Option<RoutingInfo>, AllocError>
+    ensures { IfOk result (λ o. option_map shown_info o ≡ to_some_parts pattern policy (map (part_to role) (groups slots.now))) }
+{
+    let parts = parts_of(alloc, slots, role)?;
+    Ok(info_of(parts, pattern, policy))
+}
+
+/// How many tuples so many arguments are; none where the last one is broken.
+fn tuple_count(width: usize, len: usize) -> Option<usize>
+    requires { 0 < width }
+    ensures { result ≡ tuple_count width len }
+{
+    if len % width == 0 {
+        Some(len / width)
+    } else {
+        None
+    }
+}
+
+/// How many arguments a tuple has.
+fn width_of(pattern: MultiSlotArgPattern) -> usize
+    ensures width { result ≡ width_of pattern }
+    ensures some { 0 < result }
+{
+    match pattern {
+        MultiSlotArgPattern::KeysOnly | MultiSlotArgPattern::KeysAndLastArg => 1,
+        MultiSlotArgPattern::KeyValuePairs => 2,
+        MultiSlotArgPattern::KeyWithTwoArgTriples => 3,
+    }
+}
+
+/// For each argument the slot of its tuple.
+fn slots_of(
+    alloc: Global,
+    args: &[&[u8]],
+    width: usize,
+    count: usize,
+) -> Result<Vec<u16>, AllocError>
+    requires { count * width ≤ length args.now }
+    ensures { IfOk result (λ v. v.items ≡ argument_slots (tuples_from count width (lent args.now))) }
+{
+    let mut slots = Vec::new(alloc);
+    let mut start = 0;
+    for passed in 0..count {
+        let tuple = tuple_at(args, start, width);
+        push_times(&mut slots, slot_of(tuple), tuple)?;
+        start += width;
+    }
+    Ok(slots)
+}
+
+fn tuple_at<'a, 'b>(args: &'a [&'b [u8]], start: usize, width: usize) -> &'a [&'b [u8]]
+    requires { start + width ≤ length args.now }
+    ensures tuple { lent result.now ≡ take width (drop start (lent args.now)) }
+    ensures fits { start + width < 2 ^ 64 }
+{
+    &args[start..start + width]
+}
+
+/// Adds a slot for each argument of its tuple.
+fn push_times(slots: &mut Vec<u16>, slot: u16, tuple: &[&[u8]]) -> Result<(), AllocError>
+    ensures { IfOk result (λ _. slots.new.items ≡ slots.old.items ++ map (λ _. slot) tuple.now) }
+{
+    for arg in tuple {
+        slots.push(slot)?;
+    }
+    Ok(())
+}
+
+fn slot_of(tuple: &[&[u8]]) -> u16
+    ensures { result ≡ tuple_slot (lent tuple.now) }
+{
+    match tuple {
+        [key, ..] => Slot::for_key(key).number,
+        [] => Slot::for_key(b"").number,
+    }
+}
+
+/// The parts of a command whose arguments have these slots.
+fn parts_of(
+    alloc: Global,
+    slots: &[u16],
+    role: SlotAddr,
+) -> Result<Vec<(Route, Vec<usize>)>, AllocError>
+    ensures { IfOk result (λ v. map shown_part v.items ≡ map (part_to role) (groups slots.now)) }
+{
+    let first_slots = distinct(alloc, slots)?;
+    let mut parts = Vec::new(alloc);
+    for slot in &first_slots {
+        parts.push(part_of(alloc, slots, *slot, role)?)?;
+    }
+    Ok(parts)
+}
+
+fn part_of(
+    alloc: Global,
+    slots: &[u16],
+    slot: u16,
+    role: SlotAddr,
+) -> Result<(Route, Vec<usize>), AllocError>
+    ensures { IfOk result (λ p. shown_part p ≡ part_to role (group slots.now slot)) }
+{
+    let places = places_of(alloc, slots, slot)?;
+    Ok((Route::new(slot, role), places))
+}
+
+fn places_of(alloc: Global, slots: &[u16], slot: u16) -> Result<Vec<usize>, AllocError>
+    ensures { IfOk result (λ v. v.items ≡ places_from slot 0 slots.now) }
+{
+    let mut places = Vec::new(alloc);
+    for (place, other) in slots.iter().enumerate() {
+        if *other == slot {
+            places.push(place)?;
+        }
+    }
+    Ok(places)
+}
+
+fn distinct(alloc: Global, slots: &[u16]) -> Result<Vec<u16>, AllocError>
+    ensures { IfOk result (λ v. v.items ≡ firsts nat_eq slots.now) }
+{
+    let mut seen = Vec::new(alloc);
+    for slot in slots {
+        if !has(&seen, *slot) {
+            seen.push(*slot)?;
+        }
+    }
+    Ok(seen)
+}
+
+fn has(slots: &[u16], slot: u16) -> bool
+    ensures { result ≡ among nat_eq slot slots.now }
+{
+    slots.iter().any(|other| slot == *other)
+}
+
+/// One part is a single node, and no part is none.
+fn info_of(
+    parts: Vec<(Route, Vec<usize>)>,
+    pattern: MultiSlotArgPattern,
+    policy: ResponsePolicy,
+) -> Option<RoutingInfo>
+    ensures { option_map shown_info result ≡ to_some_parts pattern policy (map shown_part parts.items) }
+{
+    match parts.as_slice() {
+        [] => None,
+        [(route, _)] => Some(RoutingInfo::SingleNode(SingleNodeRoutingInfo::SpecificNode(*route))),
+        _ => Some(RoutingInfo::MultiNode((
+            MultipleNodeRoutingInfo::MultiSlot((parts, pattern)),
+            Some(policy),
+        ))),
+    }
+}

@@ -1,0 +1,112 @@
+//! The map of slots to nodes.
+
+ghost use Rattle.std.specs.Prelude.{◌≡◌, [], map, IfOk, MatchResult, option_map};
+ghost use Rattle.cluster_routing.specs.Choice.{LeadsTo};
+ghost use Rattle.cluster_routing.specs.Seen.{address};
+ghost use Rattle.cluster_routing.specs.Ranges.{put};
+ghost use Rattle.cluster_routing.specs.SlotMap.{entry_of, put_all, PutsSome};
+
+use crate::address::NodeAddress;
+use crate::range::{SlotAddrs, SlotRange};
+use crate::range_map::{SlotRangeMap, SlotRangeValues};
+use crate::route::Route;
+use crate::strategy::ReadRoutingStrategy;
+use std::alloc::{AllocError, Global};
+use std::marker::Model;
+
+/// Which nodes serve which slots.
+///
+/// A contract sees it as its entries `(end, (start, nodes))` by ascending distinct ends.
+#[derive(Drop)]
+pub struct SlotMap {
+    slots: SlotRangeMap<SlotAddrs>,
+}
+
+impl Model for SlotMap {
+    ghost use Rattle.cluster_routing.specs.SlotMap.{SlotEntries};
+
+    ghost Value = { SlotEntries };
+
+    ghost view = { λ m. m.slots };
+}
+
+impl SlotMap {
+    /// A map without ranges. It takes no memory.
+    pub fn new(alloc: Global) -> SlotMap
+        ensures { result ≡ [] }
+    {
+        SlotMap {
+            slots: SlotRangeMap::new(alloc),
+        }
+    }
+
+    /// The map of these ranges. A later range takes the place of an earlier one with an equal
+    /// end.
+    ///
+    /// # Errors
+    /// `AllocError` where memory is refused.
+    pub fn from_slots(alloc: Global, slots: Vec<SlotRange>) -> Result<SlotMap, AllocError>
+        ensures { IfOk result (λ m. m ≡ put_all [] slots.items) }
+    {
+        let mut map = SlotMap::new(alloc);
+        map.fill_slots(slots)?;
+        Ok(map)
+    }
+
+    /// Puts in these ranges, one after another; each takes the place of the one with an equal
+    /// end.
+    ///
+    /// # Errors
+    /// `AllocError` where memory is refused; then some first of the ranges are put in.
+    pub fn fill_slots(&mut self, slots: Vec<SlotRange>) -> Result<(), AllocError>
+        ensures { MatchResult result (λ _. self.new ≡ put_all self.old slots.items) (λ _. PutsSome self.old slots.items self.new) }
+    {
+        put_each(&mut self.slots, slots)
+    }
+
+    /// The node that a route leads to, of the nodes that serve its slot, chosen as
+    /// `SlotAddrs::slot_addr` does; `None` where no range serves the slot.
+    pub fn slot_addr_for_route(
+        &self,
+        route: Route,
+        pick: u64,
+        strategy: Option<&dyn ReadRoutingStrategy>,
+    ) -> Option<&NodeAddress>
+        ensures { LeadsTo (option_map (λ s. admits s.now) strategy.entry) pick self.now route (option_map (λ a. address a.now) result) }
+    {
+        match self.slots.get(route.slot()) {
+            None => None,
+            Some(nodes) => Some(nodes.slot_addr(route, pick, strategy)),
+        }
+    }
+
+    /// Forgets all ranges.
+    pub fn clear(&mut self)
+        ensures { self.new ≡ [] }
+    {
+        self.slots.clear();
+    }
+
+    /// The nodes of the ranges, by ascending ends of the ranges.
+    pub fn values(&self) -> SlotRangeValues<'_, SlotAddrs>
+        ensures { result ≡ map (λ e. e.1.1) self.now }
+    {
+        self.slots.values()
+    }
+}
+
+fn put_each(map: &mut SlotRangeMap<SlotAddrs>, slots: Vec<SlotRange>) -> Result<(), AllocError>
+    ensures { MatchResult result (λ _. map.new ≡ put_all map.old slots.items) (λ _. PutsSome map.old slots.items map.new) }
+{
+    'ranges: for range in slots {
+        put_one(map, range)?;
+    }
+    Ok(())
+}
+
+fn put_one(map: &mut SlotRangeMap<SlotAddrs>, range: SlotRange) -> Result<(), AllocError>
+    ensures { MatchResult result (λ _. map.new ≡ put map.old (entry_of range)) (λ _. map.new ≡ map.old) }
+{
+    let SlotRange { start, end, nodes } = range;
+    map.insert(start, end, nodes)
+}

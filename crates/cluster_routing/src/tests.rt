@@ -1,0 +1,6 @@
+//! What the crate answers at known values.
+
+mod maps;
+mod names;
+mod nodes;
+mod routes;

@@ -1,0 +1,4 @@
+pub mod Fault
+pub mod KindNames
+pub mod Output
+pub mod Printed

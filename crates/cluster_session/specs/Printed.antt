@@ -1,0 +1,91 @@
+-- What a session prints for an answer and for a refusal: the form's name, then its parts, all separated by one space.
+-- Sources: the session language is this repository's own (docs/SESSIONS.md); the forms are those of the RESP3 specification, the names of kinds those of the crate `redis`, the first words of pushes those of the Redis documentation, "Pub/Sub" and "Client side caching".
+use Rattle.std.specs.Prelude.{ℕ, suc, Bool, true, false, List, [], ◌∷◌, ◌++◌, codes, Result, Ok, Err}
+use Rattle.std.specs.Fmt.{decimal, signed_decimal}
+use Rattle.resp_core.specs.Errors.{Refusal, kind_of}
+use Rattle.resp_core.specs.View.{view}
+use Rattle.resp_core.specs.declared.value.Value.{Value}
+use Rattle.cluster_session.specs.KindNames.{kind_name}
+use Rattle.hex.specs.Hex.{encode_lower}
+use Rattle.resp_core.specs.Trees.{Format, unknown, markdown, text, Kind, disconnection, other, invalidate, message, pmessage, smessage, unsubscribe, punsubscribe, sunsubscribe, subscribe, psubscribe, ssubscribe, Tree, nil, int, bulk, array, simple, okay, set, attribute, double, boolean, verbatim, big_number, push, server_error, Trees, no_trees, tree, Pairs, no_pairs, pair}
+use Rattle.resp_core.specs.Trees as forms
+
+-- bytes in lower case hexadecimal, a dash for none
+abbrev pub hex_word : List ℕ → List ℕ
+hex_word [] = codes "-"
+hex_word (byte ∷ bytes) = encode_lower (byte ∷ bytes)
+
+-- how a verbatim text is marked up
+abbrev pub format_text : Format → List ℕ
+format_text (unknown name) = name
+format_text markdown = codes "mkd"
+format_text text = codes "txt"
+
+-- the text that a push begins with
+unfoldable pub kind_text : Kind → List ℕ
+kind_text disconnection = codes "disconnection"
+kind_text (other name) = name
+kind_text invalidate = codes "invalidate"
+kind_text message = codes "message"
+kind_text pmessage = codes "pmessage"
+kind_text smessage = codes "smessage"
+kind_text unsubscribe = codes "unsubscribe"
+kind_text punsubscribe = codes "punsubscribe"
+kind_text sunsubscribe = codes "sunsubscribe"
+kind_text subscribe = codes "subscribe"
+kind_text psubscribe = codes "psubscribe"
+kind_text ssubscribe = codes "ssubscribe"
+
+abbrev pub truth_word : Bool → List ℕ
+truth_word true = codes "true"
+truth_word false = codes "false"
+
+abbrev pub tree_count : Trees → ℕ
+tree_count no_trees = 0
+tree_count (tree t ts) = suc (tree_count ts)
+
+abbrev pub pair_count : Pairs → ℕ
+pair_count no_pairs = 0
+pair_count (pair key value ps) = suc (pair_count ps)
+
+abbrev mutual
+  -- the words of an answer
+  pub answer_words : Tree → List ℕ
+  answer_words nil = codes "nil"
+  answer_words (int n) = codes "int " ++ signed_decimal n
+  answer_words (bulk bytes) = codes "bulk " ++ hex_word bytes
+  answer_words (array items) = codes "array " ++ (decimal (tree_count items) ++ each_words items)
+  answer_words (simple bytes) = codes "simple " ++ hex_word bytes
+  answer_words okay = codes "okay"
+  answer_words (forms.map pairs) = codes "map " ++ (decimal (pair_count pairs) ++ pair_words pairs)
+  answer_words (attribute inner pairs) = codes "attribute " ++ ((decimal (pair_count pairs) ++ pair_words pairs) ++ (codes " " ++ answer_words inner))
+  answer_words (set items) = codes "set " ++ (decimal (tree_count items) ++ each_words items)
+  answer_words (double bytes) = codes "double " ++ hex_word bytes
+  answer_words (boolean truth) = codes "bool " ++ truth_word truth
+  answer_words (verbatim format bytes) = codes "verbatim " ++ (hex_word (format_text format) ++ (codes " " ++ hex_word bytes))
+  answer_words (big_number digits) = codes "big " ++ hex_word digits
+  answer_words (push kind items) = codes "push " ++ (hex_word (kind_text kind) ++ (codes " " ++ (decimal (tree_count items) ++ each_words items)))
+  answer_words (server_error error) = codes "error " ++ hex_word error.code
+
+  -- the words of each tree, a space before each
+  pub each_words : Trees → List ℕ
+  each_words no_trees = []
+  each_words (tree t ts) = codes " " ++ (answer_words t ++ each_words ts)
+
+  -- the words of each key and value, a space before each
+  pub pair_words : Pairs → List ℕ
+  pair_words no_pairs = []
+  pair_words (pair key value ps) = codes " " ++ (answer_words key ++ (codes " " ++ (answer_words value ++ pair_words ps)))
+
+-- the line of a refused call
+abbrev pub refused_line : Refusal → List ℕ
+refused_line refusal = codes "err " ++ (kind_name (kind_of refusal) ++ codes "\n")
+
+-- the line of a refresh, and that of a query
+abbrev pub refresh_line : {A : Type 0} → Result A Refusal → List ℕ
+refresh_line (Ok done) = codes "ok\n"
+refresh_line (Err refusal) = refused_line refusal
+
+abbrev pub query_line : Result Value Refusal → List ℕ
+query_line (Ok value) = codes "ok " ++ (answer_words (view value) ++ codes "\n")
+query_line (Err refusal) = refused_line refusal

@@ -1,0 +1,44 @@
+//! A session: a text that sets up nodes and calls, read whole, checked whole, then played.
+ghost use Rattle.std.specs.Prelude.{◌≡◌, ◌⊎◌, IfOk, OnOk};
+ghost use Rattle.std.specs.Io.KnownBytes.{IsAtEnd};
+ghost use Rattle.cluster_session.specs.Output.{Prints};
+
+mod calls;
+mod lines;
+mod play;
+mod print;
+mod script;
+mod streams;
+#[cfg(test)]
+mod tests;
+
+use resp_core::RedisError;
+use std::alloc::Global;
+use std::io::{Read, Write};
+
+// How many reads a session's text may take.
+const READS: u64 = 4_294_967_296;
+
+/// Reads a session to the end of `reader`, plays it, and writes what it prints to `writer`.
+///
+/// Answers 0, or 2 where the text is no session; then `fault line N` alone was written, where N
+/// is the number from 1 of the first bad line, and nothing was called. Every refusal of a call is
+/// part of what is printed. docs/SESSIONS.md has the language.
+///
+/// # Errors
+/// `Io` where a stream fails or the text takes more than 2^32 reads, and `Memory` where memory is
+/// refused outside a call.
+pub fn run_session<R: Read, W: Write>(
+    alloc: Global,
+    reader: &mut R,
+    writer: &mut W,
+) -> Result<u8, RedisError>
+    ensures status { IfOk result (λ status. (status ≡ 0) ⊎ (status ≡ 2)) }
+    ensures reads_all { OnOk result (IsAtEnd (R.remaining reader.new)) }
+    ensures writes { IfOk result (λ status. Prints status (W.contents writer.old) (W.contents writer.new)) }
+{
+    let text = streams::read_text(alloc, reader, READS)?;
+    let played = play::play(alloc, text.as_slice())?;
+    streams::write_text(writer, played.output.as_str())?;
+    Ok(played.status)
+}

@@ -1,0 +1,113 @@
+//! A line of a session: its words and what they say.
+use crate::session::calls;
+use crate::session::script::{Call, Line, Node};
+use hex::FromHexError;
+use std::alloc::{AllocError, AllocFailed, Global};
+
+// The most bytes that a line may let one read give.
+const LARGEST_PIECE: u64 = 4_294_967_295;
+
+/// Why a line is not taken.
+#[derive(Clone, Copy, Debug, PartialEq, Eq)]
+pub(super) enum LineError {
+    /// It is no line of the language, or not at this place.
+    Bad,
+    /// Memory was refused.
+    Memory,
+}
+
+impl From<AllocError> for LineError {
+    ghost use Rattle.std.specs.Prelude.{◌≡◌};
+    ghost use Rattle.cluster_session.specs.declared.session.lines.LineError.TheVariants.{Memory};
+
+    ghost from_gives = { λ _ e. e ≡ Memory };
+
+    fn from(_e: AllocError) -> LineError {
+        LineError::Memory
+    }
+}
+
+impl<T: Drop> From<AllocFailed<T>> for LineError {
+    ghost use Rattle.std.specs.Prelude.{◌≡◌};
+    ghost use Rattle.cluster_session.specs.declared.session.lines.LineError.TheVariants.{Memory};
+
+    ghost from_gives = { λ _ e. e ≡ Memory };
+
+    fn from(_e: AllocFailed<T>) -> LineError {
+        LineError::Memory
+    }
+}
+
+/// What a line says; `None` for an empty line and for a comment.
+pub(super) fn read_line(alloc: Global, line: &[u8]) -> Result<Option<Line>, LineError> {
+    if is_skipped(line) {
+        return Ok(None);
+    }
+    match str::from_utf8(line) {
+        Ok(text) => Ok(Some(read_words(alloc, text)?)),
+        Err(_) => Err(LineError::Bad),
+    }
+}
+
+/// Whether the line says nothing: it is empty, or a comment.
+fn is_skipped(line: &[u8]) -> bool {
+    matches!(line, [] | [b'#', ..])
+}
+
+fn read_words(alloc: Global, text: &str) -> Result<Line, LineError> {
+    let words: Vec<&str> = text.split(' ').collect(alloc)?;
+    match words.as_slice() {
+        ["node", address, piece, incoming] => Ok(Line::Node(Node {
+            address: calls::address(alloc, address)?,
+            piece: piece_of(piece)?,
+            incoming: bytes_of(alloc, incoming)?,
+        })),
+        ["budget", budget] => Ok(Line::Budget(budget_of(budget)?)),
+        ["refresh", address] => Ok(Line::Call(Call::Refresh(calls::address(alloc, address)?))),
+        ["query", picks, first, others @ ..] => Ok(Line::Call(Call::Query {
+            picks: number_of(picks)?,
+            args: arguments_of(alloc, first, others)?,
+        })),
+        _ => Err(LineError::Bad),
+    }
+}
+
+fn number_of(word: &str) -> Result<u64, LineError> {
+    word.parse::<u64>().map_err(|_| LineError::Bad)
+}
+
+fn piece_of(word: &str) -> Result<usize, LineError> {
+    match number_of(word)? {
+        piece @ 1..=LARGEST_PIECE => Ok(piece as usize),
+        _ => Err(LineError::Bad),
+    }
+}
+
+fn budget_of(word: &str) -> Result<u16, LineError> {
+    u16::try_from(number_of(word)?).map_err(|_| LineError::Bad)
+}
+
+/// The bytes of a word: pairs of hexadecimal digits in any case, or `-` for no bytes.
+fn bytes_of(alloc: Global, word: &str) -> Result<Vec<u8>, LineError> {
+    match word {
+        "" => Err(LineError::Bad),
+        "-" => Ok(Vec::new(alloc)),
+        _ => hex::decode(alloc, word).map_err(hex_error),
+    }
+}
+
+fn hex_error(error: FromHexError) -> LineError {
+    match error {
+        FromHexError::OutOfMemory => LineError::Memory,
+        _ => LineError::Bad,
+    }
+}
+
+fn arguments_of(alloc: Global, first: &str, others: &[&str]) -> Result<Vec<Vec<u8>>, LineError> {
+    let mut arguments = Vec::new(alloc);
+    arguments.push(bytes_of(alloc, first)?)?;
+    for word in others {
+        arguments.push(bytes_of(alloc, word)?)?;
+    }
+    Ok(arguments)
+}

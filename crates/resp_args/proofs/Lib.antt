@@ -1,0 +1,11 @@
+pub mod Tables
+pub mod Writings
+pub mod Packings
+pub mod Trees
+pub mod Answering
+pub mod Texts
+pub mod Fields
+pub mod Pairings
+pub mod Numerals
+pub mod ReadBack
+pub mod PackedOnce

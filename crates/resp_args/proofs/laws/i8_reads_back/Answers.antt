@@ -1,0 +1,6 @@
+use Rattle.std.proofs.Common.{arith, refl, w8}
+use Rattle.resp_args.proofs.ReadBack.{signed-reads_back}
+use Rattle.resp_args.proofs.laws.i8_reads_back.Goals as goal
+
+pub returns : goal.returns
+returns c = signed-reads_back w8 8 c.args.value refl c.ranges.value (omega (arith, c.ranges.value.sfits))

@@ -1,0 +1,11 @@
+use Rattle.std.proofs.Common.{rules}
+use Rattle.resp_args.proofs.Writings.{Writing-next, Writing-refused}
+use Rattle.resp_args.proofs.to_args.maps.IndexMapToRedisArgs.write_redis_args.Goals as goal
+
+pub loop-key-preserved : goal.loop-key-preserved
+loop-key-preserved g c = Writing-next (c.in-Some.key.now, c.in-Some.value.now) c.next.new.self c.loop-key.invariant c.in-Some.ensures.steps c.in_ok-write_two.ensures
+
+pub returns-in_err-write_two : goal.returns-in_err-write_two
+returns-in_err-write_two g c =
+    let part = Writing-refused (c.in-Some.key.now, c.in-Some.value.now) c.next.new.self c.loop-key.invariant c.in-Some.ensures.steps c.in_err-write_two.ensures in
+    search rules

@@ -1,0 +1,10 @@
+pub mod Packed
+pub mod Table
+pub mod Writing
+pub mod Command
+pub mod Left
+pub mod Numbers
+pub mod Convert
+pub mod Laws
+pub mod Names
+pub mod Examples

@@ -1,0 +1,30 @@
+//! Replies without the attributes round them.
+ghost use Rattle.std.specs.Prelude.{◌≡◌};
+ghost use Rattle.resp_core.specs.View.{view};
+ghost use Rattle.resp_args.specs.Convert.{plain};
+
+use resp_core::Value;
+
+pub(crate) fn into_plain(value: Value) -> Value
+    ensures { view result ≡ plain (view value) }
+{
+    match value {
+        Value::Attribute {
+            inner,
+            attributes: _,
+        } => into_plain(Box::into_inner(inner)),
+        value => value,
+    }
+}
+
+pub(crate) fn plain(value: &Value) -> &Value
+    ensures { view result.now ≡ plain (view value.now) }
+{
+    match value {
+        Value::Attribute {
+            inner,
+            attributes: _,
+        } => plain(inner),
+        value => value,
+    }
+}

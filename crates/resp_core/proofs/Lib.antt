@@ -1,0 +1,16 @@
+pub mod Views
+pub mod Lines
+pub mod Complete
+pub mod Sound
+pub mod LawProofs
+pub mod Numbers
+pub mod LineReads
+pub mod Groups
+pub mod Fronts
+pub mod ReadingEnds
+pub mod Pairs
+pub mod KindNames
+pub mod FirstErrors
+pub mod Computing
+pub mod ExampleReads
+pub mod ErrorTexts

@@ -1,0 +1,129 @@
+//! Values that are read from a device.
+use super::{Condition, Parser};
+use crate::device::LinkRead;
+use crate::errors::{Cause, RedisError};
+use crate::value::Value;
+
+// The room for one read, in bytes.
+const ROOM: usize = 4096;
+
+// How many reads one value may take.
+const READS: u64 = 1 << 32;
+
+impl Parser {
+    ghost use Rattle.std.specs.Prelude.{◌≡◌, ◌+◌, ◌^◌, true, false, List, ℕ, [], ◌∷◌, ◌⊎◌, ◌↔◌, IfOk, IfErr, OnOk, OnErr, IsErrOf, ◌++◌};
+    ghost use Rattle.resp_core.specs.View.{view};
+    ghost use Rattle.resp_core.specs.Errors.{by_cause};
+    ghost use Rattle.resp_core.specs.Standing.{Stands, has_fault, is_starved, waiting, BeginsUnfinished};
+    ghost use Rattle.resp_core.specs.Incoming.{reading, Reads, Stops, Meets};
+    ghost use Rattle.resp_core.specs.declared.errors.redis_error.Cause.TheVariants.{Io, Parse, Memory};
+
+    /// Takes the next value, reading from `reader` while none is whole.
+    ///
+    /// It refuses by `Cause::Io` where the bytes end early, a read is refused, or 2^32 reads gave
+    /// no whole value, and keeps the bytes that it read; by `Cause::Parse` where the bytes begin
+    /// with a fault; by `Cause::Memory` where memory was refused. After either of the last two it
+    /// refuses so for good.
+    pub fn parse_value<R: LinkRead>(&mut self, reader: &mut R) -> Result<Value, RedisError>
+        ensures value { IfOk result (λ v. (held : List ℕ) → Stands self.old held → (allowed : ℕ)
+            × Reads (reading R.left R.counts reader.old held (2 ^ 32)) (reading R.left R.counts reader.new (waiting self.new) allowed) (view v ∷ [])
+            × Stands self.new (waiting self.new)) }
+        ensures stops { IsErrOf result (by_cause Io) → (held : List ℕ) → Stands self.old held → (allowed : ℕ) × (rest : List ℕ)
+            × Stops (reading R.left R.counts reader.old held (2 ^ 32)) (reading R.left R.counts reader.new rest allowed) []
+            × Stands self.new rest }
+        ensures meets { IsErrOf result (by_cause Parse) → (held : List ℕ) → Stands self.old held → (allowed : ℕ) × (rest : List ℕ)
+            × Meets (reading R.left R.counts reader.old held (2 ^ 32)) (reading R.left R.counts reader.new rest allowed) []
+            × Stands self.new rest }
+        ensures causes { IfErr result (λ e. (e ≡ by_cause Io) ⊎ (e ≡ by_cause Parse) ⊎ (e ≡ by_cause Memory)) }
+        // A fault and a want of memory are told for good.
+        ensures has_fault { IsErrOf result (by_cause Parse) ↔ (has_fault self.new ≡ true) }
+        ensures is_starved { IsErrOf result (by_cause Memory) ↔ (is_starved self.new ≡ true) }
+        ensures fault_stays { has_fault self.old ≡ true → IsErrOf result (by_cause Parse) }
+        ensures starved_stays { is_starved self.old ≡ true → has_fault self.old ≡ false → IsErrOf result (by_cause Memory) }
+    {
+        let mut allowed = READS;
+        self.parse_within(reader, &mut allowed)
+    }
+
+    /// Takes the next value, as `parse_value` does, by `allowed` reads at most.
+    ///
+    /// It counts `allowed` down by the reads that it made.
+    pub fn parse_within<R: LinkRead>(
+        &mut self,
+        reader: &mut R,
+        allowed: &mut u64,
+    ) -> Result<Value, RedisError>
+        ensures value { IfOk result (λ v. (held : List ℕ) → Stands self.old held
+            → Reads (reading R.left R.counts reader.old held allowed.old) (reading R.left R.counts reader.new (waiting self.new) allowed.new) (view v ∷ [])
+            × Stands self.new (waiting self.new)) }
+        ensures stops { IsErrOf result (by_cause Io) → (held : List ℕ) → Stands self.old held → (rest : List ℕ)
+            × Stops (reading R.left R.counts reader.old held allowed.old) (reading R.left R.counts reader.new rest allowed.new) []
+            × Stands self.new rest }
+        ensures meets { IsErrOf result (by_cause Parse) → (held : List ℕ) → Stands self.old held → (rest : List ℕ)
+            × Meets (reading R.left R.counts reader.old held allowed.old) (reading R.left R.counts reader.new rest allowed.new) []
+            × Stands self.new rest }
+        ensures causes { IfErr result (λ e. (e ≡ by_cause Io) ⊎ (e ≡ by_cause Parse) ⊎ (e ≡ by_cause Memory)) }
+        // A fault and a want of memory are told for good.
+        ensures has_fault { IsErrOf result (by_cause Parse) ↔ (has_fault self.new ≡ true) }
+        ensures is_starved { IsErrOf result (by_cause Memory) ↔ (is_starved self.new ≡ true) }
+        ensures fault_stays { has_fault self.old ≡ true → IsErrOf result (by_cause Parse) }
+        ensures starved_stays { is_starved self.old ≡ true → has_fault self.old ≡ false → IsErrOf result (by_cause Memory) }
+    {
+        loop {
+            if let Some(value) = self.take_value()? {
+                return Ok(value);
+            }
+            self.read_more(reader, allowed)?;
+        }
+    }
+
+    // One read, behind what is held.
+    fn read_more<R: LinkRead>(
+        &mut self,
+        reader: &mut R,
+        allowed: &mut u64,
+    ) -> Result<(), RedisError>
+        requires whole { has_fault self.old ≡ false }
+        requires fed { is_starved self.old ≡ false }
+        ensures more { OnOk result ((held : List ℕ) → Stands self.old held → (rest : List ℕ)
+            × Reads (reading R.left R.counts reader.old held allowed.old) (reading R.left R.counts reader.new rest allowed.new) []
+            × Stands self.new rest) }
+        ensures stops { IsErrOf result (by_cause Io) → (held : List ℕ) → BeginsUnfinished 100 held → Stands self.old held
+            → Stops (reading R.left R.counts reader.old held allowed.old) (reading R.left R.counts reader.new held allowed.new) []
+            × Stands self.new held }
+        ensures fewer { OnOk result (allowed.new + 1 ≡ allowed.old) }
+        ensures causes { IfErr result (λ e. (e ≡ by_cause Io) ⊎ (e ≡ by_cause Memory)) }
+        ensures has_fault { has_fault self.new ≡ false }
+        ensures is_starved { IsErrOf result (by_cause Memory) ↔ (is_starved self.new ≡ true) }
+    {
+        if *allowed == 0 {
+            return Err(RedisError::from(Cause::Io));
+        }
+        *allowed -= 1;
+        let mut buffer = [0u8; ROOM];
+        match reader.read_some(&mut buffer) {
+            Ok(0) => Err(RedisError::from(Cause::Io)),
+            Ok(n) => self.feed_or_starve(&buffer[..n]),
+            Err(_) => Err(RedisError::from(Cause::Io)),
+        }
+    }
+
+    // Adds bytes. Where memory is refused, it refuses so from then on.
+    fn feed_or_starve(&mut self, piece: &[u8]) -> Result<(), RedisError>
+        requires whole { has_fault self.old ≡ false }
+        requires fed { is_starved self.old ≡ false }
+        ensures ok { OnOk result ((bytes : List ℕ) → Stands self.old bytes → Stands self.new (bytes ++ piece.now)) }
+        ensures causes { IfErr result (λ e. e ≡ by_cause Memory) }
+        ensures has_fault { has_fault self.new ≡ false }
+        ensures is_starved { OnErr result (is_starved self.new ≡ true) }
+        ensures is_fed { OnOk result (is_starved self.new ≡ false) }
+    {
+        match self.feed(piece) {
+            Ok(()) => Ok(()),
+            Err(_) => {
+                self.condition = Condition::Starved;
+                Err(RedisError::from(Cause::Memory))
+            }
+        }
+    }
+}

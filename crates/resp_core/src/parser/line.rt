@@ -1,0 +1,25 @@
+//! Lines, and what is read in them.
+ghost use Rattle.std.specs.Prelude.{◌≡◌, length, Ok, Err, Some, None};
+ghost use Rattle.resp_core.specs.Reading.{Gives, Makes, line_at};
+ghost use Rattle.resp_core.specs.Table.{number};
+
+use crate::parser::stop::Stop;
+
+/// The bytes up to the first CR LF, and those behind it.
+pub(crate) fn line_of(bytes: &[u8]) -> Result<(&[u8], &[u8]), Stop>
+    ensures { Gives (λ x. (x.0.now, x.1.now)) result (line_at bytes.now) }
+{
+    for i in 0..bytes.len() {
+        if bytes[i] == b'\r' && i + 1 < bytes.len() && bytes[i + 1] == b'\n' {
+            return Ok((&bytes[..i], &bytes[i + 2..]));
+        }
+    }
+    Err(Stop::Short)
+}
+
+/// The number that the line holds.
+pub(crate) fn number_of(line: &str) -> Option<i64>
+    ensures { result ≡ number line.now }
+{
+    line.trim().parse::<i64>().ok()
+}

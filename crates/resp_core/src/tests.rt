@@ -1,0 +1,6 @@
+//! Known replies, and what no clause says: printed texts and refused memory.
+mod errors;
+mod grammar;
+mod known;
+mod memory;
+mod values;

@@ -1,0 +1,4 @@
+pub mod Counts
+pub mod Sending
+pub mod Replies
+pub mod Call
