@@ -1,3 +1,4 @@
+//! Links over bytes in memory.
 use crate::replies::read_replies;
 use crate::*;
 use resp_core::{ErrorKind, Parser, PushKind, RedisError, Value};
@@ -216,5 +217,23 @@ fn writing_refused_at_each_place(rt: HostRuntime) -> Result<(), Fail> {
             }
         }
     }
+    Ok(())
+}
+
+#[test]
+fn a_command_is_sent_and_answered(rt: HostRuntime) -> Result<(), Fail> {
+    let alloc = rt.alloc();
+    let mut link = link_over(alloc, b":7\r\n:8\r\n", 4096)?;
+    let empty = resp_args::Cmd::new(alloc);
+    let refused = link.req_command(alloc, &empty);
+    assert!(rt; matches!(refused, Err(e) if matches!(e.kind(), ErrorKind::Client)));
+    let mut get = resp_args::command::cmd(alloc, "GET")?;
+    get.arg("a")?;
+    assert!(rt; matches!(link.req_command(alloc, &get)?, Value::Int(7)));
+    get.set_no_response(true);
+    assert!(rt; matches!(link.req_command(alloc, &get)?, Value::Nil));
+    assert!(rt; matches!(one(alloc, &mut link, b"x")?, Value::Int(8)));
+    let sent = b"*2\r\n$3\r\nGET\r\n$1\r\na\r\n*2\r\n$3\r\nGET\r\n$1\r\na\r\nx";
+    assert_eq!(rt; link.writer().written(), sent.as_slice());
     Ok(())
 }
