@@ -12,3 +12,4 @@ pub mod Played
 pub mod Converted
 pub mod Hops
 pub mod Whole
+pub mod Examples

@@ -18,3 +18,4 @@ pub mod Parts
 pub mod Routing
 pub mod Info
 pub mod Laws
+pub mod Examples
