@@ -8,4 +8,10 @@ pub mod Distinct
 pub mod Tuples
 pub mod Tables
 pub mod Replies
+pub mod Choices
+pub mod AllNodes
+pub mod OnceAscending
+pub mod PlacedShards
+pub mod DistinctNodes
+pub mod ServingShards
 pub mod LawProofs

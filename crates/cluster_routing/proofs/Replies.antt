@@ -26,7 +26,7 @@ view-BulkString v = search (rules, the_lemmas)
 pub items-Array : (v : Vec Value Global) → array_items (view (Array v)) ≡ Some (map view v.items)
 items-Array v = ap array_items (view-Array v) ∙ ap (λ us. Some us) (items-trees_of (map view v.items))
 
-got : {X : Type 0} (xs : List X) (i : ℕ) (r : Option (Bor X)) → IsItemAt xs i r → option_copied r ≡ slice_get xs i
+pub got : {X : Type 0} (xs : List X) (i : ℕ) (r : Option (Bor X)) → IsItemAt xs i r → option_copied r ≡ slice_get xs i
 got xs i None h = sym (slice_get_past xs i h.3)
 got xs i (Some x) h = sym (slice_get_read xs (length xs) i x.now refl h.3.0 h.1)
 

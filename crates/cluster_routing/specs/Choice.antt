@@ -1,5 +1,5 @@
 -- Which of a slot's nodes a request goes to (documentation of the crate `redis`).
-use Rattle.std.specs.Prelude.{◌≡◌, ℕ, ◌%◌, Bool, true, List, [], ◌∷◌, length, slice_get, Contains, Option, Some, None, IsSomeAnd}
+use Rattle.std.specs.Prelude.{◌≡◌, ℕ, ◌%◌, Bool, true, List, [], ◌∷◌, length, slice_get, Contains, Option, Some, None, IsSomeAnd, ⊤}
 use Rattle.cluster_routing.specs.Address.{Address}
 use Rattle.cluster_routing.specs.SlotMap.{Nodes, SlotEntries, nodes_at}
 use Rattle.cluster_routing.specs.Candidates.{Candidates, any_node, replicas_only, candidate_nodes}
@@ -40,3 +40,9 @@ IsChosen strategy slot role pick nodes address = IsChosenAmong strategy slot rol
 abbrev pub LeadsTo : Option Strategy → ℕ → SlotEntries → Route → Option Address → Type 0
 LeadsTo strategy pick entries route None = nodes_at route.slot entries ≡ None
 LeadsTo strategy pick entries route (Some address) = IsSomeAnd (nodes_at route.slot entries) (λ nodes. IsChosen strategy route.slot route.slot_addr pick nodes address)
+
+-- what each of the routes may lead to, in their order
+abbrev pub EachLeadsTo : Option Strategy → ℕ → SlotEntries → List Route → List (Option Address) → Type 0
+EachLeadsTo strategy pick entries [] [] = ⊤
+EachLeadsTo strategy pick entries (route ∷ routes) (address ∷ addresses) = LeadsTo strategy pick entries route address × EachLeadsTo strategy pick entries routes addresses
+EachLeadsTo strategy pick entries _ _ = ⊥

@@ -1,12 +1,16 @@
 -- Laws of addresses, slots, range maps and routes, over the definitions alone.
-use Rattle.std.specs.Prelude.{◌≡◌, ℕ, ◌<◌, ◌≤◌, ◌^◌, Bool, true, false, ◌&&◌, List, [], ◌∷◌, Option, Some, None, slice_get, ◌↔◌, ⊤}
+use Rattle.std.specs.Prelude.{◌≡◌, ℕ, ◌<◌, ◌≤◌, ◌^◌, Bool, true, false, ◌&&◌, List, [], ◌∷◌, Option, Some, None, option_map, slice_get, ◌↔◌, ⊤}
 use Rattle.std.specs.List.{list_all}
 use Rattle.std.specs.Str.{str_to_ascii_lowercase}
-use Rattle.std.specs.declared.cmp.Ordering.TheVariants.{Equal}
+use Rattle.std.specs.declared.cmp.Ordering.TheVariants.{Less}
 use Rattle.resp_args.specs.declared.cmd.Arg.TheVariants.{Simple}
 use Rattle.cluster_routing.specs.Address.{Address, address_cmp, address_read, is_plain, same_address, written}
+use Rattle.cluster_routing.specs.AllNodes.{ascending}
+use Rattle.cluster_routing.specs.Lists.{among}
 use Rattle.cluster_routing.specs.HashSlot.{hash_slot, tag}
 use Rattle.cluster_routing.specs.Ranges.{Entry, IsAscending, value_at}
+use Rattle.cluster_routing.specs.SlotMap.{SlotEntries, nodes_at}
+use Rattle.cluster_routing.specs.Topology.{shard_at, shards_of}
 use Rattle.cluster_routing.specs.Command.{Args}
 use Rattle.cluster_routing.specs.Table.{Row, Rule, table, rule_of, same_rule}
 use Rattle.cluster_routing.specs.Routing.{destination}
@@ -49,3 +53,22 @@ is_routed_by rule name = same_rule (rule_of name true) rule && same_rule (rule_o
 
 abbrev pub EachNameHasItsRow : Type 0
 EachNameHasItsRow = list_all (λ (r : Row). list_all (is_routed_by r.rule) r.names) table ≡ true
+
+-- each address is below the next one
+abbrev pub IsBelowFirst : Address → List Address → Type 0
+IsBelowFirst a [] = ⊤
+IsBelowFirst a (b ∷ bs) = address_cmp a b ≡ Less
+
+abbrev pub AddressesAscend : List Address → Type 0
+AddressesAscend [] = ⊤
+AddressesAscend (a ∷ as') = IsBelowFirst a as' × AddressesAscend as'
+
+-- `ascending` answers a list that ascends, so that no address stands there twice, and that has the same addresses
+pub record EachAddressOnce : Type 0 where
+  pub ascends : (addresses : List Address) → AddressesAscend (ascending addresses)
+  pub same : (addresses : List Address) (a : Address) → among same_address a (ascending addresses) ≡ among same_address a addresses
+
+-- a map's topology has a shard for a slot exactly where the map has nodes for it, and these are its nodes
+pub record TopologyServes : Type 0 where
+  pub nodes : (entries : SlotEntries) (slot : ℕ) → IsAscending entries → option_map (λ s. s.nodes) (shard_at slot (shards_of entries)) ≡ nodes_at slot entries
+  pub primary : (entries : SlotEntries) (slot : ℕ) → IsAscending entries → option_map (λ s. s.nodes.primary) (shard_at slot (shards_of entries)) ≡ option_map (λ n. n.primary) (nodes_at slot entries)

@@ -5,6 +5,8 @@ pub mod Register
 pub mod Address
 pub mod Ranges
 pub mod SlotMap
+pub mod AllNodes
+pub mod Topology
 pub mod Candidates
 pub mod Choice
 pub mod SlotsReply

@@ -1,5 +1,5 @@
 -- Which nodes serve a slot (Redis Cluster specification, CLUSTER SLOTS).
-use Rattle.std.specs.Prelude.{◌≡◌, ℕ, List, [], ◌∷◌, ◌++◌, Option}
+use Rattle.std.specs.Prelude.{◌≡◌, ℕ, List, [], ◌∷◌, ◌++◌, Option, Some, None}
 use Rattle.cluster_routing.specs.Address.{Address}
 use Rattle.cluster_routing.specs.Ranges.{Entry, put, value_at}
 
@@ -29,6 +29,15 @@ put_all entries (r ∷ rs) = put_all (put entries (entry_of r)) rs
 -- the nodes of a slot
 abbrev pub nodes_at : ℕ → SlotEntries → Option Nodes
 nodes_at slot entries = value_at slot entries
+
+-- the replicas of nodes that may be there
+abbrev pub replicas_if : Option Nodes → List Address
+replicas_if None = []
+replicas_if (Some nodes) = nodes.replicas
+
+-- the replicas of a slot, none where no range serves it
+abbrev pub replicas_at : ℕ → SlotEntries → List Address
+replicas_at slot entries = replicas_if (nodes_at slot entries)
 
 -- some first of the ranges are put in
 pub record PutsSome (old : SlotEntries) (ranges : List Range) (new : SlotEntries) : Type 0 where

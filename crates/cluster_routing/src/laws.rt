@@ -3,7 +3,7 @@
 
 ghost use Rattle.std.specs.Prelude.{◌≡◌, ℕ};
 ghost use Rattle.cluster_routing.specs.Address.{address_cmp, same_address};
-ghost use Rattle.cluster_routing.specs.Laws.{CaseOfTheWord, EachNameHasItsRow, EqualArguments, EqualTags, OneRange, RoundTrip};
+ghost use Rattle.cluster_routing.specs.Laws.{CaseOfTheWord, EachAddressOnce, EachNameHasItsRow, EqualArguments, EqualTags, OneRange, RoundTrip, TopologyServes};
 ghost use Rattle.cluster_routing.specs.Seen.{address};
 
 use crate::address::NodeAddress;
@@ -53,4 +53,16 @@ pub fn the_one_range_serves()
 /// Each name of the routing table is routed by its own row, and by no other.
 pub fn each_name_has_its_row()
     ensures { EachNameHasItsRow }
+{}
+
+/// The lists of a map's addresses ascend strictly, so that they repeat nothing, and have exactly the
+/// addresses that they are made of.
+pub fn each_address_stands_once()
+    ensures { EachAddressOnce }
+{}
+
+/// The topology of a map has a shard for a slot exactly where a master route has an address, and
+/// the shard has that primary, and the replicas of the slot.
+pub fn the_topology_serves_as_the_map_does()
+    ensures { TopologyServes }
 {}

@@ -2,6 +2,7 @@
 #![tactic(auto)]
 
 mod address;
+mod all_nodes;
 mod candidates;
 pub mod laws;
 mod parts;
@@ -11,11 +12,13 @@ mod range_map;
 mod routable;
 mod route;
 mod routing;
+mod shards;
 mod slot;
 mod slot_map;
 mod slots_reply;
 mod strategy;
 mod table;
+mod topology;
 
 pub use address::NodeAddress;
 pub use candidates::{AnyNodeCandidates, ReadCandidates, Replicas, ReplicasOnlyCandidates};
@@ -29,6 +32,7 @@ pub use slot::Slot;
 pub use slot_map::SlotMap;
 pub use slots_reply::{parse_slots, slot_cmd};
 pub use strategy::ReadRoutingStrategy;
+pub use topology::{ClusterTopology, Shard};
 
 #[cfg(test)]
 mod tests;

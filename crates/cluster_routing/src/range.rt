@@ -48,6 +48,18 @@ impl SlotAddrs {
         nodes
     }
 
+    pub(crate) fn primary(&self) -> &NodeAddress
+        ensures { address result.now ≡ self.now.primary }
+    {
+        &self.primary
+    }
+
+    pub(crate) fn replicas(&self) -> &[NodeAddress]
+        ensures { addresses result.now ≡ self.now.replicas }
+    {
+        &self.replicas
+    }
+
     /// The node that serves a request with this route.
     ///
     /// `Master`, and every route where there are no replicas: the primary. `ReplicaOptional`: the

@@ -1,10 +1,10 @@
 //! The map of slots to nodes.
 
 ghost use Rattle.std.specs.Prelude.{◌≡◌, [], map, IfOk, MatchResult, option_map};
-ghost use Rattle.cluster_routing.specs.Choice.{LeadsTo};
-ghost use Rattle.cluster_routing.specs.Seen.{address};
+ghost use Rattle.cluster_routing.specs.Choice.{EachLeadsTo, LeadsTo};
+ghost use Rattle.cluster_routing.specs.Seen.{address, addresses};
 ghost use Rattle.cluster_routing.specs.Ranges.{put};
-ghost use Rattle.cluster_routing.specs.SlotMap.{entry_of, put_all, PutsSome};
+ghost use Rattle.cluster_routing.specs.SlotMap.{entry_of, put_all, replicas_at, PutsSome};
 
 use crate::address::NodeAddress;
 use crate::range::{SlotAddrs, SlotRange};
@@ -80,11 +80,49 @@ impl SlotMap {
         }
     }
 
+    /// For each route, in order, the node that it leads to, as `slot_addr_for_route` answers it.
+    /// The places that stand beside the routes are not read.
+    ///
+    /// # Errors
+    /// `AllocError` where memory is refused.
+    pub fn addresses_for_multi_slot(
+        &self,
+        alloc: Global,
+        routes: &[(Route, Vec<usize>)],
+        pick: u64,
+        strategy: Option<&dyn ReadRoutingStrategy>,
+    ) -> Result<Vec<Option<&NodeAddress>>, AllocError>
+        ensures { IfOk result (λ v. EachLeadsTo (option_map (λ s. admits s.now) strategy.entry) pick self.now (map (λ r. r.0) routes.now) (map (λ o. option_map (λ a. address a.now) o) v.items)) }
+    {
+        let mut answers = Vec::new(alloc);
+        'routes: for route in routes {
+            answers.push(self.slot_addr_for_route(route.0, pick, strategy))?;
+        }
+        Ok(answers)
+    }
+
+    /// The replicas of the range that serves a slot, in the order of their listing; none where no
+    /// range serves it. It takes no memory.
+    pub fn shard_fallback_addrs(&self, slot: u16) -> &[NodeAddress]
+        ensures { addresses result.now ≡ replicas_at slot self.now }
+    {
+        match self.slots.get(slot) {
+            None => &[],
+            Some(nodes) => &nodes.replicas,
+        }
+    }
+
     /// Forgets all ranges.
     pub fn clear(&mut self)
         ensures { self.new ≡ [] }
     {
         self.slots.clear();
+    }
+
+    pub(crate) fn slot_ranges(&self) -> &SlotRangeMap<SlotAddrs>
+        ensures { result.now ≡ self.now }
+    {
+        &self.slots
     }
 
     /// The nodes of the ranges, by ascending ends of the ranges.

@@ -9,6 +9,7 @@ ghost use Rattle.cluster_routing.specs.Lent.{lent};
 use crate::address::NodeAddress;
 use crate::candidates::{AnyNodeCandidates, ReadCandidates, Replicas, ReplicasOnlyCandidates};
 use crate::route::{Route, SlotAddr};
+use crate::topology::ClusterTopology;
 
 impl<'a> ReadCandidates<'a> {
     /// The slot that is read.
@@ -35,6 +36,11 @@ pub trait ReadRoutingStrategy {
     /// differ from call to call.
     fn route_read<'a>(&self, candidates: &ReadCandidates<'a>) -> &'a NodeAddress
         ensures { IsAdmitted (admits self.now) (lent candidates.now) (address result.now) };
+
+    /// Tells the strategy the shards of the cluster after they changed. A strategy that keeps
+    /// nothing of them may leave this out. Whoever holds the connection calls it: nothing in this
+    /// crate does.
+    fn on_topology_changed(&self, _topology: &ClusterTopology) {}
 }
 
 /// The node that serves a request for a slot with replicas.

@@ -4,3 +4,4 @@ mod maps;
 mod names;
 mod nodes;
 mod routes;
+mod topology;
