@@ -32,7 +32,7 @@ Played-from_sums old new call answer s =
       made = rw (same, s.logged) (record { addresses = addresses old.nodes new.nodes events s.runs; each = made old.nodes new.nodes events 0 s.runs });
       entries = rw same (s.entries 0);
       flag = rw same (s.flag 0);
-      budget = s.budget;
+      settings = s.settings;
     }
 
 -- ---- one request

@@ -104,7 +104,7 @@ error_sort_no_data (server_error x) e n = kind_no_data x (server_kind x.code)
 abbrev pub slots_to : Address → Request
 slots_to node = record { node = node; args = slots_command; asking = false }
 
-pub refresh_unlinked : (old new : World) (node : Address) → is_linked (open_links old.nodes) node ≡ false → new.nodes ≡ old.nodes → new.log ≡ [] → new.entries ≡ old.entries → new.needs_refresh ≡ old.needs_refresh → new.budget ≡ old.budget
+pub refresh_unlinked : (old new : World) (node : Address) → is_linked (open_links old.nodes) node ≡ false → new.nodes ≡ old.nodes → new.log ≡ [] → new.entries ≡ old.entries → new.needs_refresh ≡ old.needs_refresh → new.settings ≡ old.settings
     → Sums old new (Refresh node) (RefusedAs (by_cause NoLink))
 refresh_unlinked old new node shut n l r f b = (record {
   events = [];
@@ -114,10 +114,10 @@ refresh_unlinked old new node shut n l r f b = (record {
   answered = λ k h p. rw shut refl;
   entries = λ p. r;
   flag = λ p. f;
-  budget = b;
+  settings = b;
 })
 
-module _ (old new : World) (node : Address) (which : ℕ) (at : IsOpenAt old.nodes node which) (logged : new.log ≡ slots_to node ∷ []) (budget : new.budget ≡ old.budget) where
+module _ (old new : World) (node : Address) (which : ℕ) (at : IsOpenAt old.nodes node which) (logged : new.log ≡ slots_to node ∷ []) (settings : new.settings ≡ old.settings) where
   pub refresh_ok : (v : Tree) → Made old new which (slots_to node) (Ok v) → first_error v ≡ None → new.entries ≡ put_all [] (ranges v node.host) → new.needs_refresh ≡ false
       → Sums old new (Refresh node) Refreshed
   refresh_ok v calls n r f =
@@ -132,7 +132,7 @@ module _ (old new : World) (node : Address) (which : ℕ) (at : IsOpenAt old.nod
         answered = λ k h p. rw (at.linked, got, n) refl;
         entries = λ p. rw (got, d) r;
         flag = λ p. rw (got, d) f;
-        budget = budget;
+        settings = settings;
       })
 
   pub refresh_refused : (v : Tree) (e : ErrorText) → Made old new which (slots_to node) (Ok v) → first_error v ≡ Some e → new.entries ≡ old.entries → new.needs_refresh ≡ old.needs_refresh
@@ -149,7 +149,7 @@ module _ (old new : World) (node : Address) (which : ℕ) (at : IsOpenAt old.nod
         answered = λ k h p. rw (at.linked, got, n) refl;
         entries = λ p. rw (got, d) r;
         flag = λ p. rw (got, d) f;
-        budget = budget;
+        settings = settings;
       })
 
   pub refresh_err : (e : Refusal) → Made old new which (slots_to node) (Err e) → e ≢ by_cause Memory → new.entries ≡ old.entries → new.needs_refresh ≡ old.needs_refresh
@@ -167,15 +167,15 @@ module _ (old new : World) (node : Address) (which : ℕ) (at : IsOpenAt old.nod
         answered = λ k h p. rw (at.linked, got, h.0) (ap RefusedAs fault);
         entries = λ p. rw got r;
         flag = λ p. rw got f;
-        budget = budget;
+        settings = settings;
       })
 
 -- ---- query
 
-pub query_unplanned : (old new : World) (command : Command) (e : Refusal) → first_node (open_links old.nodes) old.entries command ≡ Err e
-    → new.nodes ≡ old.nodes → new.log ≡ [] → new.entries ≡ old.entries → new.needs_refresh ≡ old.needs_refresh → new.budget ≡ old.budget
-    → Sums old new (Query command) (RefusedAs e)
-query_unplanned old new command e shut n l r f b = (record {
+pub query_unplanned : (old new : World) (command : Command) (picks : List Address) (e : Refusal) → first_node (open_links old.nodes) old.entries old.settings.read_only command picks ≡ Err e
+    → new.nodes ≡ old.nodes → new.log ≡ [] → new.entries ≡ old.entries → new.needs_refresh ≡ old.needs_refresh → new.settings ≡ old.settings
+    → Sums old new (Query command picks) (RefusedAs e)
+query_unplanned old new command picks e shut n l r f b = (record {
   events = [];
   runs = n;
   logged = l;
@@ -183,28 +183,28 @@ query_unplanned old new command e shut n l r f b = (record {
   answered = λ k h p. rw shut refl;
   entries = λ p. r;
   flag = λ p. f ∙ or_false old.needs_refresh;
-  budget = b;
+  settings = b;
 })
 
 -- what the loop of a query keeps
-pub record Loop (old now : World) (command : Command) (left : ℕ) (hop : Hop) (which : ℕ) : Type 0 where
+pub record Loop (old now : World) (command : Command) (picks : List Address) (left : ℕ) (hop : Hop) (which : ℕ) : Type 0 where
   pub first : Address
-  pub planned : first_node (open_links old.nodes) old.entries command ≡ Ok first
+  pub planned : first_node (open_links old.nodes) old.entries old.settings.read_only command picks ≡ Ok first
   pub events : List Event
   pub runs : Runs old.nodes now.nodes events
   pub logged : now.log ≡ log_of events
-  pub leads : (p : ℕ) → Leads (open_links old.nodes) old.budget (record { node = first; asking = false }) (sent command) (exchanges_of p events) left hop
-  pub count : length (log_of events) + left ≡ old.budget
+  pub leads : (p : ℕ) → Leads (open_links old.nodes) old.settings.budget (record { node = first; asking = false }) (sent command) (exchanges_of p events) left hop
+  pub count : length (log_of events) + left ≡ old.settings.budget
   pub at : IsOpenAt now.nodes hop.node which
   pub opens : open_links now.nodes ≡ open_links old.nodes
   pub entries : now.entries ≡ old.entries
   pub flag : (p : ℕ) → now.needs_refresh ≡ (old.needs_refresh || list_any is_moved (exchanges_of p events))
-  pub budget : now.budget ≡ old.budget
+  pub settings : now.settings ≡ old.settings
 
-pub loop_start : (old now : World) (command : Command) (hop : Hop) (which : ℕ) → first_node (open_links old.nodes) old.entries command ≡ Ok hop.node → hop.asking ≡ false
-    → IsOpenAt old.nodes hop.node which → now.nodes ≡ old.nodes → now.log ≡ [] → now.entries ≡ old.entries → now.needs_refresh ≡ old.needs_refresh → now.budget ≡ old.budget
-    → Loop old now command old.budget hop which
-loop_start old now command hop which p a at n l r f b = record {
+pub loop_start : (old now : World) (command : Command) (picks : List Address) (hop : Hop) (which : ℕ) → first_node (open_links old.nodes) old.entries old.settings.read_only command picks ≡ Ok hop.node → hop.asking ≡ false
+    → IsOpenAt old.nodes hop.node which → now.nodes ≡ old.nodes → now.log ≡ [] → now.entries ≡ old.entries → now.needs_refresh ≡ old.needs_refresh → now.settings ≡ old.settings
+    → Loop old now command picks old.settings.budget hop which
+loop_start old now command picks hop which p a at n l r f b = record {
   first = hop.node;
   planned = p;
   events = [];
@@ -216,7 +216,7 @@ loop_start old now command hop which p a at n l r f b = record {
   opens = ap open_links n;
   entries = r;
   flag = λ p. f ∙ or_false old.needs_refresh;
-  budget = b;
+  settings = b;
 }
 
 any-snoc : (xs : List Exchange) (x : Exchange) → list_any is_moved (xs ++ x ∷ []) ≡ (list_any is_moved xs || is_moved x)
@@ -235,13 +235,13 @@ stopped Stays h F xs e = e
 stopped Lost h F xs e = e
 stopped (Goes hop) h F xs e = cc
 
-told_is : (command : Command) (xs : List Exchange) (ds : List Dispatch) (v : Tree) (o : Option Refusal) → answer_sent (Query command) xs ≡ Told v
-    → told (or_refused v o) ≡ answer_by {A = List Dispatch} (Query command) xs (Ok ds) o
-told_is command xs ds v None e = sym e
-told_is command xs ds v (Some k) e = refl
+told_is : (command : Command) (picks : List Address) (xs : List Exchange) (ds : List Dispatch) (v : Tree) (o : Option Refusal) → answer_sent (Query command picks) xs ≡ Told v
+    → told (or_refused v o) ≡ answer_by {A = List Dispatch} (Query command picks) xs (Ok ds) o
+told_is command picks xs ds v None e = sym e
+told_is command picks xs ds v (Some k) e = refl
 
-module _ (old now new : World) (command : Command) (left : ℕ) (hop : Hop) (which : ℕ) (l : Loop old now command left hop which)
-    (logged : new.log ≡ now.log ++ request_of hop (sent command) ∷ []) (entries : new.entries ≡ now.entries) (budget : new.budget ≡ now.budget) where
+module _ (old now new : World) (command : Command) (picks : List Address) (left : ℕ) (hop : Hop) (which : ℕ) (l : Loop old now command picks left hop which)
+    (logged : new.log ≡ now.log ++ request_of hop (sent command) ∷ []) (entries : new.entries ≡ now.entries) (settings : new.settings ≡ now.settings) where
   asked : Request
   asked = request_of hop (sent command)
 
@@ -259,8 +259,8 @@ module _ (old now new : World) (command : Command) (left : ℕ) (hop : Hop) (whi
       → next_of (open_links old.nodes) left (reply_in result) ≡ n → is_going n ≡ false
       → new.needs_refresh ≡ (now.needs_refresh || is_moved_reply (reply_in result))
       → ((faults : Address → LinkFault) (taken : List Tree) → Agrees faults (l.events ++ single (request_of hop (sent command)) taken result ∷ []) → (p : ℕ)
-      → answer ≡ answer_of (client_of old) faults (Query command) (exchanges_of p l.events ++ next_exchange p l.events (request_of hop (sent command)) result ∷ []))
-      → Sums old new (Query command) answer
+      → answer ≡ answer_of (client_of old) faults (Query command picks) (exchanges_of p l.events ++ next_exchange p l.events (request_of hop (sent command)) result ∷ []))
+      → Sums old new (Query command picks) answer
   ends result answer n s is stop f a =
       let x : Event = single (request_of hop (sent command)) s.taken result in
       let snoc : (p : ℕ) → exchanges_of p (l.events ++ x ∷ []) ≡ exchanges_of p l.events ++ next_exchange p l.events (request_of hop (sent command)) result ∷ [] =
@@ -273,11 +273,11 @@ module _ (old now new : World) (command : Command) (left : ℕ) (hop : Hop) (whi
         answered = λ k h p. rw (snoc p) (a k s.taken h p);
         entries = λ p. entries ∙ l.entries;
         flag = λ p. rw (snoc p) (moved p result f);
-        budget = budget ∙ l.budget;
+        settings = settings ∙ l.settings;
       }
 
   pub query_err : (e : Refusal) → e ≢ by_cause Memory → Made now new which (request_of hop (sent command)) (Err e) → new.needs_refresh ≡ now.needs_refresh
-      → Sums old new (Query command) (RefusedAs e)
+      → Sums old new (Query command picks) (RefusedAs e)
   query_err e m calls f =
       let had : failed_by e ≢ failed_by (by_cause Memory) = λ k. m (cc k) in
       let s = one_step now.nodes new.nodes which (request_of hop (sent command)) (Err e) had l.at calls in
@@ -289,7 +289,7 @@ module _ (old now new : World) (command : Command) (left : ℕ) (hop : Hop) (whi
 
   pub query_end : (v : Tree) (n : Next) → Made now new which (request_of hop (sent command)) (Ok v) → next_of (open_links new.nodes) left (Some v) ≡ n → is_going n ≡ false
       → new.needs_refresh ≡ (now.needs_refresh || is_moved_sort (sort_of v))
-      → Sums old new (Query command) (told (or_refused v (stop_refusal n v)))
+      → Sums old new (Query command picks) (told (or_refused v (stop_refusal n v)))
   query_end v n calls is stop f =
       let s = one_step now.nodes new.nodes which (request_of hop (sent command)) (Ok v) (λ k. cc k) l.at calls in
       let opens : open_links new.nodes ≡ open_links old.nodes = still_open now.nodes new.nodes (request_of hop (sent command)) v s ∙ l.opens in
@@ -300,13 +300,13 @@ module _ (old now new : World) (command : Command) (left : ℕ) (hop : Hop) (whi
       let xs = exchanges_of p l.events ++ x ∷ [] in
       let last : last_of xs ≡ Some x = last-snoc (exchanges_of p l.events) x in
       let size : length xs ≡ suc (length (log_of l.events)) = length-snoc (exchanges_of p l.events) x ∙ ap suc (length-exchanges p l.events) in
-      let still : suc old.budget - length xs ≡ left = let c = l.count in omega (arith, size, c) in
-      let there : next_of (open_links old.nodes) (suc old.budget - length xs) (Some v) ≡ n = ap (λ k. next_of (open_links old.nodes) k (Some v)) still ∙ here in
-      rw (l.planned, last, there) (told_is command xs (record { node = l.first; args = sent command } ∷ []) v (stop_refusal n v) (rw last refl)))
+      let still : suc old.settings.budget - length xs ≡ left = let c = l.count in omega (arith, size, c) in
+      let there : next_of (open_links old.nodes) (suc old.settings.budget - length xs) (Some v) ≡ n = ap (λ k. next_of (open_links old.nodes) k (Some v)) still ∙ here in
+      rw (l.planned, last, there) (told_is command picks xs (record { node = l.first; args = sent command } ∷ []) v (stop_refusal n v) (rw last refl)))
 
   pub query_more : (v : Tree) (next : Hop) (which' : ℕ) → Made now new which (request_of hop (sent command)) (Ok v) → next_of (open_links new.nodes) left (Some v) ≡ Goes next
       → left ≢ 0 → IsOpenAt new.nodes next.node which' → new.needs_refresh ≡ (now.needs_refresh || is_moved_sort (sort_of v))
-      → Loop old new command (left - 1) next which'
+      → Loop old new command picks (left - 1) next which'
   query_more v next which' calls go ne at f =
       let s = one_step now.nodes new.nodes which (request_of hop (sent command)) (Ok v) (λ k. cc k) l.at calls in
       let x : Event = single (request_of hop (sent command)) s.taken (Ok v) in
@@ -327,34 +327,34 @@ module _ (old now new : World) (command : Command) (left : ℕ) (hop : Hop) (whi
         opens = opens;
         entries = entries ∙ l.entries;
         flag = λ p. rw (snoc p) (moved p (Ok v) f);
-        budget = budget ∙ l.budget;
+        settings = settings ∙ l.settings;
       }
 
 -- ---- the same, where the arguments that were sent are known by an equation
 
-module _ (old now new : World) (command : Command) (left : ℕ) (hop : Hop) (which : ℕ) (l : Loop old now command left hop which) (args : List (List ℕ)) (are : args ≡ sent command)
-    (logged : new.log ≡ now.log ++ request_of hop args ∷ []) (entries : new.entries ≡ now.entries) (budget : new.budget ≡ now.budget) where
+module _ (old now new : World) (command : Command) (picks : List Address) (left : ℕ) (hop : Hop) (which : ℕ) (l : Loop old now command picks left hop which) (args : List (List ℕ)) (are : args ≡ sent command)
+    (logged : new.log ≡ now.log ++ request_of hop args ∷ []) (entries : new.entries ≡ now.entries) (settings : new.settings ≡ now.settings) where
   logged_so : new.log ≡ now.log ++ request_of hop (sent command) ∷ []
   logged_so = subst (λ sent'. new.log ≡ now.log ++ request_of hop sent' ∷ []) are logged
 
   made_so : (result : Result Tree Refusal) → Made now new which (request_of hop args) result → Made now new which (request_of hop (sent command)) result
   made_so result calls = subst (λ sent'. Made now new which (request_of hop sent') result) are calls
 
-  pub query_err_by : (e : Refusal) → e ≢ by_cause Memory → Made now new which (request_of hop args) (Err e) → new.needs_refresh ≡ now.needs_refresh → Sums old new (Query command) (RefusedAs e)
-  query_err_by e m calls f = query_err old now new command left hop which l logged_so entries budget e m (made_so (Err e) calls) f
+  pub query_err_by : (e : Refusal) → e ≢ by_cause Memory → Made now new which (request_of hop args) (Err e) → new.needs_refresh ≡ now.needs_refresh → Sums old new (Query command picks) (RefusedAs e)
+  query_err_by e m calls f = query_err old now new command picks left hop which l logged_so entries settings e m (made_so (Err e) calls) f
 
   pub query_end_by : (v : Tree) (n : Next) → Made now new which (request_of hop args) (Ok v) → next_of (open_links new.nodes) left (Some v) ≡ n → is_going n ≡ false
-      → new.needs_refresh ≡ (now.needs_refresh || is_moved_sort (sort_of v)) → Sums old new (Query command) (told (or_refused v (stop_refusal n v)))
-  query_end_by v n calls is stop f = query_end old now new command left hop which l logged_so entries budget v n (made_so (Ok v) calls) is stop f
+      → new.needs_refresh ≡ (now.needs_refresh || is_moved_sort (sort_of v)) → Sums old new (Query command picks) (told (or_refused v (stop_refusal n v)))
+  query_end_by v n calls is stop f = query_end old now new command picks left hop which l logged_so entries settings v n (made_so (Ok v) calls) is stop f
 
   pub query_more_by : (v : Tree) (next : Hop) (which' : ℕ) → Made now new which (request_of hop args) (Ok v) → next_of (open_links new.nodes) left (Some v) ≡ Goes next
-      → left ≢ 0 → IsOpenAt new.nodes next.node which' → new.needs_refresh ≡ (now.needs_refresh || is_moved_sort (sort_of v)) → Loop old new command (left - 1) next which'
-  query_more_by v next which' calls go ne at f = query_more old now new command left hop which l logged_so entries budget v next which' (made_so (Ok v) calls) go ne at f
+      → left ≢ 0 → IsOpenAt new.nodes next.node which' → new.needs_refresh ≡ (now.needs_refresh || is_moved_sort (sort_of v)) → Loop old new command picks (left - 1) next which'
+  query_more_by v next which' calls go ne at f = query_more old now new command picks left hop which l logged_so entries settings v next which' (made_so (Ok v) calls) go ne at f
 
 abbrev pub direct_to : Address → List (List ℕ) → Request
 direct_to node args = record { node = node; args = args; asking = false }
 
-module _ (old new : World) (node : Address) (which : ℕ) (at : IsOpenAt old.nodes node which) (args : List (List ℕ)) (are : args ≡ slots_command) (logged : new.log ≡ direct_to node args ∷ []) (budget : new.budget ≡ old.budget) where
+module _ (old new : World) (node : Address) (which : ℕ) (at : IsOpenAt old.nodes node which) (args : List (List ℕ)) (are : args ≡ slots_command) (logged : new.log ≡ direct_to node args ∷ []) (settings : new.settings ≡ old.settings) where
   refresh_logged : new.log ≡ slots_to node ∷ []
   refresh_logged = subst (λ sent'. new.log ≡ direct_to node sent' ∷ []) are logged
 
@@ -362,14 +362,32 @@ module _ (old new : World) (node : Address) (which : ℕ) (at : IsOpenAt old.nod
   refresh_made result calls = subst (λ sent'. Made old new which (direct_to node sent') result) are calls
 
   pub refresh_ok_by : (v : Tree) → Made old new which (direct_to node args) (Ok v) → first_error v ≡ None → new.entries ≡ put_all [] (ranges v node.host) → new.needs_refresh ≡ false → Sums old new (Refresh node) Refreshed
-  refresh_ok_by v calls n r f = refresh_ok old new node which at refresh_logged budget v (refresh_made (Ok v) calls) n r f
+  refresh_ok_by v calls n r f = refresh_ok old new node which at refresh_logged settings v (refresh_made (Ok v) calls) n r f
 
   pub refresh_refused_by : (v : Tree) (e : ErrorText) → Made old new which (direct_to node args) (Ok v) → first_error v ≡ Some e → new.entries ≡ old.entries → new.needs_refresh ≡ old.needs_refresh
       → Sums old new (Refresh node) (RefusedAs (by_server e))
-  refresh_refused_by v e calls n r f = refresh_refused old new node which at refresh_logged budget v e (refresh_made (Ok v) calls) n r f
+  refresh_refused_by v e calls n r f = refresh_refused old new node which at refresh_logged settings v e (refresh_made (Ok v) calls) n r f
 
   pub refresh_err_by : (e : Refusal) → Made old new which (direct_to node args) (Err e) → e ≢ by_cause Memory → new.entries ≡ old.entries → new.needs_refresh ≡ old.needs_refresh → Sums old new (Refresh node) (RefusedAs e)
-  refresh_err_by e calls m r f = refresh_err old new node which at refresh_logged budget e (refresh_made (Err e) calls) m r f
+  refresh_err_by e calls m r f = refresh_err old new node which at refresh_logged settings e (refresh_made (Err e) calls) m r f
 
 pub both : (old new : World) (call : Call) (answer : Answer) → Sums old new call answer → CallMade old new call answer
 both old new call answer s = record { sums = s; played = Played-from_sums old new call answer s }
+
+-- what a call did does not hang on the log and the picks of the call before it
+abbrev pub begun : World → List Request → List Address → World
+begun old log picked = record { nodes = old.nodes; entries = old.entries; settings = old.settings; needs_refresh = old.needs_refresh; log = log; picked = picked }
+
+pub from_begun : (old new : World) (log : List Request) (picked : List Address) (call : Call) (answer : Answer) → CallMade (begun old log picked) new call answer → CallMade old new call answer
+from_begun old new log picked call answer m =
+    let s = m.sums in
+    both old new call answer (record {
+      events = s.events;
+      runs = s.runs;
+      logged = s.logged;
+      legal = s.legal;
+      answered = s.answered;
+      entries = s.entries;
+      flag = s.flag;
+      settings = s.settings;
+    })

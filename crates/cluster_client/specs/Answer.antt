@@ -32,7 +32,7 @@ stop_refusal _ tree = option_map by_server (first_error tree)
 -- why a part whose last reply this is was not answered, after so many requests
 abbrev pub reply_refusal : Client → ℕ → LinkFault → Option Tree → Option Refusal
 reply_refusal client asked fault None = Some (refusal_of fault)
-reply_refusal client asked fault (Some tree) = stop_refusal (next_of client.links (suc client.budget - asked) (Some tree)) tree
+reply_refusal client asked fault (Some tree) = stop_refusal (next_of client.links (suc client.settings.budget - asked) (Some tree)) tree
 
 -- a refresh follows no redirect: each error in its reply refuses it
 abbrev pub refresh_refusal : LinkFault → Option Tree → Option Refusal
@@ -42,7 +42,7 @@ refresh_refusal fault (Some tree) = option_map by_server (first_error tree)
 -- why a call that was sent is refused
 abbrev pub sent_refusal : Client → (Address → LinkFault) → Call → List Exchange → Option Refusal
 sent_refusal client faults (Refresh node) xs = option_and_then (λ (x : Exchange). refresh_refusal (faults x.request.node) x.reply) (last_of xs)
-sent_refusal client faults (Query command) xs = option_and_then (λ (x : Exchange). reply_refusal client (length xs) (faults x.request.node) x.reply) (last_of xs)
+sent_refusal client faults (Query command picks) xs = option_and_then (λ (x : Exchange). reply_refusal client (length xs) (faults x.request.node) x.reply) (last_of xs)
 
 -- ---- answers
 
@@ -52,7 +52,7 @@ told_by (Some tree) = Told tree
 
 abbrev pub answer_sent : Call → List Exchange → Answer
 answer_sent (Refresh node) xs = Refreshed
-answer_sent (Query command) xs = told_by (option_and_then (λ (x : Exchange). x.reply) (last_of xs))
+answer_sent (Query command picks) xs = told_by (option_and_then (λ (x : Exchange). x.reply) (last_of xs))
 
 abbrev pub answer_by : {A : Type 0} → Call → List Exchange → Result A Refusal → Option Refusal → Answer
 answer_by call xs (Err refusal) sent = RefusedAs refusal
@@ -78,7 +78,7 @@ map_after entries _ xs = entries
 abbrev pub flag_after : Bool → Call → List Exchange → Bool
 flag_after flag (Refresh node) (x ∷ []) = if is_answered x then false else flag
 flag_after flag (Refresh node) _ = flag
-flag_after flag (Query command) xs = flag || list_any is_moved xs
+flag_after flag (Query command picks) xs = flag || list_any is_moved xs
 
 -- the reply, or why it is none
 abbrev pub or_refused : Tree → Option Refusal → Result Tree Refusal

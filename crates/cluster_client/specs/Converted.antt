@@ -1,5 +1,5 @@
 -- A query whose reply is read as a type: its call, and the conversion of its one reply.
-use Rattle.std.specs.Prelude.{◌≡◌, ℕ, Option, Some, None, Result, Ok, Err}
+use Rattle.std.specs.Prelude.{◌≡◌, ℕ, List, Option, Some, None, Result, Ok, Err}
 use Rattle.resp_core.specs.Trees.{Tree}
 use Rattle.resp_core.specs.Errors.{Refusal, by_cause}
 use Rattle.resp_core.specs.declared.errors.redis_error.Cause.TheVariants.{UnexpectedReturnType}
@@ -19,5 +19,5 @@ ConvertsTo meaning convert (Err refusal) (Err refusal') = refusal' ≡ refusal
 -- the call was made for some reply or refusal, and the result is its conversion
 pub record QueryMade {T M : Type 0} (old new : World) (command : Command) (meaning : T → M) (convert : Tree → Option M) (result : Result T Refusal) : Type 0 where
   pub reply : Result Tree Refusal
-  pub made : CallMade old new (Query command) (told reply)
+  pub made : CallMade old new (Query command new.picked) (told reply)
   pub converted : ConvertsTo meaning convert reply result

@@ -1,10 +1,10 @@
 -- Examples of the definitions, each checked by computation; what is called wrong is another definition that they tell apart.
-use Rattle.std.specs.Prelude.{◌≡◌, ℕ, ◌==◌, Bool, true, false, List, [], ◌∷◌, ◌++◌, Option, Some, None, Ok, Err, option_map, option_and_then, codes, pos, refl, decimal}
+use Rattle.std.specs.Prelude.{◌≡◌, ℕ, ◌==◌, Bool, true, false, List, [], ◌∷◌, ◌++◌, Option, Some, None, Ok, Err, option_map, option_and_then, is_some, Result, codes, pos, refl, decimal}
 use Rattle.std.specs.Fmt.{digits}
 use Rattle.std.specs.Str.{is_utf8, chars}
 use lib.Utf8.{encode}
 use Rattle.resp_core.specs.Trees.{Tree, ErrorText, server_error, array, bulk, nil, no_trees, tree}
-use Rattle.resp_core.specs.Errors.{by_cause, server_kind}
+use Rattle.resp_core.specs.Errors.{Refusal, by_cause, server_kind}
 use Rattle.resp_core.specs.Parts.{first_error}
 use Rattle.resp_core.specs.declared.errors.redis_error.Cause.TheVariants.{NoRoute, NoNode, NoLink, NoResponse}
 use Rattle.resp_args.specs.declared.cmd.Arg.TheVariants.{Simple}
@@ -15,7 +15,10 @@ use Rattle.cluster_routing.specs.SlotMap.{SlotEntries}
 use Rattle.cluster_routing.specs.Examples.{first_node as n1, second_node as n2, halves}
 use Rattle.cluster_client.specs.Request.{outgoing_for, skipped}
 use Rattle.cluster_client.specs.Reply.{Sort, Moved, Ask, Failed, Data, sort_of, error_sort, redirect_target}
-use Rattle.cluster_client.specs.Plan.{serving_node, first_node, Next, Stays, Lost, Goes, next_of, linked_hop}
+use Rattle.cluster_routing.specs.Table.{rule_of, table}
+use Rattle.cluster_routing.specs.Routing.{destination}
+use Rattle.cluster_client.specs.Picks.{candidates_of}
+use Rattle.cluster_client.specs.Plan.{first_node, Next, Stays, Lost, Goes, next_of, linked_hop}
 
 -- ---- what a reply is
 
@@ -83,23 +86,61 @@ and_would_go_by_a_wrong_rule = refl
 abbrev pub command : List ℕ → Bool → Command
 command word silent = record { args = Simple word ∷ Simple (codes "a") ∷ []; cursor = None; no_response = silent }
 
-pub goes_to_the_node_of_its_key : first_node both halves (command (codes "get") false) ≡ Ok n2
-unfolding hash_slot
+-- its first node by the halves of the slots, without replicas
+abbrev pub goes_first : List Address → List ℕ → Result Address Refusal
+goes_first links word = first_node links halves [] (command word false) []
+
+pub goes_to_the_node_of_its_key : goes_first both (codes "get") ≡ Ok n2
+unfolding destination rule_of table hash_slot
 goes_to_the_node_of_its_key = refl
 
-pub needs_a_link : first_node (n1 ∷ []) halves (command (codes "GET") false) ≡ Err (by_cause NoLink)
-unfolding hash_slot
+pub needs_a_link : goes_first (n1 ∷ []) (codes "GET") ≡ Err (by_cause NoLink)
+unfolding destination rule_of table hash_slot
 needs_a_link = refl
 
-pub needs_a_node : first_node both [] (command (codes "GET") false) ≡ Err (by_cause NoNode)
-unfolding hash_slot
+pub needs_a_node : first_node both [] [] (command (codes "GET") false) [] ≡ Err (by_cause NoNode)
+unfolding destination rule_of table hash_slot
 needs_a_node = refl
 
-pub needs_a_route : first_node both halves (command (codes "PING") false) ≡ Err (by_cause NoRoute)
-needs_a_route = refl
+pub needs_one_node : goes_first both (codes "PING") ≡ Err (by_cause NoRoute)
+unfolding destination rule_of table
+needs_one_node = refl
 
-pub a_silent_command_is_refused_first : first_node both halves (command (codes "PING") true) ≡ Err (by_cause NoResponse)
+pub needs_a_key : goes_first both (codes "XINFO") ≡ Err (by_cause NoRoute)
+unfolding destination rule_of table
+needs_a_key = refl
+
+pub is_not_split_yet : goes_first both (codes "MGET") ≡ Err (by_cause NoRoute)
+unfolding rule_of table
+is_not_split_yet = refl
+
+pub a_silent_command_is_refused_first : first_node both halves [] (command (codes "PING") true) [] ≡ Err (by_cause NoResponse)
 a_silent_command_is_refused_first = refl
+
+-- ---- reads
+
+abbrev pub n3 : Address
+n3 = record { host = codes "n3"; port = 7003 }
+
+-- all slots at one primary with a replica
+abbrev pub with_a_replica : SlotEntries
+with_a_replica = (16383, (0, record { primary = n1; replicas = n3 ∷ [] })) ∷ []
+
+pub a_read_goes_to_the_pick : first_node (n1 ∷ n3 ∷ []) with_a_replica (codes "GET" ∷ []) (command (codes "get") false) (n3 ∷ []) ≡ Ok n3
+unfolding destination rule_of table hash_slot
+a_read_goes_to_the_pick = refl
+
+pub a_read_has_candidates : is_some (candidates_of with_a_replica (codes "GET" ∷ []) (command (codes "get") false)) ≡ true
+unfolding destination rule_of table hash_slot
+a_read_has_candidates = refl
+
+pub a_write_has_none : candidates_of with_a_replica (codes "GET" ∷ []) (command (codes "SET") false) ≡ None
+unfolding destination rule_of table hash_slot
+a_write_has_none = refl
+
+pub a_slot_without_replicas_has_none : candidates_of halves (codes "GET" ∷ []) (command (codes "get") false) ≡ None
+unfolding destination rule_of table hash_slot
+a_slot_without_replicas_has_none = refl
 
 -- ---- what goes out
 

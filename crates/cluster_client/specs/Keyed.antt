@@ -1,17 +1,23 @@
--- The slot of a command that has one key: of GET and SET, whose key is their first argument.
--- Source: the Redis command documentation, GET and SET; command words compare without ASCII case.
-use Rattle.std.specs.Prelude.{ℕ, ◌||◌, Bool, if◌then◌else◌, List, [], ◌∷◌, Option, Some, None, codes}
-use Rattle.std.specs.Str.{str_eq_ignore_ascii_case}
-use Rattle.resp_args.specs.declared.cmd.Arg.{Arg}
-use Rattle.resp_args.specs.declared.cmd.Arg.TheVariants.{Simple}
-use Rattle.cluster_routing.specs.HashSlot.{hash_slot}
+-- The route of a command that goes to the slot of one key. A command whose replies from several nodes become one, as those of a split
+-- command do, has none here.
+-- Source: the routing table, which is that of the Redis command documentation.
+use Rattle.std.specs.Prelude.{ℕ, Bool, true, false, is_some, if◌then◌else◌, List, Option, Some, None, slice_get}
+use Rattle.cluster_routing.specs.Command.{Args, bytes_of}
+use Rattle.cluster_routing.specs.Table.{policy_by, rule_of}
+use Rattle.cluster_routing.specs.Routing.{Destination, to_route, destination}
+use Rattle.cluster_routing.specs.declared.route.Route.{Route}
 
-abbrev pub is_keyed_word : List ℕ → Bool
-is_keyed_word word = str_eq_ignore_ascii_case word (codes "GET") || str_eq_ignore_ascii_case word (codes "SET")
+abbrev pub word_joins : Option (List ℕ) → Bool
+word_joins None = false
+word_joins (Some word) = is_some (policy_by (rule_of word false))
 
-abbrev pub keyed_slot : List ℕ → List ℕ → Option ℕ
-keyed_slot word key = if is_keyed_word word then Some (hash_slot key) else None
+abbrev pub joins_replies : Args → Bool
+joins_replies args = word_joins (bytes_of (slice_get args 0))
 
-abbrev pub slot_of : List (Arg (List ℕ)) → Option ℕ
-slot_of (Simple word ∷ Simple key ∷ more) = keyed_slot word key
-slot_of _ = None
+abbrev pub route_in : Option Destination → Option Route
+route_in (Some (to_route route)) = Some route
+route_in _ = None
+
+-- under a set of names that only read
+abbrev pub keyed_route : Args → List (List ℕ) → Option Route
+keyed_route args read_only = if joins_replies args then None else route_in (destination args read_only)

@@ -5,6 +5,7 @@ pub mod World
 pub mod Places
 pub mod Events
 pub mod Keyed
+pub mod Picks
 pub mod Plan
 pub mod Answer
 pub mod Accepted

@@ -11,18 +11,20 @@ use Rattle.cluster_routing.specs.SlotMap.{SlotEntries, Nodes, nodes_at}
 use Rattle.cluster_client.specs.Request.{Request, slots_command}
 use Rattle.cluster_client.specs.Reply.{Sort, Moved, Ask, sort_of, redirect_target}
 use Rattle.cluster_client.specs.Log.{Exchange}
-use Rattle.cluster_client.specs.World.{is_linked}
-use Rattle.cluster_client.specs.Keyed.{slot_of}
+use Rattle.cluster_routing.specs.declared.route.Route.{Route}
+use Rattle.cluster_client.specs.World.{Settings, is_linked}
+use Rattle.cluster_client.specs.Keyed.{keyed_route}
 
--- what a client goes by: its budget of redirects, its slot map and its open links
+-- what a client goes by: its settings, its slot map and its open links
 pub record Client : Type 0 where
-  pub budget : ℕ
+  pub settings : Settings
   pub entries : SlotEntries
   pub links : List Address
 
 pub data Call : Type 0 where
   Refresh : (node : Address) → Call
-  Query : (command : Command) → Call
+  -- with what a strategy answered, where it was asked
+  Query : (command : Command) → (picks : List Address) → Call
 
 -- ---- before the first byte
 
@@ -31,25 +33,31 @@ pub record Dispatch : Type 0 where
   pub node : Address
   pub args : List (List ℕ)
 
-abbrev pub primary_of : Option Nodes → Result Address Refusal
-primary_of None = Err (by_cause NoNode)
-primary_of (Some nodes) = Ok nodes.primary
+-- the node that a strategy picked, where it was asked, else the primary
+abbrev pub picked_or : Address → List Address → Address
+picked_or primary [] = primary
+picked_or primary (pick ∷ picks) = pick
 
-abbrev pub routed_node : SlotEntries → Option ℕ → Result Address Refusal
-routed_node entries None = Err (by_cause NoRoute)
-routed_node entries (Some slot) = primary_of (nodes_at slot entries)
+abbrev pub node_among : List Address → Option Nodes → Result Address Refusal
+node_among picks None = Err (by_cause NoNode)
+node_among picks (Some nodes) = Ok (picked_or nodes.primary picks)
+
+abbrev pub routed_node : SlotEntries → List Address → Option Route → Result Address Refusal
+routed_node entries picks None = Err (by_cause NoRoute)
+routed_node entries picks (Some route) = node_among picks (nodes_at route.slot entries)
 
 -- the node that serves a command's key, or why there is none
-abbrev pub serving_node : SlotEntries → Command → Result Address Refusal
-serving_node entries command = if command.no_response then Err (by_cause NoResponse) else routed_node entries (slot_of command.args)
+abbrev pub serving_node : SlotEntries → List (List ℕ) → Command → List Address → Result Address Refusal
+serving_node entries read_only command picks =
+    if command.no_response then Err (by_cause NoResponse) else routed_node entries picks (keyed_route command.args read_only)
 
 abbrev pub linked_node : List Address → Result Address Refusal → Result Address Refusal
 linked_node links (Ok node) = if is_linked links node then Ok node else Err (by_cause NoLink)
 linked_node links (Err refusal) = Err refusal
 
 -- the node that a command goes to first: it serves the key, and a usable link leads to it
-abbrev pub first_node : List Address → SlotEntries → Command → Result Address Refusal
-first_node links entries command = linked_node links (serving_node entries command)
+abbrev pub first_node : List Address → SlotEntries → List (List ℕ) → Command → List Address → Result Address Refusal
+first_node links entries read_only command picks = linked_node links (serving_node entries read_only command picks)
 
 abbrev pub dispatch_to : List (List ℕ) → Result Address Refusal → Result (List Dispatch) Refusal
 dispatch_to args (Ok node) = Ok (record { node = node; args = args } ∷ [])
@@ -58,7 +66,7 @@ dispatch_to args (Err refusal) = Err refusal
 -- the dispatches of a call, or why it is refused before a byte is sent
 abbrev pub plan : Client → Call → Result (List Dispatch) Refusal
 plan client (Refresh node) = dispatch_to slots_command (linked_node client.links (Ok node))
-plan client (Query command) = dispatch_to (sent command) (first_node client.links client.entries command)
+plan client (Query command picks) = dispatch_to (sent command) (first_node client.links client.entries client.settings.read_only command picks)
 
 -- ---- redirects
 
@@ -123,8 +131,8 @@ requests xs = map (λ (x : Exchange). x.request) xs
 -- the exchanges are those that the call makes, from its dispatches on; a refresh follows no redirect
 abbrev pub AreMade : Client → Call → List Dispatch → List Exchange → Type 0
 AreMade client (Refresh node) ds xs = requests xs ≡ map direct ds
-AreMade client (Query command) (d ∷ []) xs = FollowsRedirects client.links client.budget (first_hop d) d.args xs
-AreMade client (Query command) _ xs = ⊥
+AreMade client (Query command picks) (d ∷ []) xs = FollowsRedirects client.links client.settings.budget (first_hop d) d.args xs
+AreMade client (Query command picks) _ xs = ⊥
 
 -- a call that is refused before sending makes no request
 abbrev pub IsLegalCall : Client → Call → List Exchange → Type 0

@@ -13,7 +13,7 @@ use Rattle.cluster_client.specs.Plan.{Client, Call, IsLegalCall}
 use Rattle.cluster_client.specs.Answer.{Answer, answer_of, map_after, flag_after}
 
 abbrev pub client_of : World → Client
-client_of world = record { budget = world.budget; entries = world.entries; links = open_links world.nodes }
+client_of world = record { settings = world.settings; entries = world.entries; links = open_links world.nodes }
 
 -- ---- one node over a call, or over a run
 
@@ -73,7 +73,7 @@ pub record Sums (old new : World) (call : Call) (answer : Answer) : Type 0 where
   pub answered : (faults : Address → LinkFault) → Agrees faults events → (place : ℕ) → answer ≡ answer_of (client_of old) faults call (exchanges_of place events)
   pub entries : (place : ℕ) → new.entries ≡ map_after old.entries call (exchanges_of place events)
   pub flag : (place : ℕ) → new.needs_refresh ≡ flag_after old.needs_refresh call (exchanges_of place events)
-  pub budget : new.budget ≡ old.budget
+  pub settings : new.settings ≡ old.settings
 
 -- what one call did and answered: its log is legal, its answer is what its replies give, its bytes are those of its log
 pub record Played (old new : World) (call : Call) (answer : Answer) : Type 0 where
@@ -84,7 +84,7 @@ pub record Played (old new : World) (call : Call) (answer : Answer) : Type 0 whe
   pub made : NodesMade old.nodes new.nodes new.log (paired_log taken new.log) taken faults
   pub entries : new.entries ≡ map_after old.entries call (paired_log taken new.log)
   pub flag : new.needs_refresh ≡ flag_after old.needs_refresh call (paired_log taken new.log)
-  pub budget : new.budget ≡ old.budget
+  pub settings : new.settings ≡ old.settings
 
 -- both: the link calls, and what follows from them
 pub record CallMade (old new : World) (call : Call) (answer : Answer) : Type 0 where

@@ -15,19 +15,26 @@ pub record Node : Type 0 where
   pub address : Address
   pub link : Seen
 
+-- what a client is made with: how many redirects a request follows, and the names of the commands that only read
+pub record Settings : Type 0 where
+  pub budget : ℕ
+  pub read_only : List (List ℕ)
+
 pub record World : Type 0 where
   pub nodes : List Node
   pub entries : SlotEntries
-  pub budget : ℕ
+  pub settings : Settings
   pub needs_refresh : Bool
+  -- the requests of the last call, and what a strategy answered in it
   pub log : List Request
+  pub picked : List Address
 
 abbrev pub nodes : {L : Type 0} → (L → Seen) → List (NodeAddress × L) → List Node
 nodes seen links = map (λ pair. record { address = address pair.0; link = seen pair.1 }) links
 
 -- a client that was just made: without a slot map, and with an empty log
-abbrev pub new_world : List Node → ℕ → World
-new_world ns budget = record { nodes = ns; entries = []; budget = budget; needs_refresh = false; log = [] }
+abbrev pub new_world : List Node → Settings → World
+new_world ns settings = record { nodes = ns; entries = []; settings = settings; needs_refresh = false; log = []; picked = [] }
 
 abbrev pub addresses_of : List Node → List Address
 addresses_of ns = map (λ (n : Node). n.address) ns

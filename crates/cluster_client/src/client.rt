@@ -1,25 +1,33 @@
 //! The client: it refreshes its slot map, and sends keyed commands to the nodes that serve them.
-ghost use Rattle.std.specs.Prelude.{◌≡◌, ◌≢◌, ◌↔◌, Err, [], true, IfOk, option_map};
+ghost use Rattle.std.specs.Prelude.{◌≡◌, ◌≢◌, ◌↔◌, ◌<◌, Ok, Err, [], true, false, vec_len, IfOk, option_map};
 ghost use Rattle.resp_core.specs.Errors.{by_cause};
 ghost use Rattle.resp_core.specs.View.{view};
 ghost use Rattle.resp_core.specs.declared.errors.redis_error.Cause.TheVariants.{Memory, RepeatedAddress};
 ghost use Rattle.cluster_routing.specs.Seen.{address};
 ghost use Rattle.cluster_routing.specs.SlotMap.{put_all};
 ghost use Rattle.cluster_routing.specs.SlotsReply.{ranges};
-ghost use Rattle.cluster_client.specs.Plan.{Refresh, Query};
+ghost use Rattle.cluster_routing.specs.Topology.{shards_of};
+ghost use Rattle.cluster_client.specs.Places.{IsOpenAt};
+ghost use Rattle.cluster_client.specs.Plan.{Refresh, Query, first_node};
 ghost use Rattle.cluster_client.specs.Answer.{told, refreshed};
 ghost use Rattle.cluster_client.specs.Played.{CallMade};
 ghost use Rattle.cluster_client.specs.Converted.{QueryMade};
-ghost use Rattle.cluster_client.specs.World.{addresses_of, has_repeats, link_at, new_world, nodes, viewed};
+ghost use Rattle.cluster_routing.specs.Info.{texts};
+ghost use Rattle.cluster_routing.specs.Seen.{addresses};
+ghost use Rattle.cluster_client.specs.Picks.{ArePicks, candidates_of};
+ghost use Rattle.cluster_client.specs.World.{addresses_of, has_repeats, link_at, new_world, nodes, open_links, viewed};
 ghost use Rattle.cluster_client.specs.Accepted.{IsAccepted};
 ghost use Rattle.cluster_client.specs.Whole.{whole};
 
 use crate::asked::Asked;
-use crate::hops::{Turn, first_place, turn_by};
+use crate::first::first_place;
+use crate::hops::{Place, Turn, turn_by};
 use crate::links::{has_repeats, open_place, place_of};
 use crate::reply::needs_refresh;
 use crate::sending::send;
-use cluster_routing::{NodeAddress, SlotMap, parse_slots, slot_cmd};
+use cluster_routing::{
+    ClusterTopology, NodeAddress, ReadRoutingStrategy, SlotMap, parse_slots, slot_cmd,
+};
 use resp_args::{Cmd, FromRedisValue, from_redis_value};
 use resp_core::{Cause, RedisError, Value};
 use resp_link::ConnectionLike;
@@ -37,6 +45,7 @@ pub struct ClusterClient<L> {
     slots: SlotMap,
     needs_refresh: bool,
     asked: Vec<Asked>,
+    picked: Vec<NodeAddress>,
 }
 
 impl<L: ConnectionLike + Drop> ClusterClient<L> {
@@ -53,7 +62,7 @@ impl<L: ConnectionLike + Drop> ClusterClient<L> {
         read_only: Vec<Vec<u8>>,
         budget: u16,
     ) -> Result<ClusterClient<L>, RedisError>
-        ensures made { IfOk result (λ client. whole L.seen client ≡ new_world (nodes L.seen links.items) budget) }
+        ensures made { IfOk result (λ client. whole L.seen client ≡ new_world (nodes L.seen links.items) (record { budget = budget; read_only = texts read_only.items })) }
         ensures repeated { (result ≡ Err (by_cause RepeatedAddress)) ↔ (has_repeats (addresses_of (nodes L.seen links.items)) ≡ true) }
     {
         if has_repeats(&links) {
@@ -66,6 +75,7 @@ impl<L: ConnectionLike + Drop> ClusterClient<L> {
             slots: SlotMap::new(alloc),
             needs_refresh: false,
             asked: Vec::new(alloc),
+            picked: Vec::new(alloc),
         })
     }
 
@@ -77,8 +87,10 @@ impl<L: ConnectionLike + Drop> ClusterClient<L> {
     /// leaves the slot map and `needs_refresh` as they were. No redirect is followed.
     pub fn refresh(&mut self, alloc: Global, node: &NodeAddress) -> Result<(), RedisError>
         ensures played { result ≢ Err (by_cause Memory) → CallMade (whole L.seen self.old) (whole L.seen self.new) (Refresh (address node.now)) (refreshed result) }
+        ensures picks { (whole L.seen self.new).picked ≡ [] }
     {
         self.asked = Vec::new(alloc);
+        self.picked = Vec::new(alloc);
         let Some(which) = open_place(&self.links, node) else {
             return Err(RedisError::from(Cause::NoLink));
         };
@@ -99,37 +111,74 @@ impl<L: ConnectionLike + Drop> ClusterClient<L> {
 
     /// Sends a keyed command to the node that serves its key's slot, and answers the reply as a `T`.
     ///
+    /// The routing table (`RoutingInfo::for_routable`) tells the key. A command goes to the slot's
+    /// primary; one of the names that `new` was given as read-only goes to the node that `strategy`
+    /// picks, where there is a strategy and the slot has replicas. The strategy is asked before the
+    /// first byte, and `picked` tells what it answered.
+    ///
     /// A reply that is itself MOVED or ASK is followed, within the budget, to the node that it
     /// names; behind ASK the request goes out with `ASKING` before it, in one write. `picks` is for
     /// routes to any node, which are not taken yet.
     ///
     /// # Errors
     /// In the order of the checks: `NoResponse` for a command that waits for none; `NoRoute` for one
-    /// other than GET and SET, in any case of letters; `NoNode` where no node serves the slot;
-    /// `NoLink` where no usable link leads to it, or to the node that a redirect names; the server's
-    /// error where the last reply is or holds one, a redirect out of budget or without a readable
-    /// node among them; `Io` and `Parse` where the link failed, which is closed then;
+    /// without a key by the table, for one that goes to any node or to several, and for one that is
+    /// split by its keys, also where these have one slot; `NoNode` where no node serves the slot;
+    /// `NoLink` where no usable link leads to the node, or to the node that a redirect names; the
+    /// server's error where the last reply is or holds one, a redirect out of budget or without a
+    /// readable node among them; `Io` and `Parse` where the link failed, which is closed then;
     /// `UnexpectedReturnType` where the reply is no `T`, which leaves the link in step; `Memory`.
     /// Until `NoLink` of the first node nothing is sent.
     pub fn query<T: FromRedisValue>(
         &mut self,
         alloc: Global,
         cmd: &Cmd,
-        picks: u64,
+        _picks: u64,
+        strategy: Option<&dyn ReadRoutingStrategy>,
     ) -> Result<T, RedisError>
         ensures answered { result ≢ Err (by_cause Memory) → QueryMade (whole L.seen self.old) (whole L.seen self.new) cmd.now T.meaning T.convert result }
+        ensures picks { result ≢ Err (by_cause Memory) → ArePicks (option_map (λ s. admits s.now) strategy.entry) (candidates_of (whole L.seen self.old).entries (whole L.seen self.old).settings.read_only cmd.now) (whole L.seen self.new).picked }
     {
-        let reply = self.reply_to(alloc, cmd, picks)?;
+        let reply = self.reply_to(alloc, cmd, strategy)?;
         Ok(from_redis_value(alloc, reply)?)
     }
 
     /// The one reply to a keyed command, behind its redirects.
-    fn reply_to(&mut self, alloc: Global, cmd: &Cmd, picks: u64) -> Result<Value, RedisError>
-        ensures played { result ≢ Err (by_cause Memory) → CallMade (whole L.seen self.old) (whole L.seen self.new) (Query cmd.now) (told (viewed view result)) }
+    fn reply_to(
+        &mut self,
+        alloc: Global,
+        cmd: &Cmd,
+        strategy: Option<&dyn ReadRoutingStrategy>,
+    ) -> Result<Value, RedisError>
+        ensures played { result ≢ Err (by_cause Memory) → CallMade (whole L.seen self.old) (whole L.seen self.new) (Query cmd.now (whole L.seen self.new).picked) (told (viewed view result)) }
+        ensures picks { result ≢ Err (by_cause Memory) → ArePicks (option_map (λ s. admits s.now) strategy.entry) (candidates_of (whole L.seen self.old).entries (whole L.seen self.old).settings.read_only cmd.now) (whole L.seen self.new).picked }
     {
         self.asked = Vec::new(alloc);
-        let mut place = first_place(&self.links, &self.slots, cmd, picks)?;
+        self.picked = Vec::new(alloc);
+        let place = first_place(
+            &self.links,
+            alloc,
+            &self.slots,
+            &self.read_only,
+            cmd,
+            strategy,
+            &mut self.picked,
+        )?;
+        self.reply_from(alloc, cmd, place)
+    }
+
+    /// The one reply to a keyed command that goes to this place first, behind its redirects.
+    fn reply_from(&mut self, alloc: Global, cmd: &Cmd, first: Place) -> Result<Value, RedisError>
+        requires planned { first_node (open_links (nodes L.seen self.old.links.items)) self.old.slots (texts self.old.read_only.items) cmd.now (addresses self.old.picked.items) ≡ Ok (address first.node) }
+        requires place { IsOpenAt (nodes L.seen self.old.links.items) (address first.node) first.which }
+        requires direct { first.asking ≡ false }
+        requires within { first.which < vec_len self.old.links }
+        requires fresh { self.old.asked.items ≡ [] }
+        ensures played { result ≢ Err (by_cause Memory) → CallMade (whole L.seen self.old) (whole L.seen self.new) (Query cmd.now (addresses self.old.picked.items)) (told (viewed view result)) }
+        ensures picks { self.new.picked ≡ self.old.picked }
+    {
         let args = cmd.wire_args(alloc)?;
+        let mut place = first;
         let mut left = self.budget;
         'requests: loop {
             let reply = send(
@@ -152,6 +201,16 @@ impl<L: ConnectionLike + Drop> ClusterClient<L> {
         }
     }
 
+    /// The shards of the slot map; none before a refresh was accepted.
+    ///
+    /// # Errors
+    /// `AllocError` where memory is refused.
+    pub fn topology(&self, alloc: Global) -> Result<ClusterTopology, AllocError>
+        ensures { IfOk result (λ t. t ≡ shards_of (whole L.seen self.now).entries) }
+    {
+        self.slots.topology(alloc)
+    }
+
     /// Whether a request was answered by MOVED since the last accepted refresh.
     pub fn needs_refresh(&self) -> bool
         ensures { result ≡ (whole L.seen self.now).needs_refresh }
@@ -164,6 +223,14 @@ impl<L: ConnectionLike + Drop> ClusterClient<L> {
         ensures { result.now ≡ (whole L.seen self.now).log }
     {
         self.asked.as_slice()
+    }
+
+    /// What the strategy answered in the last call: one node at most, also where no usable link
+    /// leads to it; none where there was no strategy or it was not asked.
+    pub fn picked(&self) -> &[NodeAddress]
+        ensures { addresses result.now ≡ (whole L.seen self.now).picked }
+    {
+        self.picked.as_slice()
     }
 
     /// The link to a node.

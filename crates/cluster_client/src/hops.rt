@@ -1,5 +1,5 @@
-//! Where a request goes: first by the slot map, then where a reply sends it on.
-ghost use Rattle.std.specs.Prelude.{◌≡◌, ◌≢◌, ◌<◌, length, IfOk, IfErr, Err, Some, None, true, false};
+//! Where a request goes: where a reply sends it on.
+ghost use Rattle.std.specs.Prelude.{◌≡◌, ◌≢◌, IfOk, IfErr, Err, Some, true, false};
 ghost use Rattle.resp_core.specs.Errors.{by_cause, server_kind};
 ghost use Rattle.resp_core.specs.declared.errors.redis_error.Cause.TheVariants.{Memory};
 ghost use Rattle.resp_core.specs.View.{error_text, view};
@@ -7,14 +7,12 @@ ghost use Rattle.cluster_client.specs.Reply.{error_sort, redirect_target};
 ghost use Rattle.cluster_routing.specs.Seen.{address};
 ghost use Rattle.cluster_client.specs.World.{nodes, open_links};
 ghost use Rattle.cluster_client.specs.Places.{IsOpenAt};
-ghost use Rattle.cluster_client.specs.Plan.{Stays, first_node, serving_node, linked_hop, next_of, sort_next};
-ghost use Rattle.cluster_client.specs.Hops.{EndsBy, TurnsOn, turns_on, LeadsOn, goes_on, next_by, node_by, served};
+ghost use Rattle.cluster_client.specs.Plan.{Stays, linked_hop, next_of, sort_next};
+ghost use Rattle.cluster_client.specs.Hops.{EndsBy, TurnsOn, turns_on, LeadsOn, goes_on, next_by};
 
-use crate::keyed::route_of;
 use crate::links::open_place;
 use crate::redirect::redirect_target;
-use cluster_routing::{NodeAddress, SlotMap};
-use resp_args::Cmd;
+use cluster_routing::NodeAddress;
 use resp_core::{Cause, RedisError, ServerError, ServerErrorKind, Value};
 use resp_link::ConnectionLike;
 use std::alloc::Global;
@@ -35,45 +33,6 @@ pub(crate) enum Onward {
     /// To a node without an open link.
     Lost,
     Go(Place),
-}
-
-/// The node that serves the slot of a command's key.
-fn first_node<'a>(slots: &'a SlotMap, cmd: &Cmd, picks: u64) -> Result<&'a NodeAddress, RedisError>
-    ensures { served (λ node. address node.now) result ≡ serving_node slots.now cmd.now }
-{
-    if cmd.is_no_response() {
-        return Err(RedisError::from(Cause::NoResponse));
-    }
-    let Some(route) = route_of(cmd) else {
-        return Err(RedisError::from(Cause::NoRoute));
-    };
-    match slots.slot_addr_for_route(route, picks, None) {
-        None => Err(RedisError::from(Cause::NoNode)),
-        Some(node) => Ok(node),
-    }
-}
-
-/// The node that a command goes to first, and its place.
-pub(crate) fn first_place<L: ConnectionLike>(
-    links: &[(NodeAddress, L)],
-    slots: &SlotMap,
-    cmd: &Cmd,
-    picks: u64,
-) -> Result<Place, RedisError>
-    ensures node { result ≢ Err (by_cause Memory) → node_by result ≡ first_node (open_links (nodes L.seen links.now)) slots.now cmd.now }
-    ensures place { IfOk result (λ p. IsOpenAt (nodes L.seen links.now) (address p.node) p.which) }
-    ensures direct { IfOk result (λ p. p.asking ≡ false) }
-    ensures within { IfOk result (λ p. p.which < length links.now) }
-{
-    let node = first_node(slots, cmd, picks)?;
-    let Some(which) = open_place(links, node) else {
-        return Err(RedisError::from(Cause::NoLink));
-    };
-    Ok(Place {
-        node: node.clone()?,
-        which,
-        asking: false,
-    })
 }
 
 fn linked<L: ConnectionLike>(links: &[(NodeAddress, L)], node: NodeAddress, asking: bool) -> Onward

@@ -1,34 +1,42 @@
-//! The route of a command that has one key.
-ghost use Rattle.std.specs.Prelude.{◌≡◌, option_map};
-ghost use Rattle.cluster_routing.specs.declared.route.SlotAddr.TheVariants.{Master};
-ghost use Rattle.cluster_client.specs.Keyed.{is_keyed_word, keyed_slot, slot_of};
+//! The route of a command that goes to the slot of one key.
+ghost use Rattle.std.specs.Prelude.{◌≡◌, IfOk, option_map};
+ghost use Rattle.cluster_routing.specs.Info.{shown_info, texts};
+ghost use Rattle.cluster_client.specs.Keyed.{joins_replies, keyed_route, route_in};
 
-use cluster_routing::{Route, SlotAddr};
-use resp_args::{Arg, Cmd};
+use cluster_routing::{ResponsePolicy, Routable, Route, RoutingInfo, SingleNodeRoutingInfo};
+use resp_args::Cmd;
+use std::alloc::{AllocError, Global};
 
-fn is_keyed_word(word: &[u8]) -> bool
-    ensures { result ≡ is_keyed_word word.now }
+/// Whether the replies of several nodes become one, as those of a command that is split by its keys.
+fn joins_replies(cmd: &Cmd) -> bool
+    ensures { result ≡ joins_replies cmd.now.args }
 {
-    word.eq_ignore_ascii_case(b"GET") || word.eq_ignore_ascii_case(b"SET")
-}
-
-fn route_to(word: &[u8], key: &[u8]) -> Option<Route>
-    ensures { result ≡ option_map (λ slot. record { slot = slot; slot_addr = Master }) (keyed_slot word.now key.now) }
-{
-    if is_keyed_word(word) {
-        Some(Route::with_key(key, SlotAddr::Master))
-    } else {
-        None
+    match cmd.arg_idx(0) {
+        None => false,
+        Some(word) => ResponsePolicy::for_command(word).is_some(),
     }
 }
 
-/// The route of a command to the primary of its key's slot, where it has one key.
-pub(crate) fn route_of(cmd: &Cmd) -> Option<Route>
-    ensures { result ≡ option_map (λ slot. record { slot = slot; slot_addr = Master }) (slot_of cmd.now.args) }
+fn route_in(info: Option<RoutingInfo>) -> Option<Route>
+    ensures { result ≡ route_in (option_map shown_info info) }
 {
-    let mut args = cmd.args_iter();
-    match (args.next(), args.next()) {
-        (Some(Arg::Simple(word)), Some(Arg::Simple(key))) => route_to(word, key),
+    match info {
+        Some(RoutingInfo::SingleNode(SingleNodeRoutingInfo::SpecificNode(route))) => Some(route),
         _ => None,
     }
+}
+
+/// The route of a command to the slot of its key, where it has one.
+pub(crate) fn route_of(
+    alloc: Global,
+    cmd: &Cmd,
+    read_only: &[Vec<u8>],
+) -> Result<Option<Route>, AllocError>
+    ensures { IfOk result (λ o. o ≡ keyed_route cmd.now.args (texts read_only.now)) }
+{
+    if joins_replies(cmd) {
+        return Ok(None);
+    }
+    let info = RoutingInfo::for_routable(alloc, cmd, read_only)?;
+    Ok(route_in(info))
 }

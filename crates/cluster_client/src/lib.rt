@@ -3,6 +3,7 @@
 
 mod asked;
 mod client;
+mod first;
 mod hops;
 mod keyed;
 mod links;
@@ -12,7 +13,13 @@ mod sending;
 
 pub use asked::Asked;
 pub use client::ClusterClient;
-pub use cluster_routing::{NodeAddress, Slot, SlotMap, parse_slots, slot_cmd};
+pub use cluster_routing::{
+    AggregateOp, AnyNodeCandidates, ClusterTopology, LogicalAggregateOp, MultiSlotArgPattern,
+    MultipleNodeRoutingInfo, NodeAddress, ReadCandidates, ReadRoutingStrategy, Redirect, Replicas,
+    ReplicasOnlyCandidates, ResponsePolicy, Routable, Route, RoutingInfo, Shard,
+    SingleNodeRoutingInfo, Slot, SlotAddr, SlotAddrs, SlotMap, SlotRange, SlotRangeMap,
+    parse_slots, slot_cmd,
+};
 pub use resp_args::{
     Arg, Cmd, FromRedisValue, RedisWrite, ToRedisArgs, ToSingleRedisArg, command, from_redis_value,
     from_redis_value_ref, pack_command,

@@ -6,7 +6,9 @@ use std::test::Fail;
 
 mod answers;
 mod faults;
+mod reads;
 mod redirects;
+mod routes;
 
 type Link = ByteLink<MemoryReader, MemoryWriter>;
 

@@ -6,12 +6,12 @@ fn an_early_end_closes_its_link_alone(rt: HostRuntime) -> Result<(), Fail> {
     let alloc = rt.alloc();
     let mut client = client(alloc, HALVES, b"$3\r\nab", b"$-1\r\n", 1)?;
     let b = get(alloc, "b")?;
-    let ended: Result<Value, RedisError> = client.query(alloc, &b, 0);
+    let ended: Result<Value, RedisError> = client.query(alloc, &b, 0, None);
     assert_eq!(rt; kind_of(ended), Some(ErrorKind::Io));
-    let closed: Result<Value, RedisError> = client.query(alloc, &b, 0);
+    let closed: Result<Value, RedisError> = client.query(alloc, &b, 0, None);
     assert_eq!(rt; kind_of(closed), Some(ErrorKind::ClusterConnectionNotFound));
     assert_sent(&rt, alloc, &client, "n1:7001", &[SLOTS, GET_B])?;
-    let a: Value = client.query(alloc, &get(alloc, "a")?, 0)?;
+    let a: Value = client.query(alloc, &get(alloc, "a")?, 0, None)?;
     assert_eq!(rt; a, Value::Nil);
     Ok(())
 }
@@ -20,9 +20,9 @@ fn an_early_end_closes_its_link_alone(rt: HostRuntime) -> Result<(), Fail> {
 fn a_faulty_reply_closes_its_link(rt: HostRuntime) -> Result<(), Fail> {
     let alloc = rt.alloc();
     let mut client = client(alloc, HALVES, b">1\r\n+OK\r\n", b"$-1\r\n", 1)?;
-    let faulty: Result<Value, RedisError> = client.query(alloc, &get(alloc, "b")?, 0);
+    let faulty: Result<Value, RedisError> = client.query(alloc, &get(alloc, "b")?, 0, None);
     assert_eq!(rt; kind_of(faulty), Some(ErrorKind::Parse));
-    let a: Value = client.query(alloc, &get(alloc, "a")?, 0)?;
+    let a: Value = client.query(alloc, &get(alloc, "a")?, 0, None)?;
     assert_eq!(rt; a, Value::Nil);
     Ok(())
 }
@@ -36,34 +36,13 @@ fn a_refused_refresh_keeps_the_map(rt: HostRuntime) -> Result<(), Fail> {
         kind_of(refused),
         Some(ErrorKind::Server(ServerErrorKind::ResponseError))
     );
-    let a: Value = client.query(alloc, &get(alloc, "a")?, 0)?;
+    let a: Value = client.query(alloc, &get(alloc, "a")?, 0, None)?;
     assert_eq!(rt; a, Value::Nil);
     let unknown = client.refresh(alloc, &node(alloc, "n9:1")?);
     assert_eq!(rt;
         kind_of(unknown),
         Some(ErrorKind::ClusterConnectionNotFound)
     );
-    Ok(())
-}
-
-#[test]
-fn other_commands_have_no_route_yet(rt: HostRuntime) -> Result<(), Fail> {
-    let alloc = rt.alloc();
-    let mut client = client(alloc, HALVES, b"", b"+OK\r\n", 1)?;
-    let mut scan = command::cmd(alloc, "SCAN")?;
-    scan.arg("0")?;
-    let refused: Result<Value, RedisError> = client.query(alloc, &scan, 0);
-    assert_eq!(rt; kind_of(refused), Some(ErrorKind::Client));
-    let mut silent = get(alloc, "a")?;
-    silent.set_no_response(true);
-    let unanswered: Result<Value, RedisError> = client.query(alloc, &silent, 0);
-    assert_eq!(rt; kind_of(unanswered), Some(ErrorKind::Client));
-    assert_eq!(rt; client.asked().len(), 0);
-    let mut set = command::cmd(alloc, "set")?;
-    set.arg("a")?;
-    set.arg(1u8)?;
-    let set: Value = client.query(alloc, &set, 0)?;
-    assert_eq!(rt; set, Value::Okay);
     Ok(())
 }
 

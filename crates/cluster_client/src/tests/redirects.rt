@@ -11,7 +11,7 @@ fn moved_is_followed(rt: HostRuntime) -> Result<(), Fail> {
         b"$1\r\n1\r\n",
         1,
     )?;
-    let a: String = client.query(alloc, &get(alloc, "a")?, 0)?;
+    let a: String = client.query(alloc, &get(alloc, "a")?, 0, None)?;
     assert_eq!(rt; a.as_str(), "1");
     assert!(rt; client.needs_refresh());
     assert_eq!(rt;
@@ -29,7 +29,7 @@ fn ask_is_followed_with_asking(rt: HostRuntime) -> Result<(), Fail> {
     for first in [b"+OK\r\n".as_slice(), b"-ERR x\r\n".as_slice()] {
         let second = joined(alloc, first, b"$1\r\n1\r\n")?;
         let mut client = client(alloc, ALL_AT_N1, b"-ASK 15495 n2:7002\r\n", &second, 1)?;
-        let a: String = client.query(alloc, &get(alloc, "a")?, 0)?;
+        let a: String = client.query(alloc, &get(alloc, "a")?, 0, None)?;
         assert_eq!(rt; a.as_str(), "1");
         assert!(rt; !client.needs_refresh());
         assert_eq!(rt;
@@ -57,7 +57,7 @@ fn a_request_after_ask_and_moved_is_plain(rt: HostRuntime) -> Result<(), Fail> {
         b"+OK\r\n-MOVED 15495 n1:7001\r\n",
         2,
     )?;
-    let a: String = client.query(alloc, &get(alloc, "a")?, 0)?;
+    let a: String = client.query(alloc, &get(alloc, "a")?, 0, None)?;
     assert_eq!(rt; a.as_str(), "1");
     assert!(rt; client.needs_refresh());
     assert_eq!(rt;
@@ -71,7 +71,7 @@ fn a_request_after_ask_and_moved_is_plain(rt: HostRuntime) -> Result<(), Fail> {
 fn a_redirect_past_the_budget_is_told(rt: HostRuntime) -> Result<(), Fail> {
     let alloc = rt.alloc();
     let mut client = client(alloc, ALL_AT_N1, b"-MOVED 15495 n2:7002\r\n", b"", 0)?;
-    let refused: Result<Value, RedisError> = client.query(alloc, &get(alloc, "a")?, 0);
+    let refused: Result<Value, RedisError> = client.query(alloc, &get(alloc, "a")?, 0, None);
     assert_eq!(rt;
         kind_of(refused),
         Some(ErrorKind::Server(ServerErrorKind::Moved))
@@ -85,7 +85,7 @@ fn a_redirect_past_the_budget_is_told(rt: HostRuntime) -> Result<(), Fail> {
 fn a_redirect_without_a_host_is_told(rt: HostRuntime) -> Result<(), Fail> {
     let alloc = rt.alloc();
     let mut client = client(alloc, ALL_AT_N1, b"-MOVED 15495 :7002\r\n", b"", 1)?;
-    let refused: Result<Value, RedisError> = client.query(alloc, &get(alloc, "a")?, 0);
+    let refused: Result<Value, RedisError> = client.query(alloc, &get(alloc, "a")?, 0, None);
     assert_eq!(rt;
         kind_of(refused),
         Some(ErrorKind::Server(ServerErrorKind::Moved))
@@ -97,7 +97,7 @@ fn a_redirect_without_a_host_is_told(rt: HostRuntime) -> Result<(), Fail> {
 fn a_redirect_to_an_unknown_node_finds_no_link(rt: HostRuntime) -> Result<(), Fail> {
     let alloc = rt.alloc();
     let mut client = client(alloc, ALL_AT_N1, b"-MOVED 15495 n9:1\r\n", b"", 1)?;
-    let refused: Result<Value, RedisError> = client.query(alloc, &get(alloc, "a")?, 0);
+    let refused: Result<Value, RedisError> = client.query(alloc, &get(alloc, "a")?, 0, None);
     assert_eq!(rt;
         kind_of(refused),
         Some(ErrorKind::ClusterConnectionNotFound)
@@ -116,10 +116,10 @@ fn the_number_of_a_redirect_need_not_be_a_slot(rt: HostRuntime) -> Result<(), Fa
         b"$-1\r\n",
         1,
     )?;
-    let a: Value = client.query(alloc, &get(alloc, "a")?, 0)?;
+    let a: Value = client.query(alloc, &get(alloc, "a")?, 0, None)?;
     assert_eq!(rt; a, Value::Nil);
     let mut other = self::client(alloc, ALL_AT_N1, b"-MOVED 99999 n2:7002\r\n", b"", 1)?;
-    let refused: Result<Value, RedisError> = other.query(alloc, &get(alloc, "a")?, 0);
+    let refused: Result<Value, RedisError> = other.query(alloc, &get(alloc, "a")?, 0, None);
     assert_eq!(rt;
         kind_of(refused),
         Some(ErrorKind::Server(ServerErrorKind::Moved))
@@ -132,14 +132,14 @@ fn moved_inside_an_array_is_no_redirect(rt: HostRuntime) -> Result<(), Fail> {
     let alloc = rt.alloc();
     let replies = b"*1\r\n-MOVED 15495 n1:7001\r\n$1\r\n5\r\n";
     let mut client = client(alloc, HALVES, b"", replies, 1)?;
-    let refused: Result<Value, RedisError> = client.query(alloc, &get(alloc, "a")?, 0);
+    let refused: Result<Value, RedisError> = client.query(alloc, &get(alloc, "a")?, 0, None);
     assert_eq!(rt;
         kind_of(refused),
         Some(ErrorKind::Server(ServerErrorKind::Moved))
     );
     assert_eq!(rt; client.asked().len(), 1);
     assert!(rt; !client.needs_refresh());
-    let next: i64 = client.query(alloc, &get(alloc, "a")?, 0)?;
+    let next: i64 = client.query(alloc, &get(alloc, "a")?, 0, None)?;
     assert_eq!(rt; next, 5);
     Ok(())
 }

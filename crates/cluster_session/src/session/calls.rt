@@ -62,7 +62,7 @@ pub(super) fn query(
     command: &Cmd,
     picks: u64,
 ) -> Result<Value, RedisError> {
-    client.query(alloc, command, picks)
+    client.query(alloc, command, picks, None)
 }
 
 /// The last call's requests in order of sending.

@@ -3,7 +3,7 @@ use Rattle.std.proofs.lemmas.Result.{err_from_is_err_and}
 use Rattle.resp_core.specs.Errors.{by_cause}
 use Rattle.resp_core.specs.declared.errors.redis_error.Cause.TheVariants.{Memory}
 use Rattle.resp_args.specs.Packed.{sent}
-use Rattle.cluster_routing.specs.Seen.{address}
+use Rattle.cluster_routing.specs.Seen.{address, addresses}
 use Rattle.cluster_client.specs.Request.{slots_command}
 use Rattle.cluster_client.specs.World.{nodes, open_links, is_linked}
 use Rattle.cluster_client.specs.Places.{IsOpenAt}
@@ -13,7 +13,7 @@ use Rattle.cluster_client.proofs.client.ClusterClient.refresh.Goals as goal
 pub returns-in_default : goal.returns-in_default
 returns-in_default g c =
     let shut : is_linked (open_links (nodes g.L.ConnectionLike.seen c.args.self.now.links.items)) (address c.args.node.now) ≡ false = rw (← c.deref.ensures.value) c.in_default.ensures.place in
-    record { played = λ m. rw c.from.ensures (both _ _ _ _ (refresh_unlinked _ _ _ shut refl c.new.ensures.items refl refl refl)) }
+    record { played = λ m. rw c.from.ensures (both _ _ _ _ (refresh_unlinked _ _ _ shut refl c.new.ensures.items refl refl refl)); picks = ap addresses c.new-2.ensures.items }
 
 pub returns-in_err-reply : goal.returns-in_err-reply
 returns-in_err-reply g c =
@@ -26,6 +26,7 @@ returns-in_err-reply g c =
           rw (p.1, p.2) (both _ _ _ _ (refresh_err_by _ _ (address c.args.node.now) c.in-Some.which at _ are
           (c.in_err-reply.ensures.logged (λ k. had (cc k)) ∙ ap (λ xs. xs ++ direct_to (address c.args.node.now) (map (λ (a : Vec ℕ Global). a.items) c.deref-2.result.now) ∷ []) c.new.ensures.items) refl c.in_err-reply.field-0.0
           (c.in_err-reply.ensures.calls (λ k. had (cc k))) had refl refl));
+      picks = ap addresses c.new-2.ensures.items;
     }
 
 pub returns-in_err-self : goal.returns-in_err-self
@@ -40,6 +41,7 @@ returns-in_err-self g c =
           rw (p.1, p.2, told.2) (both _ _ _ _ (refresh_refused_by _ _ (address c.args.node.now) c.in-Some.which at _ are
           (c.in_ok-reply.ensures.logged (λ k. cc k) ∙ ap (λ xs. xs ++ direct_to (address c.args.node.now) (map (λ (a : Vec ℕ Global). a.items) c.deref-2.result.now) ∷ []) c.new.ensures.items) refl _ told.0
           (c.in_ok-reply.ensures.calls (λ k. cc k)) told.1 refl refl));
+      picks = ap addresses c.new-2.ensures.items;
     }
 
 pub returns : goal.returns
@@ -51,4 +53,5 @@ returns g c =
       played = λ m. both _ _ _ _ (refresh_ok_by _ _ (address c.args.node.now) c.in-Some.which at _ are
           (c.in_ok-reply.ensures.logged (λ k. cc k) ∙ ap (λ xs. xs ++ direct_to (address c.args.node.now) (map (λ (a : Vec ℕ Global). a.items) c.deref-2.result.now) ∷ []) c.new.ensures.items) refl _
           (c.in_ok-reply.ensures.calls (λ k. cc k)) listed.0 listed.1 refl);
+      picks = ap addresses c.new-2.ensures.items;
     }

@@ -1,92 +1,35 @@
-use Rattle.std.proofs.Common.{Vec, Global, ℕ, map, subst, ◌≡◌, ◌≢◌, ◌<◌, ◌∙◌, refl, sym, ap, Ok, Err, length}
+use Rattle.std.proofs.Common.{◌≡◌, ◌≢◌, ◌∙◌, refl, sym, ap, subst, Vec, Global, Err}
 use Rattle.std.proofs.lemmas.Result.{err_from_is_err_and}
-use Rattle.std.specs.Prelude.{Some, None}
 use Rattle.resp_core.specs.Errors.{by_cause}
 use Rattle.resp_core.specs.declared.errors.redis_error.Cause.TheVariants.{Memory}
-use Rattle.std.proofs.lemmas.List.{length-map}
+use Rattle.cluster_routing.specs.Info.{texts}
+use Rattle.cluster_routing.specs.Seen.{address, addresses}
+use Rattle.cluster_client.specs.World.{nodes, open_links, viewed}
 use Rattle.resp_core.specs.View.{view}
-use Rattle.resp_args.specs.Packed.{sent}
+use Rattle.cluster_routing.specs.declared.address.NodeAddress.{NodeAddress}
 use Rattle.cluster_client.specs.Answer.{told}
-use Rattle.cluster_routing.specs.Seen.{address}
-use Rattle.cluster_client.specs.World.{nodes, open_links}
-use Rattle.cluster_client.specs.Places.{IsOpenAt}
-use Rattle.cluster_client.specs.Plan.{first_node, next_of}
-use Rattle.cluster_client.specs.Hops.{hop_to}
-use Rattle.cluster_client.proofs.OneCall.{both, query_unplanned, loop_start, query_err_by, query_end_by, query_more_by}
+use Rattle.cluster_client.specs.Played.{CallMade}
+use Rattle.cluster_client.specs.Whole.{whole}
+use Rattle.cluster_client.specs.Plan.{Query, first_node}
+use Rattle.cluster_client.proofs.OneCall.{both, query_unplanned, from_begun}
 use Rattle.cluster_client.proofs.client.ClusterClient.reply_to.Goals as goal
 
-pub returns-in_err-place : goal.returns-in_err-place
-returns-in_err-place g c =
+pub returns-in_err-place-clause-played : goal.returns-in_err-place-clause-played
+returns-in_err-place-clause-played g c = λ m.
     let p = err_from_is_err_and c.from_residual.result c.from_residual.ensures.1 in
-    record {
-      played = λ m.
-          let had : c.in_err-place.field-0.0 ≢ by_cause Memory = λ k. m (p.1 ∙ ap Err (p.2 ∙ k)) in
-          let shut : first_node (open_links (nodes g.L.ConnectionLike.seen c.args.self.now.links.items)) c.args.self.now.slots c.args.cmd.now ≡ Err c.in_err-place.field-0.0 =
-          rw (← c.deref.ensures.value) (sym (c.in_err-place.ensures.node (λ k. had (cc k)))) in
-          rw (p.1, p.2) (both _ _ _ _ (query_unplanned _ _ _ _ shut refl c.new.ensures.items refl refl refl));
-    }
+    let had : c.in_err-place.field-0.0 ≢ by_cause Memory = λ k. m (p.1 ∙ ap Err (p.2 ∙ k)) in
+    let shut : first_node (open_links (nodes g.L.ConnectionLike.seen c.args.self.now.links.items)) c.args.self.now.slots (texts c.args.self.now.read_only.items) c.args.cmd.now (addresses c.first_place.new.picked.items) ≡ Err c.in_err-place.field-0.0 =
+    rw (← c.deref.ensures.value, ← c.deref-2.ensures.value) (sym (c.in_err-place.ensures.node (λ k. had (cc k)))) in
+    rw (p.1, p.2) (both _ _ _ _ (query_unplanned _ _ _ _ _ shut refl c.new.ensures.items refl refl refl))
 
-pub requests-init : goal.requests-init
-requests-init g c =
-    let planned : first_node (open_links (nodes g.L.ConnectionLike.seen c.args.self.now.links.items)) c.args.self.now.slots c.args.cmd.now ≡ Ok (address c.in_ok-place.place.node) =
-    rw (← c.deref.ensures.value) (sym (c.in_ok-place.ensures.node (λ k. cc k))) in
-    let at : IsOpenAt (nodes g.L.ConnectionLike.seen c.args.self.now.links.items) (address c.in_ok-place.place.node) c.in_ok-place.place.which = rw (← c.deref.ensures.value) c.in_ok-place.ensures.place in
-    let within : c.in_ok-place.place.which < length c.args.self.now.links.items = rw (← c.deref.ensures.value) c.in_ok-place.ensures.within in
-    record {
-      loop = loop_start _ _ _ _ _ planned c.in_ok-place.ensures.direct at refl c.new.ensures.items refl refl refl;
-      within = rw c.args.self.now.links.ok.0 within;
-    }
+pub returns-in_err-place-clause-picks : goal.returns-in_err-place-clause-picks
+returns-in_err-place-clause-picks g c = λ m.
+    let p = err_from_is_err_and c.from_residual.result c.from_residual.ensures.1 in
+    let had : c.in_err-place.field-0.0 ≢ by_cause Memory = λ k. m (p.1 ∙ ap Err (p.2 ∙ k)) in
+    rw c.deref-2.ensures.value at (c.in_err-place.ensures.picks (λ k. had (cc k)))
 
-pub returns-in_err-reply : goal.returns-in_err-reply
-returns-in_err-reply g c =
-    let p = err_from_is_err_and c.from_residual-in_err-reply.result c.from_residual-in_err-reply.ensures.1 in
-    let are : map (λ (a : Vec ℕ Global). a.items) c.deref-in-requests.result.now ≡ sent c.args.cmd.now = ap (λ xs. map (λ (a : Vec ℕ Global). a.items) xs) c.deref-in-requests.ensures.value ∙ c.in_ok-args.ensures in
-    record {
-      played = λ m.
-          let had : c.in_err-reply.field-0.0 ≢ by_cause Memory = λ k. m (p.1 ∙ ap Err (p.2 ∙ k)) in
-          rw (p.1, p.2) (both _ _ _ _ (query_err_by _ _ _ _ _ _ _ c.requests.invariant.loop _ are (c.in_err-reply.ensures.logged (λ k. had (cc k))) refl refl c.in_err-reply.field-0.0 had
-          (c.in_err-reply.ensures.calls (λ k. had (cc k))) refl));
-    }
-
-pub returns-in_err-value : goal.returns-in_err-value
-returns-in_err-value g c =
-    let p = err_from_is_err_and c.from_residual-in_err-value.result c.from_residual-in_err-value.ensures.1 in
-    let are : map (λ (a : Vec ℕ Global). a.items) c.deref-in-requests.result.now ≡ sent c.args.cmd.now = ap (λ xs. map (λ (a : Vec ℕ Global). a.items) xs) c.deref-in-requests.ensures.value ∙ c.in_ok-args.ensures in
-    let next = next_of (open_links (nodes g.L.ConnectionLike.seen c.deref-in-requests-2.result.now)) c.requests.left (Some (view c.in_ok-reply.reply)) in
-    let is : next_of (open_links (nodes g.L.ConnectionLike.seen c.send.new.links.items)) c.requests.left (Some (view c.in_ok-reply.reply)) ≡ next =
-    ap (λ ls. next_of (open_links (nodes g.L.ConnectionLike.seen ls)) c.requests.left (Some (view c.in_ok-reply.reply))) (sym c.deref-in-requests-2.ensures.value) in
-    record {
-      played = λ m.
-          let had : c.in_err-value.field-0.0 ≢ by_cause Memory = λ k. m (p.1 ∙ ap Err (p.2 ∙ k)) in
-          let ends = c.in_err-value.ensures.ends (λ k. had (cc k)) in
-          rw (p.1, p.2, ap told ends.1) (both _ _ _ _ (query_end_by _ _ _ _ _ _ _ c.requests.invariant.loop _ are (c.in_ok-reply.ensures.logged (λ k. cc k)) refl refl (view c.in_ok-reply.reply) next
-          (c.in_ok-reply.ensures.calls (λ k. cc k)) is ends.0 c.needs_refresh-self.ensures));
-    }
-
-pub returns-in-Answered : goal.returns-in-Answered
-returns-in-Answered g c =
-    let are : map (λ (a : Vec ℕ Global). a.items) c.deref-in-requests.result.now ≡ sent c.args.cmd.now = ap (λ xs. map (λ (a : Vec ℕ Global). a.items) xs) c.deref-in-requests.ensures.value ∙ c.in_ok-args.ensures in
-    let next = next_of (open_links (nodes g.L.ConnectionLike.seen c.deref-in-requests-2.result.now)) c.requests.left (Some (view c.in_ok-reply.reply)) in
-    let is : next_of (open_links (nodes g.L.ConnectionLike.seen c.send.new.links.items)) c.requests.left (Some (view c.in_ok-reply.reply)) ≡ next =
-    ap (λ ls. next_of (open_links (nodes g.L.ConnectionLike.seen ls)) c.requests.left (Some (view c.in_ok-reply.reply))) (sym c.deref-in-requests-2.ensures.value) in
-    let ends = rw c.in-Answered.is at (c.in_ok-value.ensures.ends (λ k. cc k)) in
-    record {
-      played = λ m. rw (ap told ends.1) (both _ _ _ _ (query_end_by _ _ _ _ _ _ _ c.requests.invariant.loop _ are (c.in_ok-reply.ensures.logged (λ k. cc k)) refl refl (view c.in_ok-reply.reply) next
-          (c.in_ok-reply.ensures.calls (λ k. cc k)) is ends.0 c.needs_refresh-self.ensures));
-    }
-
-pub requests-preserved : goal.requests-preserved
-requests-preserved g c =
-    let are : map (λ (a : Vec ℕ Global). a.items) c.deref-in-requests.result.now ≡ sent c.args.cmd.now = ap (λ xs. map (λ (a : Vec ℕ Global). a.items) xs) c.deref-in-requests.ensures.value ∙ c.in_ok-args.ensures in
-    let is : next_of (open_links (nodes g.L.ConnectionLike.seen c.send.new.links.items)) c.requests.left (Some (view c.in_ok-reply.reply)) ≡ next_of (open_links (nodes g.L.ConnectionLike.seen c.deref-in-requests-2.result.now)) c.requests.left (Some (view c.in_ok-reply.reply)) =
-    ap (λ ls. next_of (open_links (nodes g.L.ConnectionLike.seen ls)) c.requests.left (Some (view c.in_ok-reply.reply))) (sym c.deref-in-requests-2.ensures.value) in
-    let goes = rw c.in-On.is at (c.in_ok-value.ensures.ends (λ k. cc k)) in
-    let on = rw c.in-On.is at c.in_ok-value.ensures.on in
-    let some = rw c.in-On.is at c.in_ok-value.ensures.some in
-    let at : IsOpenAt (nodes g.L.ConnectionLike.seen c.send.new.links.items) (address c.in-On.next.node) c.in-On.next.which = rw (← c.deref-in-requests-2.ensures.value) on.0 in
-    let within : c.in-On.next.which < length c.send.new.links.items = rw (← c.deref-in-requests-2.ensures.value) (rw length-map at on.1) in
-    record {
-      loop = query_more_by _ _ _ _ _ _ _ c.requests.invariant.loop _ are (c.in_ok-reply.ensures.logged (λ k. cc k)) refl refl (view c.in_ok-reply.reply) (hop_to c.in-On.next) c.in-On.next.which
-          (c.in_ok-reply.ensures.calls (λ k. cc k)) (is ∙ goes) (some refl) at c.needs_refresh-self.ensures;
-      within = rw c.send.new.links.ok.0 within;
-    }
+pub returns-clause-played : goal.returns-clause-played
+returns-clause-played g c = λ m.
+    let same : addresses c.first_place.new.picked.items ≡ addresses c.reply_from.new.self.picked.items = ap (λ (v : Vec NodeAddress Global). addresses v.items) (sym c.reply_from.ensures.picks) in
+    subst (λ ps. CallMade (whole g.L.ConnectionLike.seen c.args.self.now) (whole g.L.ConnectionLike.seen c.reply_from.new.self) (Query c.args.cmd.now ps) (told (viewed view c.reply_from.result))) same
+    (from_begun (whole g.L.ConnectionLike.seen c.args.self.now) _ _ _ _ _ (c.reply_from.ensures.played m))
