@@ -1,6 +1,6 @@
 # make play             builds the program and plays examples/sessions/moved.session
 # make play SESSION=F   plays the session in the file F
-# make test             the gate (every proof, test and must-fail edit), then every session
+# make test             the gate (every proof, test and must-fail edit), every session, and memory refused
 # make bench            times 10,000 and 20,000 queries
 SESSION ?= examples/sessions/moved.session
 

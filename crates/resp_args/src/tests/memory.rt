@@ -1,9 +1,13 @@
-//! One allocation is refused, whichever: the object is as it was, and the same call then succeeds.
+//! One request for memory is refused, whichever: `tools/refused-tests` plays each test once for each.
+//!
+//! A test prints a line `refused CALL` where a call is refused, sees what then stands, and goes on;
+//! no further call may be refused.
 use crate::tests::conversions::{parsed, reply};
-use crate::{Cmd, from_redis_value, from_redis_value_ref};
+use crate::{Arg, Cmd, from_redis_value, from_redis_value_ref};
 use indexmap::IndexMap;
-use resp_core::Value;
-use std::alloc::{AllocError, Global};
+use resp_core::{RedisError, Value};
+use std::alloc::Global;
+use std::io::Print;
 use std::process::Abort;
 use std::test::Fail;
 
@@ -12,38 +16,70 @@ const WORDS: [&str; 9] = [
 ];
 
 const PACKED: &[u8] =
-    b"*10\r\n$3\r\none\r\n$3\r\ntwo\r\n$5\r\nthree\r\n$4\r\nfour\r\n$4\r\nfive\r\n$3\r\nsix\r\n$5\r\nseven\r\n$5\r\neight\r\n$4\r\nnine\r\n$2\r\n10\r\n";
+    b"x*10\r\n$3\r\none\r\n$3\r\ntwo\r\n$5\r\nthree\r\n$4\r\nfour\r\n$4\r\nfive\r\n$3\r\nsix\r\n$5\r\nseven\r\n$5\r\neight\r\n$4\r\nnine\r\n$2\r\n10\r\n";
 
-fn len(command: &Cmd) -> usize {
-    let mut n = 0;
-    for _ in command.args_iter() {
-        n = if n < 100 { n + 1 } else { n };
+// The command has this many of the words, in order, and no more.
+fn has_words<R: Abort>(rt: &R, command: &Cmd, count: usize) {
+    let mut found = command.args_iter();
+    for word in WORDS.iter().take(count) {
+        assert!(rt; found.next() == Some(Arg::Simple(word.as_bytes())));
     }
-    n
+    assert!(rt; found.next().is_none());
+    assert!(rt; !command.in_scan_mode());
+}
+
+fn add_words<R: Abort + Print>(rt: &R, command: &mut Cmd) -> Result<(), Fail> {
+    let mut count = 0;
+    for word in WORDS.iter().take(7) {
+        if command.arg(*word).is_err() {
+            println!(rt; "refused arg")?;
+            has_words(rt, command, count);
+            command.arg(*word)?;
+        }
+        count = if count < 7 { count + 1 } else { count };
+    }
+    if command.arg((WORDS[7], WORDS[8])).is_err() {
+        println!(rt; "refused arg of two")?;
+        has_words(rt, command, 7);
+        command.arg((WORDS[7], WORDS[8]))?;
+    }
+    if command.cursor_arg(10).is_err() {
+        println!(rt; "refused cursor_arg")?;
+        has_words(rt, command, 9);
+        command.cursor_arg(10)?;
+    }
+    Ok(())
+}
+
+// Behind a byte that stands in the buffer.
+fn is_packed<R: Abort + Print>(rt: &R, alloc: Global, command: &Cmd) -> Result<(), Fail> {
+    let mut out = Vec::new(alloc);
+    if out.push(b'x').is_err() {
+        println!(rt; "refused push")?;
+        out.push(b'x')?;
+    }
+    if command.write_packed_command(&mut out).is_err() {
+        println!(rt; "refused write_packed_command")?;
+        assert_eq!(rt; out.as_slice(), b"x".as_slice());
+        command.write_packed_command(&mut out)?;
+    }
+    assert_eq!(rt; out.as_slice(), PACKED);
+    Ok(())
 }
 
 #[test]
 fn ten_arguments(rt: HostRuntime) -> Result<(), Fail> {
     let mut command = Cmd::new(rt.alloc());
-    for word in WORDS {
-        let before = len(&command);
-        if command.arg(word).is_err() {
-            assert_eq!(rt; len(&command), before);
-            command.arg(word)?;
+    add_words(&rt, &mut command)?;
+    is_packed(&rt, rt.alloc(), &command)?;
+    let copy = match command.clone() {
+        Ok(copy) => copy,
+        Err(_) => {
+            println!(rt; "refused clone")?;
+            command.clone()?
         }
-    }
-    if command.cursor_arg(10).is_err() {
-        assert_eq!(rt; len(&command), 9);
-        assert!(rt; !command.in_scan_mode());
-        command.cursor_arg(10)?;
-    }
-    let mut out = Vec::new(rt.alloc());
-    if command.write_packed_command(&mut out).is_err() {
-        assert_eq!(rt; out.len(), 0);
-        command.write_packed_command(&mut out)?;
-    }
-    assert_eq!(rt; out.as_slice(), PACKED);
-    Ok(())
+    };
+    is_packed(&rt, rt.alloc(), &copy)
 }
 
 const NESTED: &[u8] = b"%2\r\n+a\r\n*2\r\n*2\r\n:1\r\n$1\r\nx\r\n%1\r\n:2\r\n+y\r\n+b\r\n_\r\n";
@@ -68,32 +104,43 @@ fn is_nested<R: Abort>(rt: &R, fields: &Nested) {
     }
 }
 
-fn nested_reply(alloc: Global) -> Result<Value, Fail> {
+fn nested_reply<R: Print>(rt: &R, alloc: Global) -> Result<Value, Fail> {
     match parsed(alloc, NESTED) {
         Some(value) => Ok(value),
-        None => reply(alloc, NESTED),
+        None => {
+            println!(rt; "refused reply")?;
+            reply(alloc, NESTED)
+        }
     }
 }
 
-fn copied(value: &Value) -> Result<Value, AllocError> {
+fn copied<R: Print>(rt: &R, value: &Value) -> Result<Value, Fail> {
     match value.clone() {
         Ok(copy) => Ok(copy),
-        Err(_) => value.clone(),
+        Err(_) => {
+            println!(rt; "refused clone")?;
+            Ok(value.clone()?)
+        }
     }
 }
 
 #[test]
 fn nested_conversion(rt: HostRuntime) -> Result<(), Fail> {
-    let value = nested_reply(rt.alloc())?;
-    let owned = copied(&value)?;
+    let value = nested_reply(&rt, rt.alloc())?;
+    let owned = copied(&rt, &value)?;
     match from_redis_value::<Nested>(rt.alloc(), owned) {
         Ok(fields) => is_nested(&rt, &fields),
-        Err(e) => assert!(rt; e.is_memory()),
+        Err(e) => {
+            println!(rt; "refused from_redis_value")?;
+            assert_eq!(rt; RedisError::from(e).number(), 17);
+            is_nested(&rt, &from_redis_value(rt.alloc(), value.clone()?)?);
+        }
     }
     match from_redis_value_ref::<Nested>(rt.alloc(), &value) {
         Ok(fields) => is_nested(&rt, &fields),
         Err(e) => {
-            assert!(rt; e.is_memory());
+            println!(rt; "refused from_redis_value_ref")?;
+            assert_eq!(rt; RedisError::from(e).number(), 17);
             is_nested(&rt, &from_redis_value_ref(rt.alloc(), &value)?);
         }
     }
