@@ -1,6 +1,7 @@
 //! What the crate answers at known values.
 
 mod maps;
+mod memory;
 mod names;
 mod nodes;
 mod routes;
