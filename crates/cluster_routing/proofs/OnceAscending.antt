@@ -1,17 +1,15 @@
 -- Addresses put into their places ascend, and none is lost or added.
-use Rattle.std.proofs.Common.{◌≡◌, ℕ, Bool, true, false, ◌&&◌, ◌||◌, ◌==◌, List, [], ◌∷◌, fold, refl, sym, ap, ◌∙◌}
-use Rattle.std.specs.Bool.{⊤}
+use Rattle.std.proofs.Common.{◌≡◌, ℕ, Bool, true, false, ◌||◌, List, [], ◌∷◌, refl, sym, ap, ◌∙◌}
 use Rattle.std.specs.Ordering.{match_ordering, nat_cmp, ordering_reverse, is_eq}
-use Rattle.std.specs.Cmp.{IsTotalOrder, nat_cmp_total, unsigned_tied}
+use Rattle.std.specs.Cmp.{nat_cmp_total, unsigned_tied}
 use Rattle.std.specs.Cmp.Lexicographic.{slice_cmp, nat_list_cmp_total, bytes_decides}
 use Rattle.std.specs.declared.cmp.Ordering.{Ordering}
 use Rattle.std.specs.declared.cmp.Ordering.TheVariants.{Less, Equal, Greater}
-use Rattle.std.specs.Str.{bytes_eq}
 use Rattle.std.proofs.lemmas.Bool.{eqb-true}
 use Rattle.std.proofs.lemmas.Map.Text.{is_eq-slice_cmp}
 use Rattle.cluster_routing.specs.Address.{Address, address_cmp, same_address}
 use Rattle.cluster_routing.specs.Lists.{among}
-use Rattle.cluster_routing.specs.AllNodes.{ascending, put_address, put_addresses}
+use Rattle.cluster_routing.specs.AllNodes.{put_address, put_addresses}
 use Rattle.cluster_routing.specs.Laws.{AddressesAscend, IsBelowFirst, EachAddressOnce}
 
 -- what is not below and not equal is above

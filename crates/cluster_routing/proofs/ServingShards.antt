@@ -1,5 +1,6 @@
 -- The shards of a map, put together again, are the map.
-use Rattle.std.proofs.Common.{◌≡◌, ℕ, ◌<◌, Bool, true, false, not, ◌&&◌, ◌||◌, nat_lt, ◌==◌, if◌then◌else◌, List, [], ◌∷◌, ◌++◌, map, filter, refl, sym, ap, ◌∙◌, subst, append_assoc, arith, Option, Some, None, option_map}
+use Rattle.std.proofs.Common.{◌≡◌, ℕ, ◌<◌, Bool, true, false, not, ◌||◌, nat_lt, ◌==◌, if◌then◌else◌, List, [], ◌∷◌, ◌++◌, map, filter, refl, sym, ap, ◌∙◌, subst, append_assoc, arith, Option, Some, None, option_map, Result, Ok, Err}
+use Rattle.std.specs.Prelude.{IfOk}
 use Rattle.std.specs.Bool.{⊤}
 use Rattle.std.proofs.lemmas.Bool.Decides.{nat_tests}
 use Rattle.cluster_routing.specs.AllNodes.{node_sets}
@@ -185,6 +186,14 @@ whole entries h =
 
 serves : (entries : SlotEntries) (slot : ℕ) → IsAscending entries → option_map (λ s. s.nodes) (shard_at slot (shards_of entries)) ≡ nodes_at slot entries
 serves entries slot h = sym (value_at-values (λ s. s.nodes) slot (put_shards [] (shards_of entries))) ∙ ap (value_at slot) (whole entries h)
+
+serves_as : (topology : List ShardOf) (entries : SlotEntries) → topology ≡ shards_of entries → IsAscending entries → (slot : ℕ) → option_map (λ s. s.nodes) (shard_at slot topology) ≡ nodes_at slot entries
+serves_as topology entries e h slot = ap (λ t. option_map (λ s. s.nodes) (shard_at slot t)) e ∙ serves entries slot h
+
+pub serves_if : {E : Type 0} (made : Result (List ShardOf) E) (shards : List ShardOf) (entries : SlotEntries) → shards ≡ shards_of entries → IsAscending entries → IfOk made (λ t. t ≡ shards)
+    → IfOk made (λ t. (slot : ℕ) → option_map (λ s. s.nodes) (shard_at slot t) ≡ nodes_at slot entries)
+serves_if (Ok topology) shards entries e h is = serves_as topology entries (is ∙ e) h
+serves_if (Err x) shards entries e h is = tt
 
 primary_of : (o : Option ShardOf) → option_map (λ s. s.nodes.primary) o ≡ option_map (λ n. n.primary) (option_map (λ s. s.nodes) o)
 primary_of None = refl

@@ -21,3 +21,4 @@ pub mod Routing
 pub mod Info
 pub mod Laws
 pub mod Examples
+pub mod ExampleRoutes

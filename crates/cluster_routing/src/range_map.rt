@@ -76,7 +76,8 @@ impl<V> SlotRangeMap<V> {
 
     /// The values, by ascending ends of their ranges.
     pub fn values(&self) -> SlotRangeValues<'_, V>
-        ensures { result ≡ map (λ e. e.1.1) self.now }
+        ensures values { result ≡ map (λ e. e.1.1) self.now }
+        ensures ascending { IsAscending self.now }
     {
         SlotRangeValues {
             left: self.by_end.iter(),

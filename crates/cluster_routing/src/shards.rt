@@ -1,12 +1,14 @@
 //! The shards that a map of slots makes.
 
-ghost use Rattle.std.specs.Prelude.{◌≡◌, map, IfOk};
+ghost use Rattle.std.specs.Prelude.{◌≡◌, ℕ, map, option_map, IfOk};
 ghost use Rattle.std.specs.Cmp.Lexicographic.{pointwise};
 ghost use Rattle.cluster_routing.specs.Address.{same_address};
 ghost use Rattle.cluster_routing.specs.AllNodes.{node_sets};
 ghost use Rattle.cluster_routing.specs.Lists.{among, firsts};
+ghost use Rattle.cluster_routing.specs.Ranges.{IsAscending};
 ghost use Rattle.cluster_routing.specs.Seen.{addresses};
-ghost use Rattle.cluster_routing.specs.Topology.{same_nodes, shard_with, shards_of, spans_of};
+ghost use Rattle.cluster_routing.specs.SlotMap.{nodes_at};
+ghost use Rattle.cluster_routing.specs.Topology.{same_nodes, shard_at, shard_with, shards_of, spans_of};
 
 use crate::address::NodeAddress;
 use crate::range::SlotAddrs;
@@ -18,24 +20,27 @@ use std::alloc::{AllocError, Global};
 impl SlotMap {
     /// The shards of the map: its sets of nodes in order of first appearance, by ascending ends
     /// of the ranges, each with its ranges. Ranges belong to one shard where their primaries are
-    /// equal, and their replicas in order.
+    /// equal, and their replicas in order. So each slot has the shard of the nodes that the map
+    /// has for it.
     ///
     /// # Errors
     /// `AllocError` where memory is refused.
     pub fn topology(&self, alloc: Global) -> Result<ClusterTopology, AllocError>
-        ensures { IfOk result (λ t. t ≡ shards_of self.now) }
+        ensures shards { IfOk result (λ t. t ≡ shards_of self.now) }
+        ensures serves { IfOk result (λ t. (slot : ℕ) → option_map (λ s. s.nodes) (shard_at slot t) ≡ nodes_at slot self.now) }
     {
         let sets = distinct_nodes(alloc, self.slot_ranges())?;
         ClusterTopology::from_shards(alloc, shards_with(alloc, self.slot_ranges(), &sets)?)
     }
 }
 
-/// Each set of nodes, in order of first appearance.
+/// Each set of nodes, in order of first appearance. The ends of the ranges ascend.
 fn distinct_nodes(
     alloc: Global,
     ranges: &SlotRangeMap<SlotAddrs>,
 ) -> Result<Vec<&SlotAddrs>, AllocError>
-    ensures { IfOk result (λ v. map (λ n. n.now) v.items ≡ firsts same_nodes (node_sets ranges.now)) }
+    ensures sets { IfOk result (λ v. map (λ n. n.now) v.items ≡ firsts same_nodes (node_sets ranges.now)) }
+    ensures ascending { IsAscending ranges.now }
 {
     let mut seen = Vec::new(alloc);
     'ranges: for nodes in ranges.values() {

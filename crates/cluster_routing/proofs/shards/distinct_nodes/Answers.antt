@@ -5,7 +5,7 @@ use Rattle.cluster_routing.proofs.DistinctNodes.{none_gathered, passed_by, gathe
 use Rattle.cluster_routing.proofs.shards.distinct_nodes.Goals as goal
 
 pub ranges-2-init : goal.ranges-2-init
-ranges-2-init c = none_gathered c.args.ranges.now _ _ c.new-seen.ensures.items (c.into_iter-nodes-iterator.ensures.into_iter_gives ∙ c.values-nodes-items.ensures)
+ranges-2-init c = none_gathered c.args.ranges.now _ _ c.new-seen.ensures.items (c.into_iter-nodes-iterator.ensures.into_iter_gives ∙ c.values-nodes-items.ensures.values)
 
 pub ranges-2-preserved-in-Continue-1 : goal.ranges-2-preserved-in-Continue-1
 ranges-2-preserved-in-Continue-1 c =

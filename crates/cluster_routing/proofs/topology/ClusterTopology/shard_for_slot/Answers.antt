@@ -1,4 +1,4 @@
-use Rattle.std.proofs.Common.{◌≡◌, ◌∙◌, ap, Option, option_and_then}
+use Rattle.std.proofs.Common.{◌∙◌, ap, option_and_then}
 use Rattle.std.specs.Prelude.{slice_get}
 use Rattle.cluster_routing.specs.Ranges.{value_at}
 use Rattle.cluster_routing.specs.Topology.{shard_at}
