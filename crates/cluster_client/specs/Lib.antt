@@ -14,3 +14,5 @@ pub mod Converted
 pub mod Hops
 pub mod Whole
 pub mod Examples
+pub mod ExampleCalls
+pub mod WrongRules
