@@ -48,7 +48,7 @@ Reading-next {f = f} {view = view} {meaning = meaning} {all = all} {done = done}
 -- or refused, and so is the whole
 pub Reading-refused : {V A B S : Type 0} {f : A → Option B} {view : V → A} {meaning : S → B} {all done left : List V} {list : List S} (x : V) (rest : List V) (e : Unreadable)
     → Reading f view meaning all done left list → left ≡ x ∷ rest → Answers meaning (f (view x)) (Err e) → Answers {S = Vec S Global} (λ v. each meaning v.items) (traverse f (each view all)) (Err e)
-Reading-refused {f = f} {view = view} {done = done} x rest refused h step k = rw (h.all_are, step, each-append view done (x ∷ rest)) (traverse-refused f (each view done) (view x) (each view rest) k)
+Reading-refused {f = f} {view = view} {done = done} x rest (refused text) h step k = rw (h.all_are, step, each-append view done (x ∷ rest)) (traverse-refused f (each view done) (view x) (each view rest) k)
 Reading-refused x rest no_memory h step k = tt
 
 pub ruleset answering = (items-trees_of, entries-pairs_of)

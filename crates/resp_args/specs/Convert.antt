@@ -11,7 +11,7 @@ use Rattle.resp_args.specs.Numbers.{unsigned_number, unsigned_text, signed_numbe
 -- what a conversion answers: the value that the tree is read as, a refusal exactly where there is none, or want of memory
 abbrev pub Answers : {M S : Type 0} → (S → M) → Option M → Result S Unreadable → Type 0
 Answers meaning wanted (Ok value) = wanted ≡ Some (meaning value)
-Answers meaning wanted (Err refused) = wanted ≡ None
+Answers meaning wanted (Err (refused text)) = wanted ≡ None
 Answers meaning wanted (Err no_memory) = ⊤
 
 -- the tree behind its attributes

@@ -29,12 +29,13 @@ impl Model for ParsingError {
 }
 
 impl ParsingError {
-    ghost use Rattle.std.specs.Prelude.{◌≡◌};
+    ghost use Rattle.std.specs.Fmt.{signed_decimal};
+    ghost use Rattle.std.specs.Prelude.{◌≡◌, ◌++◌};
     ghost use Rattle.resp_core.specs.Errors.{is_memory, refused};
 
     /// A refusal with a fixed text. It takes no memory.
     pub fn fixed(description: &'static str) -> ParsingError
-        ensures { result ≡ refused }
+        ensures { result ≡ refused description.now }
     {
         ParsingError {
             description: Description::Fixed(description),
@@ -43,7 +44,7 @@ impl ParsingError {
 
     /// A refusal with a fixed text and a number behind it. It takes no memory.
     pub fn numbered(description: &'static str, number: i64) -> ParsingError
-        ensures { result ≡ refused }
+        ensures { result ≡ refused (description.now ++ signed_decimal number) }
     {
         ParsingError {
             description: Description::Numbered(description, number),
@@ -72,10 +73,10 @@ impl fmt::Display for ParsingError {
 impl std::error::Error for ParsingError {}
 
 impl From<String> for ParsingError {
-    ghost use Rattle.std.specs.Prelude.{◌≡◌};
+    ghost use Rattle.std.specs.Prelude.{◌≡◌, string_bytes};
     ghost use Rattle.resp_core.specs.Errors.{refused};
 
-    ghost from_gives = { λ _ e. e ≡ refused };
+    ghost from_gives = { λ description e. e ≡ refused (string_bytes description) };
 
     fn from(description: String) -> ParsingError {
         ParsingError {
