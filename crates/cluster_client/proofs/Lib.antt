@@ -7,3 +7,4 @@ pub mod Agree
 pub mod Chains
 pub mod OneCall
 pub mod Nodes
+pub mod Kept

@@ -1,5 +1,5 @@
 //! The client: it refreshes its slot map, and sends keyed commands to the nodes that serve them.
-ghost use Rattle.std.specs.Prelude.{◌≡◌, ◌≢◌, ◌↔◌, ◌<◌, Ok, Err, [], true, false, vec_len, IfOk, option_map};
+ghost use Rattle.std.specs.Prelude.{◌≡◌, ◌≢◌, ◌↔◌, ◌<◌, ◌⊎◌, ◌∷◌, Ok, Err, [], true, false, vec_len, IfOk, IfErr, OnErr, option_map};
 ghost use Rattle.resp_core.specs.Errors.{by_cause};
 ghost use Rattle.resp_core.specs.View.{view};
 ghost use Rattle.resp_core.specs.declared.errors.redis_error.Cause.TheVariants.{Memory, RepeatedAddress};
@@ -9,6 +9,7 @@ ghost use Rattle.cluster_routing.specs.SlotsReply.{ranges};
 ghost use Rattle.cluster_routing.specs.Topology.{shards_of};
 ghost use Rattle.cluster_client.specs.Places.{IsOpenAt};
 ghost use Rattle.cluster_client.specs.Plan.{Refresh, Query, first_node};
+ghost use Rattle.cluster_client.specs.Request.{slots_command};
 ghost use Rattle.cluster_client.specs.Answer.{told, refreshed};
 ghost use Rattle.cluster_client.specs.Played.{CallMade};
 ghost use Rattle.cluster_client.specs.Converted.{QueryMade};
@@ -64,6 +65,7 @@ impl<L: ConnectionLike + Drop> ClusterClient<L> {
     ) -> Result<ClusterClient<L>, RedisError>
         ensures made { IfOk result (λ client. whole L.seen client ≡ new_world (nodes L.seen links.items) (record { budget = budget; read_only = texts read_only.items })) }
         ensures repeated { (result ≡ Err (by_cause RepeatedAddress)) ↔ (has_repeats (addresses_of (nodes L.seen links.items)) ≡ true) }
+        ensures only { IfErr result (λ e. e ≡ by_cause RepeatedAddress) }
     {
         if has_repeats(&links) {
             return Err(RedisError::from(Cause::RepeatedAddress));
@@ -88,6 +90,11 @@ impl<L: ConnectionLike + Drop> ClusterClient<L> {
     pub fn refresh(&mut self, alloc: Global, node: &NodeAddress) -> Result<(), RedisError>
         ensures played { result ≢ Err (by_cause Memory) → CallMade (whole L.seen self.old) (whole L.seen self.new) (Refresh (address node.now)) (refreshed result) }
         ensures picks { (whole L.seen self.new).picked ≡ [] }
+        // What stays, also where memory is refused.
+        ensures settings { (whole L.seen self.new).settings ≡ (whole L.seen self.old).settings }
+        ensures map { OnErr result ((whole L.seen self.new).entries ≡ (whole L.seen self.old).entries) }
+        ensures flag { OnErr result ((whole L.seen self.new).needs_refresh ≡ (whole L.seen self.old).needs_refresh) }
+        ensures held { ((whole L.seen self.new).nodes ≡ (whole L.seen self.old).nodes) ⊎ ((whole L.seen self.new).log ≡ record { node = address node.now; args = slots_command; asking = false } ∷ []) }
     {
         self.asked = Vec::new(alloc);
         self.picked = Vec::new(alloc);
@@ -138,6 +145,10 @@ impl<L: ConnectionLike + Drop> ClusterClient<L> {
     ) -> Result<T, RedisError>
         ensures answered { result ≢ Err (by_cause Memory) → QueryMade (whole L.seen self.old) (whole L.seen self.new) cmd.now T.meaning T.convert result }
         ensures picks { result ≢ Err (by_cause Memory) → ArePicks (option_map (λ s. admits s.now) strategy.entry) (candidates_of (whole L.seen self.old).entries (whole L.seen self.old).settings.read_only cmd.now) (whole L.seen self.new).picked }
+        // What stays, also where memory is refused.
+        ensures settings { (whole L.seen self.new).settings ≡ (whole L.seen self.old).settings }
+        ensures map { (whole L.seen self.new).entries ≡ (whole L.seen self.old).entries }
+        ensures flag { (whole L.seen self.old).needs_refresh ≡ true → (whole L.seen self.new).needs_refresh ≡ true }
     {
         let reply = self.reply_to(alloc, cmd, strategy)?;
         Ok(from_redis_value(alloc, reply)?)
@@ -152,6 +163,9 @@ impl<L: ConnectionLike + Drop> ClusterClient<L> {
     ) -> Result<Value, RedisError>
         ensures played { result ≢ Err (by_cause Memory) → CallMade (whole L.seen self.old) (whole L.seen self.new) (Query cmd.now (whole L.seen self.new).picked) (told (viewed view result)) }
         ensures picks { result ≢ Err (by_cause Memory) → ArePicks (option_map (λ s. admits s.now) strategy.entry) (candidates_of (whole L.seen self.old).entries (whole L.seen self.old).settings.read_only cmd.now) (whole L.seen self.new).picked }
+        ensures settings { (whole L.seen self.new).settings ≡ (whole L.seen self.old).settings }
+        ensures map { (whole L.seen self.new).entries ≡ (whole L.seen self.old).entries }
+        ensures flag { (whole L.seen self.old).needs_refresh ≡ true → (whole L.seen self.new).needs_refresh ≡ true }
     {
         self.asked = Vec::new(alloc);
         self.picked = Vec::new(alloc);
@@ -176,6 +190,9 @@ impl<L: ConnectionLike + Drop> ClusterClient<L> {
         requires fresh { self.old.asked.items ≡ [] }
         ensures played { result ≢ Err (by_cause Memory) → CallMade (whole L.seen self.old) (whole L.seen self.new) (Query cmd.now (addresses self.old.picked.items)) (told (viewed view result)) }
         ensures picks { self.new.picked ≡ self.old.picked }
+        ensures settings { (whole L.seen self.new).settings ≡ (whole L.seen self.old).settings }
+        ensures map { (whole L.seen self.new).entries ≡ (whole L.seen self.old).entries }
+        ensures flag { (whole L.seen self.old).needs_refresh ≡ true → (whole L.seen self.new).needs_refresh ≡ true }
     {
         let args = cmd.wire_args(alloc)?;
         let mut place = first;

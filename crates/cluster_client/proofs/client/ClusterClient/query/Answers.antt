@@ -12,4 +12,7 @@ returns-in_err-reply g c =
           let had : c.in_err-reply.field-0.0 ≢ by_cause Memory = λ k. m (p.1 ∙ ap Err (p.2 ∙ k)) in
           rw (p.1, p.2) (record { reply = Err c.in_err-reply.field-0.0; made = c.in_err-reply.ensures.played (λ k. had (cc k)); converted = refl });
       picks = λ m. c.in_err-reply.ensures.picks (λ k. m (p.1 ∙ ap Err (p.2 ∙ cc k)));
+      settings = c.in_err-reply.ensures.settings;
+      map = c.in_err-reply.ensures.map;
+      flag = c.in_err-reply.ensures.flag;
     }

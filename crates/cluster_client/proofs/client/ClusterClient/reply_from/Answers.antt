@@ -14,6 +14,7 @@ use Rattle.cluster_client.specs.Places.{IsOpenAt}
 use Rattle.cluster_client.specs.Plan.{first_node, next_of}
 use Rattle.cluster_client.specs.Hops.{hop_to}
 use Rattle.cluster_client.proofs.OneCall.{both, query_unplanned, loop_start, query_err_by, query_end_by, query_more_by}
+use Rattle.cluster_client.proofs.Kept.{loop_flag, moved_flag}
 use Rattle.cluster_client.proofs.client.ClusterClient.reply_from.Goals as goal
 
 pub requests-init : goal.requests-init
@@ -33,6 +34,9 @@ returns-in_err-reply g c =
           rw (p.1, p.2) (both _ _ _ _ (query_err_by _ _ _ _ _ _ _ _ c.requests.invariant.loop _ are (c.in_err-reply.ensures.logged (λ k. had (cc k))) refl refl c.in_err-reply.field-0.0 had
           (c.in_err-reply.ensures.calls (λ k. had (cc k))) refl));
       picks = c.requests.invariant.same;
+      settings = c.requests.invariant.loop.settings;
+      map = c.requests.invariant.loop.entries;
+      flag = loop_flag c.requests.invariant.loop;
     }
 
 pub returns-in_err-value : goal.returns-in_err-value
@@ -49,6 +53,9 @@ returns-in_err-value g c =
           rw (p.1, p.2, ap told ends.1) (both _ _ _ _ (query_end_by _ _ _ _ _ _ _ _ c.requests.invariant.loop _ are (c.in_ok-reply.ensures.logged (λ k. cc k)) refl refl (view c.in_ok-reply.reply) next
           (c.in_ok-reply.ensures.calls (λ k. cc k)) is ends.0 c.needs_refresh-self.ensures));
       picks = c.requests.invariant.same;
+      settings = c.requests.invariant.loop.settings;
+      map = c.requests.invariant.loop.entries;
+      flag = moved_flag c.requests.invariant.loop _ _ c.needs_refresh-self.ensures;
     }
 
 pub returns-in-Answered : goal.returns-in-Answered
@@ -62,6 +69,9 @@ returns-in-Answered g c =
       played = λ m. rw (ap told ends.1) (both _ _ _ _ (query_end_by _ _ _ _ _ _ _ _ c.requests.invariant.loop _ are (c.in_ok-reply.ensures.logged (λ k. cc k)) refl refl (view c.in_ok-reply.reply) next
           (c.in_ok-reply.ensures.calls (λ k. cc k)) is ends.0 c.needs_refresh-self.ensures));
       picks = c.requests.invariant.same;
+      settings = c.requests.invariant.loop.settings;
+      map = c.requests.invariant.loop.entries;
+      flag = moved_flag c.requests.invariant.loop _ _ c.needs_refresh-self.ensures;
     }
 
 pub requests-preserved : goal.requests-preserved
