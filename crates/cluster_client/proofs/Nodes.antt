@@ -1,5 +1,5 @@
 -- A call of one link in a list.
-use Rattle.std.specs.Prelude.{slice_get, Some}
+use Rattle.std.specs.Prelude.{slice_get, Some, ⊤}
 use Rattle.std.proofs.Common.{◌≡◌, ℕ, ◌<◌, List, length, set, get_or, refl, ap, ◌∙◌}
 use Rattle.std.proofs.lemmas.List.{map-set}
 use Rattle.std.proofs.lemmas.Option.{slice_get-map, slice_get_read, slice_get-get_or}
@@ -29,3 +29,7 @@ pub node_there : {L : Type 0} (seen : L → Seen) (links : List (NodeAddress × 
 node_there seen links which pair within is =
     let node : NodeAddress × _ → Node = λ p. record { address = address p.0; link = seen p.1 } in
     slice_get-map node links which ∙ ap (λ o. option_map node o) (slice_get_read links (length links) which pair refl within is)
+
+-- whatever the call was
+pub calls_any : {old new : List Node} {which : ℕ} {Call : Seen → Seen → Type 0} → Calls old new which Call → Calls old new which (λ link link'. ⊤)
+calls_any c = record { before = c.before; after = c.after; found = c.found; others = c.others; address = c.address; call = tt }

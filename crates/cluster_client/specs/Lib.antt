@@ -3,6 +3,7 @@ pub mod Reply
 pub mod Log
 pub mod World
 pub mod Places
+pub mod Leaves
 pub mod Events
 pub mod Keyed
 pub mod Picks

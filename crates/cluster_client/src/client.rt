@@ -8,6 +8,7 @@ ghost use Rattle.cluster_routing.specs.SlotMap.{put_all};
 ghost use Rattle.cluster_routing.specs.SlotsReply.{ranges};
 ghost use Rattle.cluster_routing.specs.Topology.{shards_of};
 ghost use Rattle.cluster_client.specs.Places.{IsOpenAt};
+ghost use Rattle.cluster_client.specs.Leaves.{Leaves};
 ghost use Rattle.cluster_client.specs.Plan.{Refresh, Query, first_node};
 ghost use Rattle.cluster_client.specs.Request.{slots_command};
 ghost use Rattle.cluster_client.specs.Answer.{told, refreshed};
@@ -92,6 +93,7 @@ impl<L: ConnectionLike + Drop> ClusterClient<L> {
         ensures picks { (whole L.seen self.new).picked ≡ [] }
         // What stays, also where memory is refused.
         ensures settings { (whole L.seen self.new).settings ≡ (whole L.seen self.old).settings }
+        ensures unasked { Leaves (whole L.seen self.old).nodes (whole L.seen self.new).nodes (whole L.seen self.new).log }
         ensures map { OnErr result ((whole L.seen self.new).entries ≡ (whole L.seen self.old).entries) }
         ensures flag { OnErr result ((whole L.seen self.new).needs_refresh ≡ (whole L.seen self.old).needs_refresh) }
         ensures held { ((whole L.seen self.new).nodes ≡ (whole L.seen self.old).nodes) ⊎ ((whole L.seen self.new).log ≡ record { node = address node.now; args = slots_command; asking = false } ∷ []) }
@@ -147,6 +149,7 @@ impl<L: ConnectionLike + Drop> ClusterClient<L> {
         ensures picks { result ≢ Err (by_cause Memory) → ArePicks (option_map (λ s. admits s.now) strategy.entry) (candidates_of (whole L.seen self.old).entries (whole L.seen self.old).settings.read_only cmd.now) (whole L.seen self.new).picked }
         // What stays, also where memory is refused.
         ensures settings { (whole L.seen self.new).settings ≡ (whole L.seen self.old).settings }
+        ensures unasked { Leaves (whole L.seen self.old).nodes (whole L.seen self.new).nodes (whole L.seen self.new).log }
         ensures map { (whole L.seen self.new).entries ≡ (whole L.seen self.old).entries }
         ensures flag { (whole L.seen self.old).needs_refresh ≡ true → (whole L.seen self.new).needs_refresh ≡ true }
     {
@@ -164,6 +167,7 @@ impl<L: ConnectionLike + Drop> ClusterClient<L> {
         ensures played { result ≢ Err (by_cause Memory) → CallMade (whole L.seen self.old) (whole L.seen self.new) (Query cmd.now (whole L.seen self.new).picked) (told (viewed view result)) }
         ensures picks { result ≢ Err (by_cause Memory) → ArePicks (option_map (λ s. admits s.now) strategy.entry) (candidates_of (whole L.seen self.old).entries (whole L.seen self.old).settings.read_only cmd.now) (whole L.seen self.new).picked }
         ensures settings { (whole L.seen self.new).settings ≡ (whole L.seen self.old).settings }
+        ensures unasked { Leaves (whole L.seen self.old).nodes (whole L.seen self.new).nodes (whole L.seen self.new).log }
         ensures map { (whole L.seen self.new).entries ≡ (whole L.seen self.old).entries }
         ensures flag { (whole L.seen self.old).needs_refresh ≡ true → (whole L.seen self.new).needs_refresh ≡ true }
     {
@@ -191,6 +195,7 @@ impl<L: ConnectionLike + Drop> ClusterClient<L> {
         ensures played { result ≢ Err (by_cause Memory) → CallMade (whole L.seen self.old) (whole L.seen self.new) (Query cmd.now (addresses self.old.picked.items)) (told (viewed view result)) }
         ensures picks { self.new.picked ≡ self.old.picked }
         ensures settings { (whole L.seen self.new).settings ≡ (whole L.seen self.old).settings }
+        ensures unasked { Leaves (whole L.seen self.old).nodes (whole L.seen self.new).nodes (whole L.seen self.new).log }
         ensures map { (whole L.seen self.new).entries ≡ (whole L.seen self.old).entries }
         ensures flag { (whole L.seen self.old).needs_refresh ≡ true → (whole L.seen self.new).needs_refresh ≡ true }
     {

@@ -7,6 +7,7 @@ ghost use Rattle.cluster_routing.specs.Seen.{address};
 ghost use Rattle.cluster_client.specs.Request.{asking_command, outgoing_for, skipped};
 ghost use Rattle.resp_args.specs.Packed.{packed};
 ghost use Rattle.cluster_client.specs.World.{Calls, Called, nodes, listed, viewed};
+ghost use Rattle.cluster_client.specs.Leaves.{AtMostSent};
 
 use crate::asked::Asked;
 use cluster_routing::NodeAddress;
@@ -64,6 +65,7 @@ fn call_at<L: ConnectionLike>(
 }
 
 /// Writes the request to the log, and makes its link call.
+#[tactic(auto, using(crate::proofs::Nodes::calls_any))]
 pub(crate) fn send<L: ConnectionLike>(
     links: &mut Vec<(NodeAddress, L)>,
     log: &mut Vec<Asked>,
@@ -79,6 +81,7 @@ pub(crate) fn send<L: ConnectionLike>(
         (λ before after. Called before after (outgoing_for asking (map (λ arg. arg.items) args.now)) (skipped asking) 1 (listed (viewed view result))) }
     // A request stands in the log before its link is touched, also where memory is refused later.
     ensures held { (links.new.items ≡ links.old.items) ⊎ (log.new.items ≡ log.old.items ++ record { node = address node.now; args = map (λ arg. arg.items) args.now; asking = asking } ∷ []) }
+    ensures touched { AtMostSent (nodes L.seen links.old.items) (nodes L.seen links.new.items) which log.old.items log.new.items (record { node = address node.now; args = map (λ arg. arg.items) args.now; asking = asking }) }
     ensures logged { result ≢ Err (by_cause Memory) → log.new.items ≡ log.old.items ++ record { node = address node.now; args = map (λ arg. arg.items) args.now; asking = asking } ∷ [] }
 {
     let bytes = outgoing(alloc, args, asking)?;

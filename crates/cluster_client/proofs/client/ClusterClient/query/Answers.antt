@@ -13,6 +13,7 @@ returns-in_err-reply g c =
           rw (p.1, p.2) (record { reply = Err c.in_err-reply.field-0.0; made = c.in_err-reply.ensures.played (λ k. had (cc k)); converted = refl });
       picks = λ m. c.in_err-reply.ensures.picks (λ k. m (p.1 ∙ ap Err (p.2 ∙ cc k)));
       settings = c.in_err-reply.ensures.settings;
+      unasked = c.in_err-reply.ensures.unasked;
       map = c.in_err-reply.ensures.map;
       flag = c.in_err-reply.ensures.flag;
     }

@@ -8,13 +8,13 @@ use Rattle.cluster_client.specs.Request.{slots_command}
 use Rattle.cluster_client.specs.World.{nodes, open_links, is_linked}
 use Rattle.cluster_client.specs.Places.{IsOpenAt}
 use Rattle.cluster_client.proofs.OneCall.{both, refresh_unlinked, refresh_err_by, refresh_refused_by, refresh_ok_by, direct_to}
-use Rattle.cluster_client.proofs.Kept.{on_err, held_by}
+use Rattle.cluster_client.proofs.Kept.{on_err, held_by, leaves_same, leaves_sent}
 use Rattle.cluster_client.proofs.client.ClusterClient.refresh.Goals as goal
 
 pub returns-in_default : goal.returns-in_default
 returns-in_default g c =
     let shut : is_linked (open_links (nodes g.L.ConnectionLike.seen c.args.self.now.links.items)) (address c.args.node.now) ≡ false = rw (← c.deref.ensures.value) c.in_default.ensures.place in
-    record { played = λ m. rw c.from.ensures (both _ _ _ _ (refresh_unlinked _ _ _ shut refl c.new.ensures.items refl refl refl)); picks = ap addresses c.new-2.ensures.items; settings = refl; map = refl; flag = refl; held = inl refl }
+    record { played = λ m. rw c.from.ensures (both _ _ _ _ (refresh_unlinked _ _ _ shut refl c.new.ensures.items refl refl refl)); picks = ap addresses c.new-2.ensures.items; settings = refl; unasked = leaves_same _ _ _ refl; map = refl; flag = refl; held = inl refl }
 
 pub returns-in_err-reply : goal.returns-in_err-reply
 returns-in_err-reply g c =
@@ -29,6 +29,7 @@ returns-in_err-reply g c =
           (c.in_err-reply.ensures.calls (λ k. had (cc k))) had refl refl));
       picks = ap addresses c.new-2.ensures.items;
       settings = refl;
+      unasked = leaves_sent _ _ _ [] _ _ _ c.in-Some.which refl c.new.ensures.items at c.in_err-reply.ensures.touched;
       map = on_err c.from_residual-in_err-reply.result refl;
       flag = on_err c.from_residual-in_err-reply.result refl;
       held = held_by g.L.ConnectionLike.seen _ _ _ _ _ _ c.new.ensures.items (ap (λ xs. direct_to (address c.args.node.now) xs) are) c.in_err-reply.ensures.held;
@@ -48,6 +49,7 @@ returns-in_err-self g c =
           (c.in_ok-reply.ensures.calls (λ k. cc k)) told.1 refl refl));
       picks = ap addresses c.new-2.ensures.items;
       settings = refl;
+      unasked = leaves_sent _ _ _ [] _ _ _ c.in-Some.which refl c.new.ensures.items at c.in_ok-reply.ensures.touched;
       map = on_err c.from_residual-in_err-self.result refl;
       flag = on_err c.from_residual-in_err-self.result refl;
       held = held_by g.L.ConnectionLike.seen _ _ _ _ _ _ c.new.ensures.items (ap (λ xs. direct_to (address c.args.node.now) xs) are) c.in_ok-reply.ensures.held;
@@ -64,6 +66,7 @@ returns g c =
           (c.in_ok-reply.ensures.calls (λ k. cc k)) listed.0 listed.1 refl);
       picks = ap addresses c.new-2.ensures.items;
       settings = refl;
+      unasked = leaves_sent _ _ _ [] _ _ _ c.in-Some.which refl c.new.ensures.items at c.in_ok-reply.ensures.touched;
       map = tt;
       flag = tt;
       held = held_by g.L.ConnectionLike.seen _ _ _ _ _ _ c.new.ensures.items (ap (λ xs. direct_to (address c.args.node.now) xs) are) c.in_ok-reply.ensures.held;

@@ -14,7 +14,7 @@ use Rattle.cluster_client.specs.Places.{IsOpenAt}
 use Rattle.cluster_client.specs.Plan.{first_node, next_of}
 use Rattle.cluster_client.specs.Hops.{hop_to}
 use Rattle.cluster_client.proofs.OneCall.{both, query_unplanned, loop_start, query_err_by, query_end_by, query_more_by}
-use Rattle.cluster_client.proofs.Kept.{loop_flag, moved_flag}
+use Rattle.cluster_client.proofs.Kept.{leaves_sent, loop_flag, moved_flag}
 use Rattle.cluster_client.proofs.client.ClusterClient.reply_from.Goals as goal
 
 pub requests-init : goal.requests-init
@@ -35,6 +35,7 @@ returns-in_err-reply g c =
           (c.in_err-reply.ensures.calls (λ k. had (cc k))) refl));
       picks = c.requests.invariant.same;
       settings = c.requests.invariant.loop.settings;
+      unasked = leaves_sent _ _ _ c.requests.invariant.loop.events _ _ _ c.requests.place.which c.requests.invariant.loop.runs c.requests.invariant.loop.logged c.requests.invariant.loop.at c.in_err-reply.ensures.touched;
       map = c.requests.invariant.loop.entries;
       flag = loop_flag c.requests.invariant.loop;
     }
@@ -54,6 +55,7 @@ returns-in_err-value g c =
           (c.in_ok-reply.ensures.calls (λ k. cc k)) is ends.0 c.needs_refresh-self.ensures));
       picks = c.requests.invariant.same;
       settings = c.requests.invariant.loop.settings;
+      unasked = leaves_sent _ _ _ c.requests.invariant.loop.events _ _ _ c.requests.place.which c.requests.invariant.loop.runs c.requests.invariant.loop.logged c.requests.invariant.loop.at c.in_ok-reply.ensures.touched;
       map = c.requests.invariant.loop.entries;
       flag = moved_flag c.requests.invariant.loop _ _ c.needs_refresh-self.ensures;
     }
@@ -70,6 +72,7 @@ returns-in-Answered g c =
           (c.in_ok-reply.ensures.calls (λ k. cc k)) is ends.0 c.needs_refresh-self.ensures));
       picks = c.requests.invariant.same;
       settings = c.requests.invariant.loop.settings;
+      unasked = leaves_sent _ _ _ c.requests.invariant.loop.events _ _ _ c.requests.place.which c.requests.invariant.loop.runs c.requests.invariant.loop.logged c.requests.invariant.loop.at c.in_ok-reply.ensures.touched;
       map = c.requests.invariant.loop.entries;
       flag = moved_flag c.requests.invariant.loop _ _ c.needs_refresh-self.ensures;
     }
