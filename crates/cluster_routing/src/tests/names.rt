@@ -1,6 +1,6 @@
 //! Every name of the routing table with its route.
 
-use super::routes::{route, to_random, to_slot};
+use super::routes::{first_elsewhere, route, to_random, to_slot};
 use crate::{
     AggregateOp, LogicalAggregateOp, MultipleNodeRoutingInfo, ResponsePolicy, RoutingInfo,
 };
@@ -11,89 +11,94 @@ fn to_all(nodes: MultipleNodeRoutingInfo, policy: ResponsePolicy) -> Option<Rout
 }
 
 #[test]
-fn names_with_one_key(rt: HostRuntime) -> Result<(), Fail> {
+fn names_with_their_key_first(rt: HostRuntime) -> Result<(), Fail> {
     let alloc = rt.alloc();
-    for word in [
-        "MGET", "DEL", "EXISTS", "UNLINK", "TOUCH", "WATCH", "get", "SETNX", "XADD", "zadd",
-    ] {
-        assert!(rt; route(alloc, &[word, "a"])? == to_slot(15495), "{word}");
-    }
-    assert!(rt; route(alloc, &["MSET", "a", "b"])? == to_slot(15495));
-    assert!(rt; route(alloc, &["JSON.MGET", "a", "$"])? == to_slot(15495));
-    assert!(rt; route(alloc, &["JSON.MSET", "a", "$", "1"])? == to_slot(15495));
-    for word in ["XREAD", "XREADGROUP"] {
-        assert!(rt;
-            route(alloc, &[word, "x", "Streams", "a"])? == to_slot(15495),
-            "{word}"
-        );
-    }
-    for word in [
-        "EVAL",
-        "EVALSHA",
-        "EVAL_RO",
-        "EVALSHA_RO",
-        "FCALL",
-        "FCALL_RO",
-    ] {
-        assert!(rt;
-            route(alloc, &[word, "s", "1", "a"])? == to_slot(15495),
-            "{word}"
-        );
-        assert!(rt;
-            route(alloc, &[word, "s", "0", "a"])? == to_random(),
-            "{word}"
-        );
-    }
-    for word in ["BLMPOP", "BZMPOP"] {
-        assert!(rt;
-            route(alloc, &[word, "0", "1", "a"])? == to_slot(15495),
-            "{word}"
-        );
-        assert!(rt; route(alloc, &[word, "0", "0", "a"])?.is_none(), "{word}");
-    }
-    for word in [
-        "LMPOP",
-        "ZMPOP",
-        "SINTERCARD",
-        "ZUNION",
-        "ZINTER",
-        "ZDIFF",
-        "ZINTERCARD",
-    ] {
-        assert!(rt;
-            route(alloc, &[word, "1", "a"])? == to_slot(15495),
-            "{word}"
-        );
-        assert!(rt; route(alloc, &[word, "0", "a"])?.is_none(), "{word}");
-    }
+    let commands: [&[&str]; 15] = [
+        &["MGET", "a"],
+        &["DEL", "a"],
+        &["EXISTS", "a"],
+        &["UNLINK", "a"],
+        &["TOUCH", "a"],
+        &["WATCH", "a"],
+        &["get", "a"],
+        &["SETNX", "a"],
+        &["XADD", "a"],
+        &["zadd", "a"],
+        &["MSET", "a", "b"],
+        &["JSON.MGET", "a", "$"],
+        &["JSON.MSET", "a", "$", "1"],
+        &["XREAD", "x", "Streams", "a"],
+        &["XREADGROUP", "x", "Streams", "a"],
+    ];
+    assert_eq!(rt; first_elsewhere(alloc, &commands, &to_slot(15495))?, None);
+    Ok(())
+}
+
+#[test]
+fn names_with_a_counted_key(rt: HostRuntime) -> Result<(), Fail> {
+    let alloc = rt.alloc();
+    let one: [&[&str]; 15] = [
+        &["EVAL", "s", "1", "a"],
+        &["EVALSHA", "s", "1", "a"],
+        &["EVAL_RO", "s", "1", "a"],
+        &["EVALSHA_RO", "s", "1", "a"],
+        &["FCALL", "s", "1", "a"],
+        &["FCALL_RO", "s", "1", "a"],
+        &["BLMPOP", "0", "1", "a"],
+        &["BZMPOP", "0", "1", "a"],
+        &["LMPOP", "1", "a"],
+        &["ZMPOP", "1", "a"],
+        &["SINTERCARD", "1", "a"],
+        &["ZUNION", "1", "a"],
+        &["ZINTER", "1", "a"],
+        &["ZDIFF", "1", "a"],
+        &["ZINTERCARD", "1", "a"],
+    ];
+    assert_eq!(rt; first_elsewhere(alloc, &one, &to_slot(15495))?, None);
+    let scripts: [&[&str]; 6] = [
+        &["EVAL", "s", "0", "a"],
+        &["EVALSHA", "s", "0", "a"],
+        &["EVAL_RO", "s", "0", "a"],
+        &["EVALSHA_RO", "s", "0", "a"],
+        &["FCALL", "s", "0", "a"],
+        &["FCALL_RO", "s", "0", "a"],
+    ];
+    assert_eq!(rt; first_elsewhere(alloc, &scripts, &to_random())?, None);
+    let none: [&[&str]; 9] = [
+        &["BLMPOP", "0", "0", "a"],
+        &["BZMPOP", "0", "0", "a"],
+        &["LMPOP", "0", "a"],
+        &["ZMPOP", "0", "a"],
+        &["SINTERCARD", "0", "a"],
+        &["ZUNION", "0", "a"],
+        &["ZINTER", "0", "a"],
+        &["ZDIFF", "0", "a"],
+        &["ZINTERCARD", "0", "a"],
+    ];
+    assert_eq!(rt; first_elsewhere(alloc, &none, &None)?, None);
     Ok(())
 }
 
 #[test]
 fn names_with_a_key_at_two(rt: HostRuntime) -> Result<(), Fail> {
     let alloc = rt.alloc();
-    let names = [
-        ("BITOP", "AND"),
-        ("XINFO", "STREAM"),
-        ("XINFO", "GROUPS"),
-        ("XINFO", "CONSUMERS"),
-        ("XGROUP", "CREATE"),
-        ("XGROUP", "CREATECONSUMER"),
-        ("XGROUP", "DELCONSUMER"),
-        ("XGROUP", "DESTROY"),
-        ("XGROUP", "SETID"),
-        ("OBJECT", "ENCODING"),
-        ("OBJECT", "FREQ"),
-        ("OBJECT", "IDLETIME"),
-        ("OBJECT", "REFCOUNT"),
-        ("memory", "Usage"),
+    let commands: [&[&str]; 14] = [
+        &["BITOP", "AND", "a"],
+        &["XINFO", "STREAM", "a"],
+        &["XINFO", "GROUPS", "a"],
+        &["XINFO", "CONSUMERS", "a"],
+        &["XGROUP", "CREATE", "a"],
+        &["XGROUP", "CREATECONSUMER", "a"],
+        &["XGROUP", "DELCONSUMER", "a"],
+        &["XGROUP", "DESTROY", "a"],
+        &["XGROUP", "SETID", "a"],
+        &["OBJECT", "ENCODING", "a"],
+        &["OBJECT", "FREQ", "a"],
+        &["OBJECT", "IDLETIME", "a"],
+        &["OBJECT", "REFCOUNT", "a"],
+        &["memory", "Usage", "a"],
     ];
-    for (word, second) in names {
-        assert!(rt;
-            route(alloc, &[word, second, "a"])? == to_slot(15495),
-            "{word} {second}"
-        );
-    }
+    assert_eq!(rt; first_elsewhere(alloc, &commands, &to_slot(15495))?, None);
     Ok(())
 }
 
@@ -153,44 +158,67 @@ fn names_of_all_nodes(rt: HostRuntime) -> Result<(), Fail> {
 #[test]
 fn names_of_any_node_and_of_none(rt: HostRuntime) -> Result<(), Fail> {
     let alloc = rt.alloc();
-    for word in ["ECHO", "TIME", "PUBLISH", "LASTSAVE"] {
-        assert!(rt; route(alloc, &[word, "a"])? == to_random(), "{word}");
-    }
-    let nowhere = [
-        "SCAN",
-        "AUTH",
-        "HELLO",
-        "SELECT",
-        "MULTI",
-        "EXEC",
-        "DISCARD",
-        "SUBSCRIBE",
-        "PSUBSCRIBE",
-        "SSUBSCRIBE",
-        "UNSUBSCRIBE",
-        "PUNSUBSCRIBE",
-        "SUNSUBSCRIBE",
-        "CLUSTER",
-        "READONLY",
-        "READWRITE",
-        "ASKING",
-        "MONITOR",
-        "QUIT",
-        "RESET",
-        "SHUTDOWN",
-        "CLIENT",
-        "MIGRATE",
+    let any: [&[&str]; 4] = [
+        &["ECHO", "a"],
+        &["TIME", "a"],
+        &["PUBLISH", "a"],
+        &["LASTSAVE", "a"],
     ];
-    for word in nowhere {
-        assert!(rt; route(alloc, &[word, "a"])?.is_none(), "{word}");
-    }
-    let families = [
-        "XGROUP", "XINFO", "OBJECT", "MEMORY", "CONFIG", "SLOWLOG", "SCRIPT", "PUBSUB", "FUNCTION",
-        "MODULE", "COMMAND", "ACL", "LATENCY",
+    assert_eq!(rt; first_elsewhere(alloc, &any, &to_random())?, None);
+    let nowhere: [&[&str]; 23] = [
+        &["SCAN", "a"],
+        &["AUTH", "a"],
+        &["HELLO", "a"],
+        &["SELECT", "a"],
+        &["MULTI", "a"],
+        &["EXEC", "a"],
+        &["DISCARD", "a"],
+        &["SUBSCRIBE", "a"],
+        &["PSUBSCRIBE", "a"],
+        &["SSUBSCRIBE", "a"],
+        &["UNSUBSCRIBE", "a"],
+        &["PUNSUBSCRIBE", "a"],
+        &["SUNSUBSCRIBE", "a"],
+        &["CLUSTER", "a"],
+        &["READONLY", "a"],
+        &["READWRITE", "a"],
+        &["ASKING", "a"],
+        &["MONITOR", "a"],
+        &["QUIT", "a"],
+        &["RESET", "a"],
+        &["SHUTDOWN", "a"],
+        &["CLIENT", "a"],
+        &["MIGRATE", "a"],
     ];
-    for word in families {
-        assert!(rt; route(alloc, &[word])?.is_none(), "{word}");
-        assert!(rt; route(alloc, &[word, "HELP", "a"])?.is_none(), "{word}");
-    }
+    assert_eq!(rt; first_elsewhere(alloc, &nowhere, &None)?, None);
+    let families: [&[&str]; 26] = [
+        &["XGROUP"],
+        &["XINFO"],
+        &["OBJECT"],
+        &["MEMORY"],
+        &["CONFIG"],
+        &["SLOWLOG"],
+        &["SCRIPT"],
+        &["PUBSUB"],
+        &["FUNCTION"],
+        &["MODULE"],
+        &["COMMAND"],
+        &["ACL"],
+        &["LATENCY"],
+        &["XGROUP", "HELP", "a"],
+        &["XINFO", "HELP", "a"],
+        &["OBJECT", "HELP", "a"],
+        &["MEMORY", "HELP", "a"],
+        &["CONFIG", "HELP", "a"],
+        &["SLOWLOG", "HELP", "a"],
+        &["SCRIPT", "HELP", "a"],
+        &["PUBSUB", "HELP", "a"],
+        &["FUNCTION", "HELP", "a"],
+        &["MODULE", "HELP", "a"],
+        &["COMMAND", "HELP", "a"],
+        &["ACL", "HELP", "a"],
+        &["LATENCY", "HELP", "a"],
+    ];
+    assert_eq!(rt; first_elsewhere(alloc, &families, &None)?, None);
     Ok(())
 }

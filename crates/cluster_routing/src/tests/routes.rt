@@ -21,6 +21,20 @@ pub(crate) fn route(alloc: Global, words: &[&str]) -> Result<Option<RoutingInfo>
     RoutingInfo::for_routable(alloc, &cmd(alloc, words)?, &[])
 }
 
+/// The place of the first command that has another route.
+pub(crate) fn first_elsewhere(
+    alloc: Global,
+    commands: &[&[&str]],
+    expected: &Option<RoutingInfo>,
+) -> Result<Option<usize>, AllocError> {
+    for (place, words) in commands.iter().enumerate() {
+        if route(alloc, words)? != *expected {
+            return Ok(Some(place));
+        }
+    }
+    Ok(None)
+}
+
 pub(crate) fn to_slot(slot: u16) -> Option<RoutingInfo> {
     Some(RoutingInfo::SingleNode(SingleNodeRoutingInfo::SpecificNode(Route::new(
         slot,
@@ -35,17 +49,23 @@ pub(crate) fn to_random() -> Option<RoutingInfo> {
 #[test]
 fn goes_to_the_key(rt: HostRuntime) -> Result<(), Fail> {
     let alloc = rt.alloc();
-    assert!(rt; route(alloc, &["XREAD", "COUNT", "5", "STREAMS", "a", "0"])? == to_slot(15495));
-    assert!(rt; route(alloc, &["xinfo", "stream", "a"])? == to_slot(15495));
+    let keyed: [&[&str]; 5] = [
+        &["XREAD", "COUNT", "5", "STREAMS", "a", "0"],
+        &["xinfo", "stream", "a"],
+        &["EVAL", "s", "1", "a"],
+        &["LMPOP", "+1", "a", "LEFT"],
+        &["MGET", "a", "{a}x"],
+    ];
+    assert_eq!(rt; first_elsewhere(alloc, &keyed, &to_slot(15495))?, None);
+    let nowhere: [&[&str]; 5] = [
+        &["EVAL", "s", "1"],
+        &["LMPOP", "0", "a", "LEFT"],
+        &["OBJECT"],
+        &[],
+        &["GET"],
+    ];
+    assert_eq!(rt; first_elsewhere(alloc, &nowhere, &None)?, None);
     assert!(rt; route(alloc, &["EVAL", "s", "0"])? == to_random());
-    assert!(rt; route(alloc, &["EVAL", "s", "1", "a"])? == to_slot(15495));
-    assert!(rt; route(alloc, &["EVAL", "s", "1"])?.is_none());
-    assert!(rt; route(alloc, &["LMPOP", "0", "a", "LEFT"])?.is_none());
-    assert!(rt; route(alloc, &["LMPOP", "+1", "a", "LEFT"])? == to_slot(15495));
-    assert!(rt; route(alloc, &["OBJECT"])?.is_none());
-    assert!(rt; route(alloc, &[])?.is_none());
-    assert!(rt; route(alloc, &["GET"])?.is_none());
-    assert!(rt; route(alloc, &["MGET", "a", "{a}x"])? == to_slot(15495));
     Ok(())
 }
 
