@@ -2,6 +2,7 @@
 use Rattle.std.specs.Prelude.{ℕ, List, [], ◌∷◌, map, Option, Some, None, Vec}
 use Rattle.std.specs.Borrow.{Bor}
 use Rattle.std.specs.Global.{Global}
+use Rattle.cluster_routing.specs.Address.{Address}
 use Rattle.cluster_routing.specs.Seen.{address}
 use Rattle.cluster_routing.specs.Routing.{Destination, to_any_node, to_any_primary, to_route, to_address, to_all_nodes, to_all_primaries, to_parts}
 use Rattle.cluster_routing.specs.declared.route.Route.{Route}
@@ -13,6 +14,8 @@ use Rattle.cluster_routing.specs.declared.routing.SingleNodeRoutingInfo.{SingleN
 use Rattle.cluster_routing.specs.declared.routing.SingleNodeRoutingInfo.TheVariants.{Random, RandomPrimary, SpecificNode, ByAddress}
 use Rattle.cluster_routing.specs.declared.routing.MultipleNodeRoutingInfo.{MultipleNodeRoutingInfo}
 use Rattle.cluster_routing.specs.declared.routing.MultipleNodeRoutingInfo.TheVariants.{AllNodes, AllMasters, MultiSlot}
+use Rattle.cluster_routing.specs.declared.routing.Redirect.{Redirect}
+use Rattle.cluster_routing.specs.declared.routing.Redirect.TheVariants.{Moved, Ask}
 
 -- a set of names, and lent arguments, as their bytes
 abbrev pub texts : List (Vec ℕ Global) → List (List ℕ)
@@ -43,3 +46,12 @@ shown_info (MultiNode info) = shown_multiple info.1 info.0
 abbrev pub single_of : Option Route → SingleNodeRoutingInfo
 single_of None = Random
 single_of (Some route) = SpecificNode route
+
+-- where a redirect sends a request on: from now on, or this once
+pub data Redirection : Type 0 where
+  from_now_on : Address → Redirection
+  this_once : Address → Redirection
+
+abbrev pub shown_redirect : Redirect → Redirection
+shown_redirect (Moved a) = from_now_on (address a)
+shown_redirect (Ask a) = this_once (address a)

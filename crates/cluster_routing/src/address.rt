@@ -5,7 +5,7 @@ ghost use Rattle.std.specs.String.{string_bytes};
 ghost use Rattle.cluster_routing.specs.Address.{address_of, address_read, address_with, cut_last, without_end, without_front};
 ghost use Rattle.cluster_routing.specs.Numbers.{number_below};
 ghost use Rattle.cluster_routing.specs.Refusals.{Reads};
-ghost use Rattle.cluster_routing.specs.Seen.{address};
+ghost use Rattle.cluster_routing.specs.Seen.{address, addresses};
 
 use resp_core::{Cause, RedisError};
 use std::alloc::{AllocError, Global};
@@ -99,6 +99,20 @@ impl fmt::Display for NodeAddress {
     fn fmt<W: fmt::Write>(&self, f: &mut fmt::Formatter<W>) -> fmt::Result {
         write!(f, "{}:{}", self.host, self.port)
     }
+}
+
+/// Equal addresses in the same order.
+pub(crate) fn copies_of(
+    alloc: Global,
+    nodes: &[NodeAddress],
+) -> Result<Vec<NodeAddress>, AllocError>
+    ensures { IfOk result (λ v. addresses v.items ≡ addresses nodes.now) }
+{
+    let mut copies = Vec::new(alloc);
+    'nodes: for node in nodes {
+        copies.push(node.clone()?)?;
+    }
+    Ok(copies)
 }
 
 fn from_host_and_port(alloc: Global, host: &str, port: &str) -> Result<NodeAddress, RedisError>

@@ -4,6 +4,7 @@
 mod address;
 mod all_nodes;
 mod candidates;
+mod copies;
 pub mod laws;
 mod parts;
 mod policy;

@@ -1,13 +1,14 @@
 //! Ranges of slots, and the nodes that serve them.
 
-ghost use Rattle.std.specs.Prelude.{◌≡◌, ◌∷◌, option_map};
+ghost use Rattle.std.specs.Prelude.{◌≡◌, ◌∷◌, option_map, IfOk};
 ghost use Rattle.cluster_routing.specs.Choice.{IsChosen};
 ghost use Rattle.cluster_routing.specs.Seen.{address, addresses};
 
-use crate::address::NodeAddress;
+use crate::address::{NodeAddress, copies_of};
 use crate::candidates::Replicas;
 use crate::route::Route;
 use crate::strategy::{ReadRoutingStrategy, node_among};
+use std::alloc::AllocError;
 use std::marker::Model;
 use std::slice::Iter;
 
@@ -58,6 +59,18 @@ impl SlotAddrs {
         ensures { addresses result.now ≡ self.now.replicas }
     {
         &self.replicas
+    }
+
+    /// The same nodes.
+    ///
+    /// # Errors
+    /// `AllocError` where memory is refused.
+    pub(crate) fn clone(&self) -> Result<SlotAddrs, AllocError>
+        ensures { IfOk result (λ copy. copy ≡ self.now) }
+    {
+        let primary = self.primary.clone()?;
+        let replicas = copies_of(*self.replicas.allocator(), &self.replicas)?;
+        Ok(SlotAddrs::new(primary, replicas))
     }
 
     /// The node that serves a request with this route.

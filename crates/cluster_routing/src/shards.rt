@@ -10,7 +10,7 @@ ghost use Rattle.cluster_routing.specs.Seen.{addresses};
 ghost use Rattle.cluster_routing.specs.SlotMap.{nodes_at};
 ghost use Rattle.cluster_routing.specs.Topology.{same_nodes, shard_at, shard_with, shards_of, spans_of};
 
-use crate::address::NodeAddress;
+use crate::address::{NodeAddress, copies_of};
 use crate::range::SlotAddrs;
 use crate::range_map::SlotRangeMap;
 use crate::slot_map::SlotMap;
@@ -117,14 +117,4 @@ fn spans_of(
         }
     }
     Ok(spans)
-}
-
-fn copies_of(alloc: Global, nodes: &[NodeAddress]) -> Result<Vec<NodeAddress>, AllocError>
-    ensures { IfOk result (λ v. addresses v.items ≡ addresses nodes.now) }
-{
-    let mut copies = Vec::new(alloc);
-    'nodes: for node in nodes {
-        copies.push(node.clone()?)?;
-    }
-    Ok(copies)
 }

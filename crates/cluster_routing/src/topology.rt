@@ -63,6 +63,19 @@ impl Shard {
     {
         self.nodes.replicas()
     }
+
+    /// An equal shard.
+    ///
+    /// # Errors
+    /// `AllocError` where memory is refused.
+    pub fn clone(&self) -> Result<Shard, AllocError>
+        ensures { IfOk result (λ copy. copy ≡ self.now) }
+    {
+        Ok(Shard {
+            slot_ranges: Vec::from_slice(*self.slot_ranges.allocator(), self.slot_ranges())?,
+            nodes: self.nodes.clone()?,
+        })
+    }
 }
 
 /// The shards of a cluster at one moment. (Documentation of the crate `redis`.)
@@ -115,6 +128,28 @@ impl ClusterTopology {
     {
         self.shards.iter()
     }
+
+    /// The topology of equal shards, in the same order.
+    ///
+    /// # Errors
+    /// `AllocError` where memory is refused.
+    pub fn clone(&self) -> Result<ClusterTopology, AllocError>
+        ensures { IfOk result (λ copy. copy ≡ self.now) }
+    {
+        let alloc = *self.shards.allocator();
+        ClusterTopology::from_shards(alloc, shard_copies(alloc, &self.shards)?)
+    }
+}
+
+/// Equal shards in the same order.
+fn shard_copies(alloc: Global, shards: &[Shard]) -> Result<Vec<Shard>, AllocError>
+    ensures { IfOk result (λ v. v.items ≡ shards.now) }
+{
+    let mut copies = Vec::new(alloc);
+    'shards: for shard in shards {
+        copies.push(shard.clone()?)?;
+    }
+    Ok(copies)
 }
 
 /// The place of each range's shard.
