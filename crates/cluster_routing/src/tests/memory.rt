@@ -5,12 +5,12 @@
 
 use crate::tests::routes::{cmd, to_slot};
 use crate::{
-    MultiSlotArgPattern, MultipleNodeRoutingInfo, NodeAddress, ResponsePolicy, Route, RoutingInfo,
-    SlotAddr, SlotMap, SlotRange, SlotRangeMap, parse_slots,
+    ClusterTopology, MultiSlotArgPattern, MultipleNodeRoutingInfo, NodeAddress, ResponsePolicy,
+    Route, RoutingInfo, Shard, SlotAddr, SlotMap, SlotRange, SlotRangeMap, parse_slots,
 };
 use resp_args::Cmd;
 use resp_core::{Parser, Value};
-use std::alloc::Global;
+use std::alloc::{AllocError, Global};
 use std::io::Print;
 use std::process::Abort;
 use std::test::Fail;
@@ -171,5 +171,77 @@ fn split_command(rt: HostRuntime) -> Result<(), Fail> {
 #[test]
 fn family(rt: HostRuntime) -> Result<(), Fail> {
     assert!(rt; route(&rt, rt.alloc(), &["xinfo", "stream", "a"])? == to_slot(15495));
+    Ok(())
+}
+
+fn node(alloc: Global, host: &str, port: u16) -> Result<NodeAddress, AllocError> {
+    Ok(NodeAddress::new(String::from_str(alloc, host)?, port))
+}
+
+// The slots from 0 to 99 and from 200 to 299 have equal nodes, those between other ones.
+fn three_ranges(alloc: Global) -> Result<Vec<SlotRange>, AllocError> {
+    let mut ranges = Vec::new(alloc);
+    for (start, end, host) in [(0, 99, "n1"), (100, 199, "n3"), (200, 299, "n1")] {
+        let replicas = vec![in alloc; node(alloc, "n2", 7002)?]?;
+        ranges.push(SlotRange::new(start, end, node(alloc, host, 7001)?, replicas))?;
+    }
+    Ok(ranges)
+}
+
+fn map_of<R: Print>(rt: &R, alloc: Global) -> Result<SlotMap, Fail> {
+    let ranges = match three_ranges(alloc) {
+        Ok(ranges) => ranges,
+        Err(_) => {
+            println!(rt; "refused ranges")?;
+            three_ranges(alloc)?
+        }
+    };
+    match SlotMap::from_slots(alloc, ranges) {
+        Ok(map) => Ok(map),
+        Err(_) => {
+            println!(rt; "refused from_slots")?;
+            Ok(SlotMap::from_slots(alloc, three_ranges(alloc)?)?)
+        }
+    }
+}
+
+fn is_shard<R: Abort>(rt: &R, shard: Option<&Shard>, ranges: &[(u16, u16)], host: &str) {
+    match shard {
+        Some(shard) => {
+            assert!(rt; shard.slot_ranges() == ranges);
+            is_node(rt, Some(shard.primary()), host, 7001);
+            assert_eq!(rt; shard.replicas().len(), 1);
+            is_node(rt, shard.replicas().first(), "n2", 7002);
+        }
+        None => assert!(rt; false),
+    }
+}
+
+fn are_shards<R: Abort>(rt: &R, topology: &ClusterTopology) {
+    let mut shards = topology.shards();
+    is_shard(rt, shards.next(), &[(0, 99), (200, 299)], "n1");
+    is_shard(rt, shards.next(), &[(100, 199)], "n3");
+    assert!(rt; shards.next().is_none());
+    is_shard(
+        rt,
+        topology.shard_for_slot(250),
+        &[(0, 99), (200, 299)],
+        "n1",
+    );
+    is_shard(rt, topology.shard_for_slot(100), &[(100, 199)], "n3");
+    assert!(rt; topology.shard_for_slot(300).is_none());
+}
+
+#[test]
+fn topology(rt: HostRuntime) -> Result<(), Fail> {
+    let map = map_of(&rt, rt.alloc())?;
+    let topology = match map.topology(rt.alloc()) {
+        Ok(topology) => topology,
+        Err(_) => {
+            println!(rt; "refused topology")?;
+            map.topology(rt.alloc())?
+        }
+    };
+    are_shards(&rt, &topology);
     Ok(())
 }
