@@ -198,6 +198,10 @@ a_closed_link_is_not_used = refl
 abbrev pub refreshed_by : Tree → List Exchange
 refreshed_by reply = got (record { node = n1; args = slots_command; asking = false }) 0 (Some reply) ∷ []
 
+pub a_refresh_asks_for_the_slots : bytes_of (record { node = n1; args = slots_command; asking = false } ∷ []) ≡ codes "*2\r\n$7\r\nCLUSTER\r\n$5\r\nSLOTS\r\n"
+unfolding digits
+a_refresh_asks_for_the_slots = refl
+
 -- slots 0 to 16383 at n1
 abbrev pub row_of_n1 : Tree
 row_of_n1 = array (tree (int (pos 0)) (tree (int (pos 16383)) (tree (array (tree (bulk (codes "n1")) (tree (int (pos 7001)) no_trees))) no_trees)))

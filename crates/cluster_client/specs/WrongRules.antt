@@ -1,6 +1,6 @@
 -- Rules that are wrong, each beside what the right one says of the same call: the examples tell them apart.
 use Rattle.std.specs.Prelude.{◌≡◌, ℕ, ◌==◌, ◌||◌, Bool, true, false, if◌then◌else◌, List, [], ◌∷◌, ◌++◌, drop, slice_get, is_some, Option, Some, None, option_and_then, Result, Ok, Err, bytes_eq, codes, refl}
-use Rattle.std.specs.List.{list_any}
+use Rattle.std.specs.List.{list_any, flat_map}
 use Rattle.std.specs.Fmt.{digits}
 use Rattle.std.specs.Str.{is_utf8, chars}
 use lib.Utf8.{encode}
@@ -16,14 +16,15 @@ use Rattle.cluster_routing.specs.Address.{Address}
 use Rattle.cluster_routing.specs.SlotMap.{SlotEntries}
 use Rattle.cluster_routing.specs.SlotsReply.{ranges}
 use Rattle.cluster_routing.specs.SlotMap.{put_all}
-use Rattle.cluster_routing.specs.Command.{Args, bytes_of}
+use Rattle.cluster_routing.specs.Command as commands
+use Rattle.cluster_routing.specs.Command.{Args}
 use Rattle.cluster_routing.specs.Table.{rule_of, table}
 use Rattle.cluster_routing.specs.Routing.{destination, route_to}
 use Rattle.cluster_routing.specs.declared.route.Route.{Route}
 use Rattle.cluster_routing.specs.declared.route.SlotAddr.TheVariants.{Master}
 use Rattle.cluster_routing.specs.Candidates.{Candidates}
 use Rattle.cluster_routing.specs.Examples.{first_node as n1, second_node as n2, halves, alone}
-use Rattle.cluster_client.specs.Request.{Request, asking_command, outgoing_for}
+use Rattle.cluster_client.specs.Request.{Request, asking_command, bytes_of, outgoing_for}
 use Rattle.cluster_client.specs.Reply.{Sort, Moved, sort_of, redirect_target, behind_space, behind_word, front_word, address_in}
 use Rattle.cluster_client.specs.Log.{Exchange, exchanges, replies, reply_at, is_moved, is_moved_sort}
 use Rattle.cluster_client.specs.Keyed.{keyed_route}
@@ -41,6 +42,15 @@ wrong_outgoing args = packed asking_command ++ packed args
 pub a_plain_request_goes_alone : bytes_eq (outgoing_for false (codes "GET" ∷ codes "a" ∷ [])) (wrong_outgoing (codes "GET" ∷ codes "a" ∷ [])) ≡ false
 unfolding digits
 a_plain_request_goes_alone = refl
+
+-- ---- bytes: two requests as one list
+
+abbrev pub wrong_bytes : List Request → List ℕ
+wrong_bytes qs = packed (flat_map (λ (q : Request). q.args) qs)
+
+pub each_request_is_packed_alone : bytes_eq (bytes_of (plain n1 ∷ plain n1 ∷ [])) (wrong_bytes (plain n1 ∷ plain n1 ∷ [])) ≡ false
+unfolding digits
+each_request_is_packed_alone = refl
 
 -- ---- replies: the first reply behind ASKING is the answer, and a push is a reply
 
@@ -87,7 +97,7 @@ the_route_would_by_a_wrong_rule = refl
 -- ---- routes: every key stands behind the word
 
 abbrev pub wrong_route : Args → Option Route
-wrong_route args = option_and_then (λ key. Some (route_to Master (hash_slot key))) (bytes_of (slice_get args 1))
+wrong_route args = option_and_then (λ key. Some (route_to Master (hash_slot key))) (commands.bytes_of (slice_get args 1))
 
 abbrev pub about_a_stream : Args
 about_a_stream = Simple (codes "XINFO") ∷ Simple (codes "STREAM") ∷ Simple (codes "a") ∷ []

@@ -14,12 +14,12 @@ use Rattle.cluster_routing.specs.SlotMap.{Nodes, SlotEntries}
 use Rattle.cluster_routing.specs.Topology.{same_nodes}
 use Rattle.cluster_routing.proofs.Distinct.{Tells, to_come_by, none_seen, seen_front, new_front}
 
-address_same : (a b : Address) → same_address a b ≡ true → a ≡ b
+pub address_same : (a b : Address) → same_address a b ≡ true → a ≡ b
 address_same a b h =
     let e = and_parts (bytes_eq a.host b.host) (a.port == b.port) h in
     ap (λ (n : List ℕ). let r : Address = record { host = n; port = a.port } in r) ((bytes_decides a.host b.host).0 e.0) ∙ ap (λ (n : ℕ). let r : Address = record { host = b.host; port = n } in r) (eqb-true a.port b.port e.1)
 
-address_same_of : (a b : Address) → a ≡ b → same_address a b ≡ true
+pub address_same_of : (a b : Address) → a ≡ b → same_address a b ≡ true
 address_same_of a b e = and_from (bytes_eq a.host b.host) (a.port == b.port) ((bytes_decides a.host b.host).1 (ap (λ c. c.host) e)) (eq-eqb a.port b.port (ap (λ c. c.port) e))
 
 address_turned : (a b : Address) → same_address a b ≡ same_address b a

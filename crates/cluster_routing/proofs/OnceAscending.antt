@@ -1,5 +1,5 @@
 -- Addresses put into their places ascend, and none is lost or added.
-use Rattle.std.proofs.Common.{◌≡◌, ℕ, Bool, true, false, ◌||◌, List, [], ◌∷◌, refl, sym, ap, ◌∙◌}
+use Rattle.std.proofs.Common.{◌≡◌, ℕ, Bool, true, false, ◌||◌, List, [], ◌∷◌, refl, sym, subst, ap, ◌∙◌, eq-eqb}
 use Rattle.std.specs.Ordering.{match_ordering, nat_cmp, ordering_reverse, is_eq}
 use Rattle.std.specs.Cmp.{nat_cmp_total, unsigned_tied}
 use Rattle.std.specs.Cmp.Lexicographic.{slice_cmp, nat_list_cmp_total, bytes_decides}
@@ -10,7 +10,8 @@ use Rattle.std.proofs.lemmas.Map.Text.{is_eq-slice_cmp}
 use Rattle.cluster_routing.specs.Address.{Address, address_cmp, same_address}
 use Rattle.cluster_routing.specs.Lists.{among}
 use Rattle.cluster_routing.specs.AllNodes.{put_address, put_addresses}
-use Rattle.cluster_routing.specs.Laws.{AddressesAscend, IsBelowFirst, EachAddressOnce}
+use Rattle.cluster_routing.specs.Laws.{AddressesAscend, IsBelowFirst, EachAddressOnce, OrderAgrees}
+use Rattle.cluster_routing.proofs.DistinctNodes.{address_same, address_same_of}
 
 -- what is not below and not equal is above
 turned : (p q : Ordering) → match_ordering (ordering_reverse p) Less (ordering_reverse q) Greater ≡ Greater → match_ordering p Less q Greater ≡ Less
@@ -98,3 +99,17 @@ all-among x sorted (a ∷ more) =
 
 pub each_address_once : EachAddressOnce
 each_address_once = record { ascends = λ as'. all-ascend [] as' tt; same = λ as' a. all-among a [] as' }
+
+only_equal : (o : Ordering) → is_eq o ≡ true → o ≡ Equal
+only_equal Less h = cc
+only_equal Equal h = refl
+only_equal Greater h = cc
+
+equal_to_itself : (a : Address) → address_cmp a a ≡ Equal
+equal_to_itself a =
+    let host : slice_cmp nat_cmp a.host a.host ≡ Equal = only_equal (slice_cmp nat_cmp a.host a.host) (is_eq-slice_cmp a.host a.host ∙ (bytes_decides a.host a.host).1 refl) in
+    let port : nat_cmp a.port a.port ≡ Equal = only_equal (nat_cmp a.port a.port) (unsigned_tied a.port a.port ∙ eq-eqb a.port a.port refl) in
+    ap (λ p. match_ordering p Less (nat_cmp a.port a.port) Greater) host ∙ port
+
+pub order_agrees : OrderAgrees
+order_agrees a b = (λ h. address_same_of a b (equal a b h), λ h. subst (λ c. address_cmp a c ≡ Equal) (address_same a b h) (equal_to_itself a))

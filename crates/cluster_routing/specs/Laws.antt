@@ -2,7 +2,7 @@
 use Rattle.std.specs.Prelude.{◌≡◌, ℕ, ◌<◌, ◌≤◌, ◌^◌, Bool, true, false, ◌&&◌, List, [], ◌∷◌, Some, None, option_map, slice_get, ◌↔◌, ⊤}
 use Rattle.std.specs.List.{list_all}
 use Rattle.std.specs.Str.{str_to_ascii_lowercase}
-use Rattle.std.specs.declared.cmp.Ordering.TheVariants.{Less}
+use Rattle.std.specs.declared.cmp.Ordering.TheVariants.{Less, Equal}
 use Rattle.resp_args.specs.declared.cmd.Arg.TheVariants.{Simple}
 use Rattle.cluster_routing.specs.Address.{Address, address_cmp, address_read, is_plain, same_address, written}
 use Rattle.cluster_routing.specs.AllNodes.{ascending}
@@ -18,6 +18,10 @@ use Rattle.cluster_routing.specs.Routing.{destination}
 -- an address comes back from its text exactly where its host is plain
 abbrev pub RoundTrip : Type 0
 RoundTrip = (a : Address) → a.port < 2 ^ 16 → (address_read (written a) ≡ Some a) ↔ (is_plain a.host ≡ true)
+
+-- the order tells two addresses equal exactly where they are the same
+abbrev pub OrderAgrees : Type 0
+OrderAgrees = (a b : Address) → (address_cmp a b ≡ Equal) ↔ (same_address a b ≡ true)
 
 -- keys with an equal tag that is not empty have an equal slot
 abbrev pub EqualTags : Type 0

@@ -1,13 +1,14 @@
 //! Laws of addresses, slots, range maps and routes. Each is the contract of a call that does
 //! nothing, or that makes the one call that it speaks of.
 
-ghost use Rattle.std.specs.Prelude.{◌≡◌, ℕ};
+ghost use Rattle.std.specs.Prelude.{◌≡◌, ℕ, true};
 ghost use Rattle.cluster_routing.specs.Address.{address_cmp, same_address};
-ghost use Rattle.cluster_routing.specs.Laws.{CaseOfTheWord, EachAddressOnce, EachNameHasItsRow, EqualArguments, EqualTags, OneRange, RoundTrip, TopologyServes};
+ghost use Rattle.cluster_routing.specs.Laws.{CaseOfTheWord, EachAddressOnce, EachNameHasItsRow, EqualArguments, EqualTags, OneRange, OrderAgrees, RoundTrip, TopologyServes};
 ghost use Rattle.cluster_routing.specs.Seen.{address};
 
 use crate::address::NodeAddress;
 use std::cmp::Ordering;
+use std::hash::{Hash, Hasher};
 
 /// An address comes back from its text exactly where its host is not empty, does not begin with
 /// `[` and does not end with `]`.
@@ -27,6 +28,24 @@ pub fn equality_of_addresses(a: &NodeAddress, b: &NodeAddress) -> bool
     ensures { result ≡ same_address (address a.now) (address b.now) }
 {
     a == b
+}
+
+/// The order of addresses tells two of them equal exactly where they are.
+pub fn order_and_equality_agree()
+    ensures { OrderAgrees }
+{}
+
+/// Equal addresses are hashed alike: two hashers that were equal are equal afterwards.
+pub fn hashes_of_addresses<H: Hasher>(
+    a: &NodeAddress,
+    b: &NodeAddress,
+    first: &mut H,
+    second: &mut H,
+)
+    ensures { same_address (address a.now) (address b.now) ≡ true → first.old ≡ second.old → first.new ≡ second.new }
+{
+    a.hash(first);
+    b.hash(second);
 }
 
 /// Keys with an equal tag that is not empty have an equal slot.
