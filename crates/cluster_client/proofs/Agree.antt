@@ -1,6 +1,6 @@
 -- The fault of each node is that of its one failed link call.
 use Rattle.std.specs.Prelude.{MatchResult, ⊤}
-use Rattle.std.proofs.Common.{◌≡◌, ℕ, Bool, true, false, cond, List, [], ◌∷◌, ◌++◌, Some, refl, sym, ap, ◌∙◌, subst, Result, Ok, Err}
+use Rattle.std.proofs.Common.{◌≡◌, Bool, true, false, cond, List, [], ◌∷◌, ◌++◌, Some, refl, sym, ap, ◌∙◌, subst, Result, Ok, Err}
 use Rattle.std.proofs.lemmas.Bool.{false≢true}
 use Rattle.resp_core.specs.Trees.{Tree}
 use Rattle.resp_link.specs.Call.{Seen}

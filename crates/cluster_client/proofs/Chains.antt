@@ -11,7 +11,7 @@ use Rattle.cluster_client.specs.Request.{Request, outgoing, bytes_of, skipped}
 use Rattle.cluster_client.specs.Log.{Exchange, exchanges, replies}
 use Rattle.cluster_client.specs.World.{Node, World, Called, Calls, listed, link_at, open_links, is_usable}
 use Rattle.cluster_client.specs.Places.{IsOpenAt}
-use Rattle.cluster_client.specs.Events.{LinkFault, fault_of, refusal_of, link_result, Event, AllTo, wanted, paired, Pairs, Does, Step, taken_of, exchanges_of, faults_of, log_of}
+use Rattle.cluster_client.specs.Events.{fault_of, refusal_of, link_result, Event, wanted, paired, Pairs, Step, taken_of, exchanges_of, faults_of, log_of}
 use Rattle.cluster_client.specs.Plan.{Call, Hop, FollowsRedirects}
 use Rattle.cluster_client.specs.Answer.{Answer, last_of}
 use Rattle.cluster_client.specs.Played.{Sums, Played, paired_log}

@@ -1,7 +1,7 @@
 -- The link calls of a run, one after another: what they mean for each node, and for the log.
-use Rattle.std.specs.Prelude.{drop, ◌&&◌, ◌||◌, MatchResult}
+use Rattle.std.specs.Prelude.{drop, ◌||◌, MatchResult}
 use Rattle.std.specs.Io.KnownBytes.{Appends}
-use Rattle.std.proofs.Common.{◌≡◌, ◌≢◌, ℕ, suc, ◌+◌, ◌<◌, Bool, true, false, cond, List, [], ◌∷◌, ◌++◌, map, Some, None, refl, sym, ap, ◌∙◌, subst, append-nil, append_assoc, length, length-append, inl, inr, ◌⊎◌, Result, Ok, Err, arith}
+use Rattle.std.proofs.Common.{◌≡◌, ◌≢◌, ℕ, ◌+◌, ◌<◌, Bool, true, false, cond, List, [], ◌∷◌, ◌++◌, map, Some, refl, sym, ap, ◌∙◌, subst, append-nil, append_assoc, length, length-append, inl, inr, Result, Ok, Err, arith}
 use Rattle.std.proofs.lemmas.Bool.{false≢true}
 use Rattle.std.proofs.lemmas.List.Elements.{filter-append}
 use Rattle.resp_core.specs.Trees.{Tree}
@@ -14,8 +14,8 @@ use Rattle.cluster_routing.specs.Address.{Address, same_address}
 use Rattle.cluster_client.specs.Request.{Request, bytes_of, requests_to}
 use Rattle.cluster_client.specs.Log.{exchanges, replies}
 use Rattle.cluster_client.specs.World.{Node, Called, link_at, set_link}
-use Rattle.cluster_client.specs.Events.{LinkFault, io, grammar, refusal_of, fault_of, link_result, Event, wanted, paired, AllTo, Came, Pairs, Ends, Does, Step, Runs, log_of, taken_of, exchanges_of, fault_by, faults_of}
-use Rattle.cluster_client.specs.Played.{LostBy, NodeMade, IsSentFor, lost}
+use Rattle.cluster_client.specs.Events.{LinkFault, io, refusal_of, fault_of, link_result, Event, wanted, paired, AllTo, Came, Pairs, Ends, Does, Step, Runs, log_of, taken_of, exchanges_of, fault_by, faults_of}
+use Rattle.cluster_client.specs.Played.{LostBy, NodeMade, lost}
 use Rattle.cluster_client.proofs.Addresses.{same_true, same_refl}
 use Rattle.cluster_client.proofs.Bytes.{Appends-none, Appends-append, Came-none, came, Came-append, bytes_of-append, IsSentFor-append}
 use Rattle.cluster_client.proofs.LinkPlaces.{set_same, set_other, set_addresses}

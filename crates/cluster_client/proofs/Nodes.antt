@@ -2,7 +2,7 @@
 use Rattle.std.specs.Prelude.{slice_get, Some, ⊤}
 use Rattle.std.proofs.Common.{◌≡◌, ℕ, ◌<◌, List, length, set, get_or, refl, ap, ◌∙◌}
 use Rattle.std.proofs.lemmas.List.{map-set}
-use Rattle.std.proofs.lemmas.Option.{slice_get-map, slice_get_read, slice_get-get_or}
+use Rattle.std.proofs.lemmas.Option.{slice_get-map, slice_get_read}
 use Rattle.std.specs.Option.{option_map}
 use Rattle.resp_link.specs.Call.{Seen}
 use Rattle.cluster_routing.specs.Seen.{address}

@@ -1,8 +1,7 @@
 -- The two calls, from what their functions say.
 use Rattle.std.specs.Prelude.{◌||◌, ◌==◌}
 use Rattle.std.specs.List.{list_any}
-use Rattle.std.proofs.Common.{◌≡◌, ◌≢◌, ℕ, zero, suc, ◌+◌, ◌-◌, Bool, true, false, cond, List, [], ◌∷◌, ◌++◌, Option, Some, None, refl, sym, ap, ◌∙◌, subst, append_assoc, length, Result, Ok, Err, arith}
-use Rattle.std.specs.Option.{option_map}
+use Rattle.std.proofs.Common.{◌≡◌, ◌≢◌, ℕ, suc, ◌+◌, ◌-◌, Bool, true, false, cond, List, [], ◌∷◌, ◌++◌, Option, Some, None, refl, sym, ap, ◌∙◌, subst, append_assoc, length, Result, Ok, Err, arith}
 use Rattle.resp_core.specs.Trees.{Tree, nil, int, bulk, array, simple, okay, set, attribute, double, boolean, verbatim, big_number, push, server_error, ErrorText}
 use Rattle.resp_core.specs.Trees as trees
 use Rattle.resp_core.specs.Parts.{first_error}
@@ -13,15 +12,15 @@ use Rattle.resp_core.specs.declared.errors.redis_error.Cause.TheVariants.{Memory
 use Rattle.resp_args.specs.Command.{Command}
 use Rattle.resp_args.specs.Packed.{sent}
 use Rattle.cluster_routing.specs.Address.{Address}
-use Rattle.cluster_routing.specs.SlotMap.{SlotEntries, put_all}
+use Rattle.cluster_routing.specs.SlotMap.{put_all}
 use Rattle.cluster_routing.specs.SlotsReply.{ranges}
 use Rattle.cluster_client.specs.Request.{Request, outgoing, skipped, slots_command}
-use Rattle.cluster_client.specs.Reply.{Sort, Moved, Ask, Failed, Data, sort_of, error_sort}
+use Rattle.cluster_client.specs.Reply.{sort_of, error_sort}
 use Rattle.cluster_client.specs.Log.{Exchange, is_data, is_moved, is_moved_sort, is_moved_reply}
 use Rattle.cluster_client.specs.World.{World, Called, Calls, listed, is_linked, open_links}
 use Rattle.cluster_client.specs.Places.{IsOpenAt}
-use Rattle.cluster_client.specs.Events.{LinkFault, fault_of, refusal_of, Event, Runs, Agrees, log_of, exchanges_of}
-use Rattle.cluster_client.specs.Plan.{Call, Refresh, Query, Dispatch, Hop, Next, Stays, Lost, Goes, is_going, MatchNext, FollowsRedirects, first_node, next_of, request_of, plan}
+use Rattle.cluster_client.specs.Events.{LinkFault, fault_of, Event, Runs, Agrees, log_of, exchanges_of}
+use Rattle.cluster_client.specs.Plan.{Call, Refresh, Query, Dispatch, Hop, Next, Stays, Lost, Goes, is_going, MatchNext, first_node, next_of, request_of}
 use Rattle.cluster_client.specs.Answer.{Answer, Refreshed, Told, RefusedAs, answer_of, answer_by, answer_sent, last_of, stop_refusal, or_refused, told}
 use Rattle.cluster_client.specs.Played.{Sums, CallMade, client_of}
 use Rattle.cluster_client.proofs.Events.{Runs-snoc}

@@ -1,8 +1,7 @@
 -- Requests of one node and the replies that they take.
 use Rattle.std.specs.Prelude.{slice_get, drop, is_none, ◌&&◌, ◌||◌}
 use Rattle.std.specs.List.{list_any}
-use Rattle.std.proofs.Common.{◌≡◌, ◌≢◌, ℕ, zero, suc, ◌+◌, ◌-◌, ◌<◌, ◌≤◌, Bool, true, false, cond, List, [], ◌∷◌, ◌++◌, length, Option, Some, None, refl, sym, ap, ◌∙◌, subst, append-nil, length-drop, inl, inr, ◌⊎◌, arith}
-use Rattle.std.proofs.lemmas.Bool.{false≢true}
+use Rattle.std.proofs.Common.{◌≡◌, ℕ, zero, suc, ◌+◌, ◌-◌, ◌<◌, ◌≤◌, Bool, true, false, cond, List, [], ◌∷◌, ◌++◌, length, None, refl, sym, ap, ◌∙◌, subst, length-drop, inl, inr, ◌⊎◌, arith}
 use Rattle.std.proofs.lemmas.List.{drop-drop}
 use Rattle.resp_core.specs.Trees.{Tree}
 use Rattle.cluster_routing.specs.Address.{Address, same_address}

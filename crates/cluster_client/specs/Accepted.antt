@@ -1,5 +1,5 @@
 -- When a reply to CLUSTER SLOTS is accepted: where it is no error and holds none.
-use Rattle.std.specs.Prelude.{◌≡◌, ℕ, List, [], Option, Some, None, Result, Ok, Err}
+use Rattle.std.specs.Prelude.{◌≡◌, ℕ, List, [], Some, None, Result, Ok, Err}
 use Rattle.resp_core.specs.Trees.{Tree, ErrorText}
 use Rattle.resp_core.specs.Parts.{first_error}
 use Rattle.resp_core.specs.Errors.{Refusal, by_server}

@@ -1,5 +1,5 @@
 -- A query whose reply is read as a type: its call, and the conversion of its one reply.
-use Rattle.std.specs.Prelude.{◌≡◌, ℕ, List, Option, Some, None, Result, Ok, Err}
+use Rattle.std.specs.Prelude.{◌≡◌, Option, Some, None, Result, Ok, Err}
 use Rattle.resp_core.specs.Trees.{Tree}
 use Rattle.resp_core.specs.Errors.{Refusal, by_cause}
 use Rattle.resp_core.specs.declared.errors.redis_error.Cause.TheVariants.{UnexpectedReturnType}

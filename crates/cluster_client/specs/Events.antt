@@ -1,6 +1,5 @@
 -- The link calls of a run, one after another. A link call sends some requests to one node and takes their replies.
-use Rattle.std.specs.Prelude.{◌≡◌, ◌≢◌, ℕ, suc, ◌+◌, ◌<◌, true, false, if◌then◌else◌, List, [], ◌∷◌, ◌++◌, length, filter, drop, slice_get, Option, Some, None, Result, Ok, Err, MatchResult, ◌⊎◌, ⊤}
-use Rattle.std.specs.List.{flat_map}
+use Rattle.std.specs.Prelude.{◌≡◌, ◌≢◌, ℕ, suc, ◌+◌, ◌<◌, true, false, if◌then◌else◌, List, [], ◌∷◌, ◌++◌, length, filter, drop, slice_get, Option, Some, Result, Ok, Err, MatchResult, ◌⊎◌, ⊤}
 use Rattle.std.specs.Io.KnownBytes.{Appends, Consumes, prepend_known}
 use Rattle.resp_core.specs.Trees.{Tree}
 use Rattle.resp_link.specs.Replies.{is_push, replies_of}

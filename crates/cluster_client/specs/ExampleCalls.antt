@@ -1,28 +1,25 @@
 -- Whole calls, computed: the log with its replies, whether it is legal, the answer, and what is left behind.
-use Rattle.std.specs.Prelude.{◌≡◌, ℕ, suc, ◌==◌, ◌||◌, Bool, true, false, if◌then◌else◌, List, [], ◌∷◌, length, slice_get, Option, Some, None, Result, Ok, Err, codes, pos, refl}
-use Rattle.std.specs.List.{list_any}
+use Rattle.std.specs.Prelude.{◌≡◌, ℕ, true, false, if◌then◌else◌, List, [], ◌∷◌, Option, Some, None, codes, pos, refl}
 use Rattle.std.specs.Fmt.{digits}
 use Rattle.std.specs.Str.{is_utf8, chars}
 use Rattle.std.specs.Str.Lossy.{utf8_lossy, utf8_valid_len}
 use lib.Utf8.{encode}
-use Rattle.resp_core.specs.Trees.{Tree, ErrorText, server_error, array, bulk, int, okay, push, invalidate, no_trees, tree}
-use Rattle.resp_core.specs.Errors.{Refusal, by_cause, by_server, server_kind}
+use Rattle.resp_core.specs.Trees.{Tree, server_error, array, bulk, int, okay, push, invalidate, no_trees, tree}
+use Rattle.resp_core.specs.Errors.{by_cause, by_server, server_kind}
 use Rattle.resp_core.specs.Parts.{first_error}
 use Rattle.resp_core.specs.declared.errors.redis_error.Cause.TheVariants.{NoNode, NoLink, Io}
-use Rattle.resp_args.specs.Command.{Command}
-use Rattle.resp_args.specs.Packed.{sent}
 use Rattle.cluster_routing.specs.HashSlot.{hash_slot}
 use Rattle.cluster_routing.specs.Address.{Address, same_address}
-use Rattle.cluster_routing.specs.SlotMap.{SlotEntries, put_all}
+use Rattle.cluster_routing.specs.SlotMap.{SlotEntries}
 use Rattle.cluster_routing.specs.Table.{rule_of, table}
 use Rattle.cluster_routing.specs.Routing.{destination}
 use Rattle.cluster_routing.specs.Examples.{first_node as n1, second_node as n2, halves, alone}
 use Rattle.cluster_client.specs.Request.{Request, slots_command, bytes_of}
 use Rattle.cluster_client.specs.Reply.{redirect_target}
-use Rattle.cluster_client.specs.Log.{Exchange, exchanges, replies, is_moved}
+use Rattle.cluster_client.specs.Log.{Exchange, exchanges, replies}
 use Rattle.cluster_client.specs.Events.{LinkFault, io}
 use Rattle.cluster_client.specs.Plan.{Client, Call, Refresh, Query, IsLegalCall}
-use Rattle.cluster_client.specs.Answer.{Answer, Refreshed, Told, RefusedAs, answer_of, map_after, flag_after}
+use Rattle.cluster_client.specs.Answer.{Answer, Told, RefusedAs, answer_of, map_after, flag_after}
 use Rattle.cluster_client.specs.Examples.{moved, ask, both, command}
 
 -- ---- what the calls are made on

@@ -1,9 +1,9 @@
 -- Examples of the definitions, each checked by computation; what is called wrong is another definition that they tell apart.
-use Rattle.std.specs.Prelude.{◌≡◌, ℕ, ◌==◌, Bool, true, false, List, [], ◌∷◌, ◌++◌, Option, Some, None, Ok, Err, option_map, option_and_then, is_some, Result, codes, pos, refl, decimal}
+use Rattle.std.specs.Prelude.{◌≡◌, ℕ, Bool, true, false, List, [], ◌∷◌, Some, None, Ok, Err, is_some, Result, codes, refl}
 use Rattle.std.specs.Fmt.{digits}
 use Rattle.std.specs.Str.{is_utf8, chars}
 use lib.Utf8.{encode}
-use Rattle.resp_core.specs.Trees.{Tree, ErrorText, server_error, array, bulk, nil, no_trees, tree}
+use Rattle.resp_core.specs.Trees.{Tree, ErrorText, server_error, array, no_trees, tree}
 use Rattle.resp_core.specs.Errors.{Refusal, by_cause, server_kind}
 use Rattle.resp_core.specs.Parts.{first_error}
 use Rattle.resp_core.specs.declared.errors.redis_error.Cause.TheVariants.{NoRoute, NoNode, NoLink, NoResponse}
@@ -14,7 +14,7 @@ use Rattle.cluster_routing.specs.Address.{Address}
 use Rattle.cluster_routing.specs.SlotMap.{SlotEntries}
 use Rattle.cluster_routing.specs.Examples.{first_node as n1, second_node as n2, halves}
 use Rattle.cluster_client.specs.Request.{outgoing_for, skipped}
-use Rattle.cluster_client.specs.Reply.{Sort, Moved, Ask, Failed, Data, sort_of, error_sort, redirect_target}
+use Rattle.cluster_client.specs.Reply.{Moved, Failed, sort_of, redirect_target}
 use Rattle.cluster_routing.specs.Table.{rule_of, table}
 use Rattle.cluster_routing.specs.Routing.{destination}
 use Rattle.cluster_client.specs.Picks.{candidates_of}

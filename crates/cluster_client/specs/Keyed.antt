@@ -1,7 +1,7 @@
 -- The route of a command that goes to the slot of one key. A command whose replies from several nodes become one, as those of a split
 -- command do, has none here.
 -- Source: the routing table, which is that of the Redis command documentation.
-use Rattle.std.specs.Prelude.{ℕ, Bool, true, false, is_some, if◌then◌else◌, List, Option, Some, None, slice_get}
+use Rattle.std.specs.Prelude.{ℕ, Bool, false, is_some, if◌then◌else◌, List, Option, Some, None, slice_get}
 use Rattle.cluster_routing.specs.Command.{Args, bytes_of}
 use Rattle.cluster_routing.specs.Table.{policy_by, rule_of}
 use Rattle.cluster_routing.specs.Routing.{Destination, to_route, destination}

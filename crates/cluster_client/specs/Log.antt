@@ -1,12 +1,11 @@
 -- The log of requests with the replies that they got: each request takes the next ones from its node.
 -- Source: the Redis protocol specification (a server answers the requests of a connection in their order).
-use Rattle.std.specs.Prelude.{ℕ, suc, ◌+◌, Bool, true, false, not, if◌then◌else◌, is_none, List, [], ◌∷◌, filter, drop, slice_get, Option, Some, None}
-use Rattle.std.specs.List.{list_any}
+use Rattle.std.specs.Prelude.{ℕ, suc, ◌+◌, Bool, true, false, if◌then◌else◌, is_none, List, [], ◌∷◌, drop, slice_get, Option, Some, None}
 use Rattle.resp_core.specs.Trees.{Tree}
 use Rattle.resp_link.specs.Replies.{replies_of}
 use Rattle.cluster_routing.specs.Address.{Address, same_address}
 use Rattle.cluster_client.specs.Request.{Request, skipped}
-use Rattle.cluster_client.specs.Reply.{Sort, Moved, Ask, Failed, Data, sort_of}
+use Rattle.cluster_client.specs.Reply.{Sort, Moved, Data, sort_of}
 
 -- a request with its place in the log of the run and the reply that it got
 pub record Exchange : Type 0 where

@@ -1,7 +1,7 @@
 -- Which requests a call makes: the checks before the first byte, the first node, and the redirects.
 -- Source: the Redis Cluster specification, "MOVED redirection" and "ASK redirection".
-use Rattle.std.specs.Prelude.{◌≡◌, ℕ, ◌-◌, ◌==◌, Bool, true, false, if◌then◌else◌, List, [], ◌∷◌, map, Option, Some, None, option_and_then, Result, Ok, Err, MatchResult}
-use Rattle.resp_core.specs.Trees.{Tree, ErrorText}
+use Rattle.std.specs.Prelude.{◌≡◌, ℕ, ◌-◌, ◌==◌, Bool, true, false, if◌then◌else◌, List, [], ◌∷◌, map, Option, Some, None, Result, Ok, Err, MatchResult}
+use Rattle.resp_core.specs.Trees.{Tree}
 use Rattle.resp_core.specs.Errors.{Refusal, by_cause}
 use Rattle.resp_core.specs.declared.errors.redis_error.Cause.TheVariants.{NoResponse, NoRoute, NoNode, NoLink}
 use Rattle.resp_args.specs.Command.{Command}

@@ -1,10 +1,10 @@
 -- Rules that are wrong, each beside what the right one says of the same call: the examples tell them apart.
-use Rattle.std.specs.Prelude.{◌≡◌, ℕ, ◌==◌, ◌||◌, Bool, true, false, if◌then◌else◌, List, [], ◌∷◌, ◌++◌, drop, slice_get, is_some, Option, Some, None, option_and_then, Result, Ok, Err, bytes_eq, codes, refl}
-use Rattle.std.specs.List.{list_any, flat_map}
+use Rattle.std.specs.Prelude.{◌≡◌, ℕ, ◌==◌, Bool, true, false, List, [], ◌∷◌, ◌++◌, slice_get, is_some, Option, Some, None, option_and_then, Result, Err, bytes_eq, codes, refl}
+use Rattle.std.specs.List.{flat_map}
 use Rattle.std.specs.Fmt.{digits}
 use Rattle.std.specs.Str.{is_utf8, chars}
 use lib.Utf8.{encode}
-use Rattle.resp_core.specs.Trees.{Tree, ErrorText, server_error, bulk, okay, push, invalidate, no_trees}
+use Rattle.resp_core.specs.Trees.{Tree, ErrorText, server_error, okay, push, invalidate, no_trees}
 use Rattle.resp_core.specs.Errors.{Refusal, by_cause, by_server, server_kind}
 use Rattle.resp_core.specs.Parts.{first_error}
 use Rattle.resp_core.specs.declared.errors.redis_error.Cause.TheVariants.{NoRoute, NoResponse}
@@ -26,13 +26,13 @@ use Rattle.cluster_routing.specs.Candidates.{Candidates}
 use Rattle.cluster_routing.specs.Examples.{first_node as n1, second_node as n2, halves, alone}
 use Rattle.cluster_client.specs.Request.{Request, asking_command, bytes_of, outgoing_for}
 use Rattle.cluster_client.specs.Reply.{Sort, Moved, sort_of, redirect_target, behind_space, behind_word, front_word, address_in}
-use Rattle.cluster_client.specs.Log.{Exchange, exchanges, replies, reply_at, is_moved, is_moved_sort}
+use Rattle.cluster_client.specs.Log.{Exchange, exchanges, replies, reply_at, is_moved_sort}
 use Rattle.cluster_client.specs.Keyed.{keyed_route}
 use Rattle.cluster_client.specs.Picks.{candidates_of, some_candidates}
-use Rattle.cluster_client.specs.Plan.{Call, Refresh, Query, serving_node, routed_node}
+use Rattle.cluster_client.specs.Plan.{Refresh, serving_node, routed_node}
 use Rattle.cluster_client.specs.Answer.{Answer, Told, RefusedAs, last_of, told_by, answer_of, map_after, flag_after}
 use Rattle.cluster_client.specs.Examples.{moved, both, command, with_a_replica}
-use Rattle.cluster_client.specs.ExampleCalls.{all_at_n1, client, get_a, no_fault, taken, plain, behind_asking, got, one, moved_on, stopped, moved_inside, refreshed_by, failed}
+use Rattle.cluster_client.specs.ExampleCalls.{all_at_n1, client, get_a, no_fault, taken, plain, behind_asking, got, one, stopped, moved_inside, refreshed_by, failed}
 
 -- ---- bytes: every request behind ASKING
 

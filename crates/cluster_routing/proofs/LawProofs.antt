@@ -1,10 +1,10 @@
 -- Proofs of the laws.
-use Rattle.std.proofs.Common.{◌≡◌, ℕ, zero, suc, ◌+◌, ◌<◌, ◌≤◌, Bool, true, false, nat_lt, nat_le, if◌then◌else◌, List, [], ◌∷◌, ◌++◌, map, flat_map, drop, length, replicate, refl, sym, ap, ◌∙◌, Option, Some, None, option_map, option_and_then, arith, add-one}
+use Rattle.std.proofs.Common.{◌≡◌, ℕ, zero, suc, ◌<◌, ◌≤◌, Bool, true, false, nat_lt, nat_le, if◌then◌else◌, List, [], ◌∷◌, ◌++◌, map, flat_map, drop, length, replicate, refl, sym, ap, ◌∙◌, Option, Some, None, option_map, option_and_then, arith, add-one}
 use Rattle.std.specs.Bool.{⊤}
 use Rattle.std.specs.Prelude.{slice_get, codes, position}
 use Rattle.std.specs.List.{list_any}
 use Rattle.std.specs.Char.{to_ascii_lowercase}
-use Rattle.std.specs.Str.{str_to_ascii_lowercase, str_eq_ignore_ascii_case, bytes_eq}
+use Rattle.std.specs.Str.{str_to_ascii_lowercase, bytes_eq}
 use Rattle.std.proofs.lemmas.Bool.Decides.{nat_tests}
 use Rattle.std.proofs.lemmas.List.{map-append}
 use Rattle.resp_args.specs.declared.cmd.Arg.TheVariants.{Simple}
@@ -15,11 +15,11 @@ use Rattle.cluster_routing.specs.declared.policy.MultiSlotArgPattern.{MultiSlotA
 use Rattle.cluster_routing.specs.declared.policy.MultiSlotArgPattern.TheVariants.{KeysOnly, KeyValuePairs, KeysAndLastArg, KeyWithTwoArgTriples}
 use Rattle.cluster_routing.specs.declared.policy.ResponsePolicy.TheVariants.{AllSucceeded, Aggregate, CombineArrays}
 use Rattle.cluster_routing.specs.declared.policy.AggregateOp.TheVariants.{Sum}
-use Rattle.cluster_routing.specs.HashSlot.{hash_slot, tag, tag_or, hashed, byte_bits, bits_value, remainder}
+use Rattle.cluster_routing.specs.HashSlot.{hash_slot, tag_or, byte_bits, bits_value, remainder}
 use Rattle.cluster_routing.specs.Ranges.{Entry, first_from, value_at, value_if_begun}
-use Rattle.cluster_routing.specs.Command.{Args, is_one_of, is_word, if_counted, place_of, all_bytes, name_by, bytes_of}
+use Rattle.cluster_routing.specs.Command.{Args, is_one_of, is_word, if_counted, all_bytes, name_by, bytes_of}
 use Rattle.cluster_routing.specs.Table.{Row, Rule, split, key_after_streams, table, families, is_family, rule_in, rule_of, other_rule}
-use Rattle.cluster_routing.specs.Routing.{Destination, destination, destination_by, destination_of_name, role_of, to_key, to_key_behind, to_split}
+use Rattle.cluster_routing.specs.Routing.{destination, destination_by, role_of, to_key_behind, to_split}
 use Rattle.cluster_routing.specs.Laws.{EqualTags, EqualArguments, CaseOfTheWord, AreApart, BeginsBehind, OneRange}
 use Rattle.cluster_routing.proofs.Tags.{position-cons}
 

@@ -1,7 +1,7 @@
 -- Commands as lists of arguments, as the routing looks at them (documentation of the crate `redis`).
 use Rattle.std.specs.Prelude.{ℕ, ◌+◌, ◌^◌, Bool, true, false, nat_lt, if◌then◌else◌, List, [], ◌∷◌, ◌++◌, map, Option, Some, None, option_map, option_and_then, position}
 use Rattle.std.specs.List.{list_any}
-use Rattle.std.specs.Str.{str_eq_ignore_ascii_case, str_to_ascii_uppercase}
+use Rattle.std.specs.Str.{str_eq_ignore_ascii_case}
 use Rattle.resp_core.specs.Trees.{Tree, bulk}
 use Rattle.resp_args.specs.declared.cmd.Arg.{Arg}
 use Rattle.resp_args.specs.declared.cmd.Arg.TheVariants.{Simple, Cursor}

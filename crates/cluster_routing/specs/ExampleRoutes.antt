@@ -1,5 +1,5 @@
 -- Examples of routes, parts and shards, each checked by computation; what is called wrong is another definition that they tell apart.
-use Rattle.std.specs.Prelude.{◌≡◌, ℕ, ◌==◌, Bool, true, false, if◌then◌else◌, is_some, nat_lt, List, [], ◌∷◌, map, length, Option, Some, None, codes, refl, bytes_eq}
+use Rattle.std.specs.Prelude.{◌≡◌, ℕ, Bool, false, if◌then◌else◌, is_some, nat_lt, List, [], ◌∷◌, map, length, Some, None, codes, refl, bytes_eq}
 use Rattle.std.specs.List.{list_any}
 use Rattle.std.specs.Str.{is_utf8, chars}
 use lib.Utf8.{encode}
@@ -12,8 +12,8 @@ use Rattle.cluster_routing.specs.SlotMap.{Nodes, SlotEntries, put_all}
 use Rattle.cluster_routing.specs.Command.{Args}
 use Rattle.cluster_routing.specs.Table.{Row, rule_of, table}
 use Rattle.cluster_routing.specs.Parts.{groups}
-use Rattle.cluster_routing.specs.Routing.{Destination, to_any_node, to_route, to_parts, route_to, destination}
-use Rattle.cluster_routing.specs.Topology.{ShardOf, shards_of, shard_at}
+use Rattle.cluster_routing.specs.Routing.{to_any_node, to_route, to_parts, route_to, destination}
+use Rattle.cluster_routing.specs.Topology.{shards_of, shard_at}
 use Rattle.cluster_routing.specs.declared.route.SlotAddr.TheVariants.{Master, ReplicaOptional}
 use Rattle.cluster_routing.specs.declared.policy.ResponsePolicy.TheVariants.{CombineArrays, AllSucceeded}
 use Rattle.cluster_routing.specs.declared.policy.MultiSlotArgPattern.TheVariants.{KeysOnly, KeyValuePairs}

@@ -1,5 +1,5 @@
 -- Examples of the definitions, each checked by computation; what is called wrong is another definition that they tell apart.
-use Rattle.std.specs.Prelude.{◌≡◌, ℕ, ℤ, pos, ◌==◌, ◌+◌, ◌&&◌, nat_le, not, Bool, true, false, if◌then◌else◌, List, [], ◌∷◌, ◌++◌, length, drop, take_while, replicate, Option, Some, None, option_map, codes, refl}
+use Rattle.std.specs.Prelude.{◌≡◌, ℕ, ℤ, pos, ◌==◌, ◌+◌, ◌&&◌, nat_le, not, false, if◌then◌else◌, List, [], ◌∷◌, ◌++◌, length, drop, take_while, replicate, Option, Some, None, codes, refl}
 use Rattle.std.specs.List.{flat_map}
 use Rattle.std.specs.Fmt.{digits}
 use Rattle.std.specs.Ordering.{nat_cmp}

@@ -1,5 +1,5 @@
 -- What the code's answers on routes are.
-use Rattle.std.specs.Prelude.{ℕ, List, [], ◌∷◌, map, Option, Some, None, Vec}
+use Rattle.std.specs.Prelude.{ℕ, List, map, Option, Some, None, Vec}
 use Rattle.std.specs.Borrow.{Bor}
 use Rattle.std.specs.Global.{Global}
 use Rattle.cluster_routing.specs.Address.{Address}
@@ -7,7 +7,6 @@ use Rattle.cluster_routing.specs.Seen.{address}
 use Rattle.cluster_routing.specs.Routing.{Destination, to_any_node, to_any_primary, to_route, to_address, to_all_nodes, to_all_primaries, to_parts}
 use Rattle.cluster_routing.specs.declared.route.Route.{Route}
 use Rattle.cluster_routing.specs.declared.policy.ResponsePolicy.{ResponsePolicy}
-use Rattle.cluster_routing.specs.declared.policy.MultiSlotArgPattern.{MultiSlotArgPattern}
 use Rattle.cluster_routing.specs.declared.routing.RoutingInfo.{RoutingInfo}
 use Rattle.cluster_routing.specs.declared.routing.RoutingInfo.TheVariants.{SingleNode, MultiNode}
 use Rattle.cluster_routing.specs.declared.routing.SingleNodeRoutingInfo.{SingleNodeRoutingInfo}

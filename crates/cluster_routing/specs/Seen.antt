@@ -1,5 +1,5 @@
 -- What the code's values are.
-use Rattle.std.specs.Prelude.{ℕ, List, ◌∷◌, map, Option, Some, None}
+use Rattle.std.specs.Prelude.{List, ◌∷◌, map, Option, Some, None}
 use Rattle.std.specs.Borrow.{Bor}
 use Rattle.std.specs.String.{string_bytes}
 use Rattle.cluster_routing.specs.Address.{Address}

@@ -3,7 +3,7 @@ use Rattle.std.specs.Prelude.{ℕ, pos, ◌^◌, nat_lt, if◌then◌else◌, Li
 use Rattle.std.specs.Str.Lossy.{utf8_lossy}
 use Rattle.resp_core.specs.Trees.{Tree, Trees, nil, int, bulk, array, tree, no_trees}
 use Rattle.cluster_routing.specs.Address.{Address}
-use Rattle.cluster_routing.specs.SlotMap.{Nodes, Range}
+use Rattle.cluster_routing.specs.SlotMap.{Range}
 
 abbrev pub items : Trees → List Tree
 items no_trees = []

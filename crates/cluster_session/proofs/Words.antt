@@ -1,5 +1,5 @@
 -- The words of values, as those of their trees.
-use Rattle.std.proofs.Common.{◌≡◌, ℕ, suc, List, [], ◌∷◌, ◌++◌, length, map, flat_map, refl, ap, sym, ◌∙◌, codes, decimal, Vec, Box, String, Global, string_bytes, rules}
+use Rattle.std.proofs.Common.{◌≡◌, ℕ, suc, List, [], ◌∷◌, ◌++◌, length, flat_map, refl, ap, sym, ◌∙◌, codes, decimal, Vec, Box, String, Global, string_bytes, rules}
 use mathlib.Core.List.{append_assoc}
 use Rattle.resp_core.specs.declared.value.Value.{Value, Array, Set, Map, Push, Attribute, VerbatimString, the_lemmas}
 use Rattle.resp_core.specs.declared.value.VerbatimFormat.{VerbatimFormat}

@@ -1,5 +1,4 @@
-use Rattle.std.proofs.Common.{rules, ◌≡◌, ◌<◌, [], ◌∷◌, ◌++◌, refl, arith, length, length-append}
-use Rattle.std.proofs.lemmas.Grind.{common_steps}
+use Rattle.std.proofs.Common.{◌<◌, [], ◌∷◌, ◌++◌, refl, arith, length, length-append}
 use Rattle.std.proofs.lemmas.Result.{err_from_is_err_and}
 use Rattle.resp_core.specs.View.{view}
 use Rattle.resp_link.proofs.Taking.{ReadsReplies-none, ReadsReplies-append, lacks}

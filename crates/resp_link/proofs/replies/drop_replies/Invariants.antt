@@ -1,4 +1,4 @@
-use Rattle.std.proofs.Common.{◌≡◌, ℕ, List, length, map}
+use Rattle.std.proofs.Common.{◌≡◌, List, length, map}
 use Rattle.resp_core.specs.Trees.{Tree}
 use Rattle.resp_core.specs.View.{push_view}
 use Rattle.resp_core.specs.Standing.{Stands, waiting}

@@ -2,7 +2,7 @@ use Rattle.std.proofs.Common.{rules, ◌≡◌, Err, ap, ◌∙◌, refl, map, [
 use Rattle.std.proofs.lemmas.Result.{err_from_is_err_and}
 use Rattle.std.proofs.lemmas.List.{map-append}
 use Rattle.resp_core.specs.View.{view, push_view}
-use Rattle.resp_core.specs.Standing.{Stands, waiting}
+use Rattle.resp_core.specs.Standing.{Stands}
 use Rattle.resp_link.proofs.ReadingEnds.{Reads-falls}
 use Rattle.resp_link.proofs.Taking.{refused, ReadsPushes-none, ReadsPushes-pushed, ReadsPushes-named}
 use Rattle.resp_link.proofs.replies.next_reply.Goals as goal

@@ -1,4 +1,4 @@
-use Rattle.std.proofs.Common.{◌≡◌, ℕ, List, length, map}
+use Rattle.std.proofs.Common.{◌≡◌, length, map}
 use Rattle.resp_core.specs.View.{view, push_view}
 use Rattle.resp_core.specs.Standing.{Stands, waiting}
 use Rattle.resp_core.specs.Incoming.{reading}

@@ -1,19 +1,18 @@
-use Rattle.std.proofs.Common.{Vec, Global, ℕ, map, subst, ◌≡◌, ◌≢◌, ◌<◌, ◌∙◌, refl, sym, ap, Ok, Err, length}
+use Rattle.std.proofs.Common.{Vec, Global, ℕ, map, ◌≡◌, ◌≢◌, ◌<◌, ◌∙◌, refl, sym, ap, Err, length}
 use Rattle.std.proofs.lemmas.Result.{err_from_is_err_and}
-use Rattle.std.specs.Prelude.{Some, None}
+use Rattle.std.specs.Prelude.{Some}
 use Rattle.resp_core.specs.Errors.{by_cause}
 use Rattle.resp_core.specs.declared.errors.redis_error.Cause.TheVariants.{Memory}
 use Rattle.std.proofs.lemmas.List.{length-map}
 use Rattle.resp_core.specs.View.{view}
 use Rattle.resp_args.specs.Packed.{sent}
 use Rattle.cluster_client.specs.Answer.{told}
-use Rattle.cluster_routing.specs.Seen.{address, addresses}
-use Rattle.cluster_routing.specs.Info.{texts}
+use Rattle.cluster_routing.specs.Seen.{address}
 use Rattle.cluster_client.specs.World.{nodes, open_links}
 use Rattle.cluster_client.specs.Places.{IsOpenAt}
-use Rattle.cluster_client.specs.Plan.{first_node, next_of}
+use Rattle.cluster_client.specs.Plan.{next_of}
 use Rattle.cluster_client.specs.Hops.{hop_to}
-use Rattle.cluster_client.proofs.OneCall.{both, query_unplanned, loop_start, query_err_by, query_end_by, query_more_by}
+use Rattle.cluster_client.proofs.OneCall.{both, loop_start, query_err_by, query_end_by, query_more_by}
 use Rattle.cluster_client.proofs.Kept.{leaves_sent, loop_flag, moved_flag}
 use Rattle.cluster_client.proofs.client.ClusterClient.reply_from.Goals as goal
 

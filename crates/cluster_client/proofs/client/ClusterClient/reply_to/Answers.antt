@@ -3,7 +3,7 @@ use Rattle.std.proofs.lemmas.Result.{err_from_is_err_and}
 use Rattle.resp_core.specs.Errors.{by_cause}
 use Rattle.resp_core.specs.declared.errors.redis_error.Cause.TheVariants.{Memory}
 use Rattle.cluster_routing.specs.Info.{texts}
-use Rattle.cluster_routing.specs.Seen.{address, addresses}
+use Rattle.cluster_routing.specs.Seen.{addresses}
 use Rattle.cluster_client.specs.World.{nodes, open_links, viewed}
 use Rattle.resp_core.specs.View.{view}
 use Rattle.cluster_routing.specs.declared.address.NodeAddress.{NodeAddress}

@@ -1,7 +1,5 @@
-use Rattle.std.proofs.Common.{rules, ◌≡◌, List, ℕ, [], ◌∷◌, refl, sym, ap, ◌∙◌, Err, Ok, IsErrOf}
+use Rattle.std.proofs.Common.{refl}
 use Rattle.std.proofs.lemmas.Result.{err_from_is_err_and}
-use Rattle.resp_core.specs.Errors.{by_cause}
-use Rattle.resp_core.specs.declared.errors.redis_error.Cause.TheVariants.{Io, Parse, Memory}
 use Rattle.resp_core.specs.Readings.{Reads-append, Stops-after, Meets-after}
 use Rattle.resp_core.proofs.ReadingEnds.{Reads-then_value, Meets-fault}
 use Rattle.resp_core.proofs.parser.Parser.parse_within.Goals as goal

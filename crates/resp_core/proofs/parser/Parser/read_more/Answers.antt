@@ -1,4 +1,4 @@
-use Rattle.std.proofs.Common.{◌≡◌, refl, arith}
+use Rattle.std.proofs.Common.{arith}
 use Rattle.resp_core.proofs.ReadingEnds.{Stops-bound}
 use Rattle.resp_core.proofs.parser.Parser.read_more.Goals as goal
 

@@ -1,4 +1,4 @@
-use Rattle.std.proofs.Common.{◌≡◌, true, length, take, Ok, Err, ap, ◌∙◌, arith}
+use Rattle.std.proofs.Common.{◌≡◌, length, take, Ok, Err, ap, ◌∙◌, arith}
 use Rattle.resp_core.specs.View.{view}
 use Rattle.resp_core.specs.Reading.{short, fault, value_at}
 use Rattle.resp_core.specs.Condition.{is_faulty}

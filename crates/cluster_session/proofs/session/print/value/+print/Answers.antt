@@ -1,4 +1,4 @@
-use Rattle.std.proofs.Common.{rules, arith, ◌≡◌, ◌++◌, ◌≤◌, ◌∙◌, ap, sym, subst, take, length, flat_map, string_bytes, codes, OnOk}
+use Rattle.std.proofs.Common.{rules, arith, ◌≡◌, ◌++◌, ◌≤◌, ◌∙◌, ap, sym, subst, length, flat_map, string_bytes, codes, OnOk}
 use mathlib.Core.List.{append_assoc}
 use Rattle.resp_core.specs.View.{view, kind_view, format_view}
 use Rattle.cluster_session.specs.Printed.{answer_words, hex_word, kind_text, format_text}
