@@ -15,3 +15,4 @@ pub mod PlacedShards
 pub mod DistinctNodes
 pub mod ServingShards
 pub mod LawProofs
+pub mod Places

@@ -143,7 +143,7 @@ kept {X} eq tells x y f (z ∷ zs) = by (eq x z) refl (kept eq tells x y f zs)
     by true e h = h ∙ ap (λ b. b || among eq y zs) (sym (ap (eq y) (sym (tells.same x z e)) ∙ f))
     by false e h = ap (λ b. eq y z || b) h
 
-among-firsts : {X : Type 0} (eq : X → X → Bool) → Tells eq → (y : X) (xs : List X) → among eq y (firsts eq xs) ≡ among eq y xs
+pub among-firsts : {X : Type 0} (eq : X → X → Bool) → Tells eq → (y : X) (xs : List X) → among eq y (firsts eq xs) ≡ among eq y xs
 among-firsts eq tells y [] = refl
 among-firsts {X} eq tells y (x ∷ xs) = by (eq y x) refl (among-firsts eq tells y xs)
   where

@@ -1,12 +1,13 @@
 -- Laws of addresses, slots, range maps and routes, over the definitions alone.
-use Rattle.std.specs.Prelude.{◌≡◌, ℕ, ◌<◌, ◌≤◌, ◌^◌, Bool, true, false, ◌&&◌, List, [], ◌∷◌, Some, None, option_map, slice_get, ◌↔◌, ⊤}
+use Rattle.std.specs.Prelude.{◌≡◌, ℕ, zero, suc, nat_eq, ◌<◌, ◌≤◌, ◌^◌, Bool, true, false, ◌&&◌, List, [], ◌∷◌, Some, None, option_map, slice_get, ◌↔◌, ⊤}
 use Rattle.std.specs.List.{list_all}
 use Rattle.std.specs.Str.{str_to_ascii_lowercase}
 use Rattle.std.specs.declared.cmp.Ordering.TheVariants.{Less, Equal}
 use Rattle.resp_args.specs.declared.cmd.Arg.TheVariants.{Simple}
 use Rattle.cluster_routing.specs.Address.{Address, address_cmp, address_read, is_plain, same_address, written}
 use Rattle.cluster_routing.specs.AllNodes.{ascending}
-use Rattle.cluster_routing.specs.Lists.{among}
+use Rattle.cluster_routing.specs.Lists.{among, firsts}
+use Rattle.cluster_routing.specs.Parts.{places_from}
 use Rattle.cluster_routing.specs.HashSlot.{hash_slot, tag}
 use Rattle.cluster_routing.specs.Ranges.{Entry, IsAscending, value_at}
 use Rattle.cluster_routing.specs.SlotMap.{SlotEntries, nodes_at}
@@ -76,3 +77,24 @@ pub record EachAddressOnce : Type 0 where
 pub record TopologyServes : Type 0 where
   pub nodes : (entries : SlotEntries) (slot : ℕ) → IsAscending entries → option_map (λ s. s.nodes) (shard_at slot (shards_of entries)) ≡ nodes_at slot entries
   pub primary : (entries : SlotEntries) (slot : ℕ) → IsAscending entries → option_map (λ s. s.nodes.primary) (shard_at slot (shards_of entries)) ≡ option_map (λ n. n.primary) (nodes_at slot entries)
+
+-- whether this place of a list holds the number
+abbrev pub holds_at : List ℕ → ℕ → ℕ → Bool
+holds_at [] place n = false
+holds_at (x ∷ xs) zero n = nat_eq n x
+holds_at (x ∷ xs) (suc place) n = holds_at xs place n
+
+abbrev pub IsBelowNumbers : ℕ → List ℕ → Type 0
+IsBelowNumbers n [] = ⊤
+IsBelowNumbers n (x ∷ xs) = n < x
+
+abbrev pub NumbersAscend : List ℕ → Type 0
+NumbersAscend [] = ⊤
+NumbersAscend (x ∷ xs) = IsBelowNumbers x xs × NumbersAscend xs
+
+-- the parts of a split share its places: each place stands in the part of its own slot and in no other, places ascend, and each slot
+-- has its part
+pub record PartsShareThePlaces : Type 0 where
+  pub own : (slots : List ℕ) (slot place : ℕ) → among nat_eq place (places_from slot 0 slots) ≡ holds_at slots place slot
+  pub ascending : (slots : List ℕ) (slot : ℕ) → NumbersAscend (places_from slot 0 slots)
+  pub each : (slots : List ℕ) (slot : ℕ) → among nat_eq slot (firsts nat_eq slots) ≡ among nat_eq slot slots

@@ -3,7 +3,7 @@
 
 ghost use Rattle.std.specs.Prelude.{◌≡◌, ℕ, true};
 ghost use Rattle.cluster_routing.specs.Address.{address_cmp, same_address};
-ghost use Rattle.cluster_routing.specs.Laws.{CaseOfTheWord, EachAddressOnce, EachNameHasItsRow, EqualArguments, EqualTags, OneRange, OrderAgrees, RoundTrip, TopologyServes};
+ghost use Rattle.cluster_routing.specs.Laws.{CaseOfTheWord, EachAddressOnce, EachNameHasItsRow, EqualArguments, EqualTags, OneRange, OrderAgrees, PartsShareThePlaces, RoundTrip, TopologyServes};
 ghost use Rattle.cluster_routing.specs.Seen.{address};
 
 use crate::address::NodeAddress;
@@ -84,4 +84,10 @@ pub fn each_address_stands_once()
 /// the shard has that primary, and the replicas of the slot.
 pub fn the_topology_serves_as_the_map_does()
     ensures { TopologyServes }
+{}
+
+/// The parts of a split command share its places: each place stands in the part of its own slot and in
+/// no other, the places of a part ascend, and each slot has its part.
+pub fn parts_share_the_places()
+    ensures { PartsShareThePlaces }
 {}
