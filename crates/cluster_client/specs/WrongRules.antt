@@ -1,5 +1,5 @@
 -- Rules that are wrong, each beside what the right one says of the same call: the examples tell them apart.
-use Rattle.std.specs.Prelude.{◌≡◌, ℕ, ◌==◌, Bool, true, false, List, [], ◌∷◌, ◌++◌, slice_get, is_some, Option, Some, None, option_and_then, Result, Err, bytes_eq, codes, refl}
+use Rattle.std.specs.Prelude.{◌≡◌, ℕ, ◌==◌, Bool, true, false, List, [], ◌∷◌, ◌++◌, slice_get, is_some, Option, Some, None, option_and_then, Result, Err, bytes_eq, codes, refl, filter, ◌||◌}
 use Rattle.std.specs.List.{flat_map}
 use Rattle.std.specs.Fmt.{digits}
 use Rattle.std.specs.Str.{is_utf8, chars}
@@ -12,7 +12,7 @@ use Rattle.resp_args.specs.declared.cmd.Arg.TheVariants.{Simple}
 use Rattle.resp_args.specs.Command.{Command}
 use Rattle.resp_args.specs.Packed.{packed}
 use Rattle.cluster_routing.specs.HashSlot.{hash_slot}
-use Rattle.cluster_routing.specs.Address.{Address}
+use Rattle.cluster_routing.specs.Address.{Address, same_address}
 use Rattle.cluster_routing.specs.SlotMap.{SlotEntries}
 use Rattle.cluster_routing.specs.SlotsReply.{ranges}
 use Rattle.cluster_routing.specs.SlotMap.{put_all}
@@ -24,9 +24,10 @@ use Rattle.cluster_routing.specs.declared.route.Route.{Route}
 use Rattle.cluster_routing.specs.declared.route.SlotAddr.TheVariants.{Master}
 use Rattle.cluster_routing.specs.Candidates.{Candidates}
 use Rattle.cluster_routing.specs.Examples.{first_node as n1, second_node as n2, halves, alone}
-use Rattle.cluster_client.specs.Request.{Request, asking_command, bytes_of, outgoing_for}
+use Rattle.cluster_client.specs.Request.{requests_to, Request, asking_command, bytes_of, outgoing_for}
 use Rattle.cluster_client.specs.Reply.{Sort, Moved, sort_of, redirect_target, behind_space, behind_word, front_word, address_in}
-use Rattle.cluster_client.specs.Log.{Exchange, exchanges, replies, reply_at, is_moved_sort}
+use Rattle.cluster_client.specs.Log.{is_answered, Exchange, exchanges, replies, reply_at, is_moved_sort}
+use Rattle.cluster_client.specs.World.{has_repeats}
 use Rattle.cluster_client.specs.Keyed.{keyed_route}
 use Rattle.cluster_client.specs.Picks.{candidates_of, some_candidates}
 use Rattle.cluster_client.specs.Plan.{Refresh, serving_node, routed_node}
@@ -178,3 +179,39 @@ moved_inside_raises_nothing = refl
 pub it_would_raise_it_by_a_wrong_rule : wrong_flag (first_error moved_inside) ≡ true
 unfolding first_error server_kind
 it_would_raise_it_by_a_wrong_rule = refl
+
+-- ---- nodes: known by their hosts alone, and repeated only where they stand side by side
+
+abbrev pub other_port : Address
+other_port = record { host = n1.host; port = 7009 }
+
+abbrev pub wrong_requests_to : Address → List Request → List Request
+wrong_requests_to node log = filter (λ (q : Request). bytes_eq q.node.host node.host) log
+
+pub a_port_tells_nodes_apart : requests_to n1 (plain other_port ∷ []) ≡ []
+a_port_tells_nodes_apart = refl
+
+pub it_would_be_sent_there_by_a_wrong_rule : wrong_requests_to n1 (plain other_port ∷ []) ≡ plain other_port ∷ []
+it_would_be_sent_there_by_a_wrong_rule = refl
+
+abbrev pub wrong_has_repeats : List Address → Bool
+wrong_has_repeats (a ∷ b ∷ as') = same_address a b || wrong_has_repeats (b ∷ as')
+wrong_has_repeats as' = false
+
+pub a_repeat_may_stand_apart : has_repeats (n1 ∷ n2 ∷ n1 ∷ []) ≡ true
+a_repeat_may_stand_apart = refl
+
+pub it_would_be_passed_over_by_a_wrong_rule : wrong_has_repeats (n1 ∷ n2 ∷ n1 ∷ []) ≡ false
+it_would_be_passed_over_by_a_wrong_rule = refl
+
+-- ---- fates: any reply answers
+
+abbrev pub wrong_is_answered : Exchange → Bool
+wrong_is_answered x = is_some x.reply
+
+pub an_error_answers_nothing : is_answered (got (plain n1) 0 (Some failed)) ≡ false
+unfolding server_kind
+an_error_answers_nothing = refl
+
+pub it_would_answer_by_another_wrong_rule : wrong_is_answered (got (plain n1) 0 (Some failed)) ≡ true
+it_would_answer_by_another_wrong_rule = refl
