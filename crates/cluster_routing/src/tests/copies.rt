@@ -1,57 +1,100 @@
 //! Copies of shards, of a topology, and of where a command goes.
 
-use crate::tests::routes::{cmd, to_random, to_slot};
+use crate::tests::nodes::{are_nodes, is_node};
+use crate::tests::routes::{cmd, to_slot};
 use crate::{
     ClusterTopology, MultiSlotArgPattern, MultipleNodeRoutingInfo, NodeAddress, Redirect, Route,
     RoutingInfo, Shard, SingleNodeRoutingInfo, SlotAddr,
 };
 use resp_core::RedisError;
-use std::alloc::Global;
+use std::alloc::{AllocError, Global};
+use std::process::Abort;
 use std::test::Fail;
 
 fn shard(alloc: Global, slots: (u16, u16), nodes: [&str; 2]) -> Result<Shard, RedisError> {
     let primary = NodeAddress::try_from(alloc, nodes[0])?;
-    let replicas = vec![in alloc; NodeAddress::try_from(alloc, nodes[1])?]?;
-    Ok(Shard::new(vec![in alloc; slots]?, primary, replicas))
+    let mut replicas = Vec::new(alloc);
+    replicas.push(NodeAddress::try_from(alloc, nodes[1])?)?;
+    Ok(Shard::new(Vec::from_slice(alloc, &[slots])?, primary, replicas))
+}
+
+fn two_shards(alloc: Global) -> Result<ClusterTopology, RedisError> {
+    let mut shards = Vec::new(alloc);
+    shards.push(shard(alloc, (0, 99), ["n1:7001", "n3:7003"])?)?;
+    shards.push(shard(alloc, (200, 299), ["n2:7002", "n4:7004"])?)?;
+    Ok(ClusterTopology::from_shards(alloc, shards)?)
+}
+
+fn is_second<R: Abort>(rt: &R, shard: &Shard) {
+    assert!(rt; shard.slot_ranges() == [(200, 299)].as_slice());
+    is_node(rt, Some(shard.primary()), "n2", 7002);
+    are_nodes(rt, shard.replicas(), &[("n4", 7004)]);
 }
 
 #[test]
-fn copies_shards(rt: HostRuntime) -> Result<(), Fail> {
-    let alloc = rt.alloc();
-    let shards = vec![in alloc;
-        shard(alloc, (0, 99), ["n1:7001", "n3:7003"])?,
-        shard(alloc, (200, 299), ["n2:7002", "n4:7004"])?,
-    ]?;
-    let topology = ClusterTopology::from_shards(alloc, shards)?;
-    let copy = topology.clone()?;
+fn copies_a_topology(rt: HostRuntime) -> Result<(), Fail> {
+    let copy = two_shards(rt.alloc())?.clone()?;
     assert_eq!(rt; copy.shards().count(), 2);
-    let second = copy.shard_for_slot(250).ok_or("a shard")?.clone()?;
-    assert!(rt; second.slot_ranges() == [(200, 299)].as_slice());
-    assert!(rt; *second.primary() == NodeAddress::try_from(alloc, "n2:7002")?);
-    let replicas = vec![in alloc; NodeAddress::try_from(alloc, "n4:7004")?]?;
-    assert!(rt; second.replicas() == replicas.as_slice());
+    is_second(&rt, copy.shard_for_slot(250).ok_or("a shard")?);
     assert!(rt; copy.shard_for_slot(150).is_none());
     Ok(())
 }
 
 #[test]
+fn copies_a_shard(rt: HostRuntime) -> Result<(), Fail> {
+    let copy = shard(rt.alloc(), (200, 299), ["n2:7002", "n4:7004"])?.clone()?;
+    is_second(&rt, &copy);
+    Ok(())
+}
+
+fn is_copied<R: Abort>(rt: &R, info: &RoutingInfo) -> Result<(), AllocError> {
+    let copy = info.clone()?;
+    assert!(rt; copy == *info);
+    Ok(())
+}
+
+#[test]
 fn copies_routes(rt: HostRuntime) -> Result<(), Fail> {
-    let alloc = rt.alloc();
-    let command = cmd(alloc, &["MGET", "a", "b", "a"])?;
-    let split = RoutingInfo::for_routable(alloc, &command, &[])?.ok_or("a route")?;
-    assert!(rt; split.clone()? == split);
+    let command = cmd(rt.alloc(), &["MGET", "a", "b", "a"])?;
+    let split = RoutingInfo::for_routable(rt.alloc(), &command, &[])?.ok_or("a route")?;
+    is_copied(&rt, &split)?;
     let one = to_slot(15495).ok_or("a route")?;
-    assert!(rt; one.clone()? == one);
-    assert!(rt; one.clone()? != to_random().ok_or("a route")?);
-    let any = SingleNodeRoutingInfo::RandomPrimary;
-    assert!(rt; any.clone()? == any);
-    let node = SingleNodeRoutingInfo::ByAddress(NodeAddress::try_from(alloc, "n1:7001")?);
-    assert!(rt; node.clone()? == node);
-    let parts = vec![in alloc; (Route::new(7, SlotAddr::Master), vec![in alloc; 0, 2]?)]?;
+    is_copied(&rt, &one)?;
+    assert!(rt; one != split);
+    Ok(())
+}
+
+fn is_single_copied<R: Abort>(rt: &R, node: &SingleNodeRoutingInfo) -> Result<(), AllocError> {
+    let copy = node.clone()?;
+    assert!(rt; copy == *node);
+    Ok(())
+}
+
+#[test]
+fn copies_single_nodes(rt: HostRuntime) -> Result<(), Fail> {
+    is_single_copied(&rt, &SingleNodeRoutingInfo::RandomPrimary)?;
+    let node = SingleNodeRoutingInfo::ByAddress(NodeAddress::try_from(rt.alloc(), "n1:7001")?);
+    is_single_copied(&rt, &node)?;
+    assert!(rt; node != SingleNodeRoutingInfo::RandomPrimary);
+    Ok(())
+}
+
+#[test]
+fn copies_several_nodes(rt: HostRuntime) -> Result<(), Fail> {
+    let places = Vec::from_slice(rt.alloc(), &[0, 2])?;
+    let mut parts = Vec::new(rt.alloc());
+    parts.push((Route::new(7, SlotAddr::Master), places))?;
     let pattern = MultiSlotArgPattern::KeysAndLastArg;
     let several = MultipleNodeRoutingInfo::MultiSlot((parts, pattern));
-    assert!(rt; several.clone()? == several);
-    assert!(rt; several.clone()? != MultipleNodeRoutingInfo::AllNodes);
+    let copy = several.clone()?;
+    assert!(rt; copy == several);
+    assert!(rt; copy != MultipleNodeRoutingInfo::AllNodes);
+    Ok(())
+}
+
+fn is_redirect_copied<R: Abort>(rt: &R, redirect: &Redirect) -> Result<(), AllocError> {
+    let copy = redirect.clone()?;
+    assert!(rt; copy == *redirect);
     Ok(())
 }
 
@@ -59,8 +102,8 @@ fn copies_routes(rt: HostRuntime) -> Result<(), Fail> {
 fn copies_redirects(rt: HostRuntime) -> Result<(), Fail> {
     let moved = Redirect::Moved(NodeAddress::try_from(rt.alloc(), "n1:7001")?);
     let ask = Redirect::Ask(NodeAddress::try_from(rt.alloc(), "n1:7001")?);
-    assert!(rt; moved.clone()? == moved);
-    assert!(rt; ask.clone()? == ask);
-    assert!(rt; ask.clone()? != moved);
+    is_redirect_copied(&rt, &moved)?;
+    is_redirect_copied(&rt, &ask)?;
+    assert!(rt; ask != moved);
     Ok(())
 }

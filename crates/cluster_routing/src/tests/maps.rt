@@ -3,6 +3,7 @@
 ghost use Rattle.std.specs.Prelude.{Contains};
 ghost use Rattle.cluster_routing.specs.Seen.{address};
 
+use crate::tests::nodes::is_node;
 use crate::{
     NodeAddress, ReadCandidates, ReadRoutingStrategy, Replicas, Route, SlotAddr, SlotAddrs,
     SlotMap, SlotRange, SlotRangeMap, parse_slots, slot_cmd,
@@ -138,37 +139,60 @@ fn asks_the_strategy_once(rt: HostRuntime) -> Result<(), Fail> {
         asked: Cell::new(0),
     };
     let read = Route::with_key(b"a", SlotAddr::ReplicaOptional);
-    let n1 = node(rt.alloc(), "n1", 7001)?;
-    let n3 = node(rt.alloc(), "n3", 7003)?;
-    let n4 = node(rt.alloc(), "n4", 7004)?;
-    assert!(rt; map.slot_addr_for_route(read, 0, Some(&second)) == Some(&n4));
+    is_node(
+        &rt,
+        map.slot_addr_for_route(read, 0, Some(&second)),
+        "n4",
+        7004,
+    );
     assert_eq!(rt; second.asked.get(), 1);
     let write = Route::with_key(b"a", SlotAddr::Master);
-    assert!(rt; map.slot_addr_for_route(write, 0, Some(&second)) == Some(&n1));
-    assert_eq!(rt; second.asked.get(), 1);
-    assert!(rt; map.slot_addr_for_route(read, 0, None) == Some(&n1));
-    let replica = Route::with_key(b"a", SlotAddr::ReplicaRequired);
-    assert!(rt; map.slot_addr_for_route(replica, 2, None) == Some(&n3));
-    assert!(rt; map.slot_addr_for_route(replica, 3, None) == Some(&n4));
-    assert!(rt;
-        map.slot_addr_for_route(Route::new(16384, SlotAddr::Master), 0, None)
-            .is_none()
+    is_node(
+        &rt,
+        map.slot_addr_for_route(write, 0, Some(&second)),
+        "n1",
+        7001,
     );
+    assert_eq!(rt; second.asked.get(), 1);
     Ok(())
 }
 
 #[test]
-fn walks_nodes(rt: HostRuntime) -> Result<(), Fail> {
-    let mut map = shard_map(rt.alloc())?;
-    let mut hosts = String::new(rt.alloc());
+fn leads_routes_without_a_strategy(rt: HostRuntime) -> Result<(), Fail> {
+    let map = shard_map(rt.alloc())?;
+    let at = |route, number| map.slot_addr_for_route(route, number, None);
+    let read = Route::with_key(b"a", SlotAddr::ReplicaOptional);
+    is_node(&rt, at(read, 0), "n1", 7001);
+    let replica = Route::with_key(b"a", SlotAddr::ReplicaRequired);
+    is_node(&rt, at(replica, 2), "n3", 7003);
+    is_node(&rt, at(replica, 3), "n4", 7004);
+    assert!(rt; at(Route::new(16384, SlotAddr::Master), 0).is_none());
+    Ok(())
+}
+
+fn hosts(alloc: Global, map: &SlotMap) -> Result<String, AllocError> {
+    let mut hosts = String::new(alloc);
     for nodes in map.values() {
         for address in nodes {
             hosts.push_str(address.host())?;
         }
     }
-    assert_eq!(rt; hosts.as_str(), "n1n3n4");
-    let other = SlotRange::new(5, 16383, node(rt.alloc(), "n9", 1)?, Vec::new(rt.alloc()));
-    map.fill_slots(vec![in rt.alloc(); other]?)?;
+    Ok(hosts)
+}
+
+#[test]
+fn walks_nodes(rt: HostRuntime) -> Result<(), Fail> {
+    let map = shard_map(rt.alloc())?;
+    assert_eq!(rt; hosts(rt.alloc(), &map)?.as_str(), "n1n3n4");
+    Ok(())
+}
+
+#[test]
+fn fills_and_clears(rt: HostRuntime) -> Result<(), Fail> {
+    let mut map = shard_map(rt.alloc())?;
+    let mut slots = Vec::new(rt.alloc());
+    slots.push(SlotRange::new(5, 16383, node(rt.alloc(), "n9", 1)?, Vec::new(rt.alloc())))?;
+    map.fill_slots(slots)?;
     let low = Route::new(4, SlotAddr::Master);
     assert!(rt; map.slot_addr_for_route(low, 0, None).is_none());
     map.clear();

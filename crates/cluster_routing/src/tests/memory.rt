@@ -3,6 +3,7 @@
 //! A test prints a line `refused CALL` where a call is refused, sees what then stands, and goes on;
 //! no further call may be refused.
 
+use crate::tests::nodes::{are_nodes, is_node};
 use crate::tests::routes::{cmd, to_slot};
 use crate::{
     ClusterTopology, MultiSlotArgPattern, MultipleNodeRoutingInfo, NodeAddress, ResponsePolicy,
@@ -31,16 +32,6 @@ fn slots_reply<R: Print>(rt: &R, alloc: Global) -> Result<Value, Fail> {
             println!(rt; "refused reply")?;
             Ok(parsed(alloc).ok_or("no whole value")?)
         }
-    }
-}
-
-fn is_node<R: Abort>(rt: &R, node: Option<&NodeAddress>, host: &str, port: u16) {
-    match node {
-        Some(node) => {
-            assert_eq!(rt; node.host(), host);
-            assert_eq!(rt; node.port(), port);
-        }
-        None => assert!(rt; false),
     }
 }
 
@@ -210,8 +201,7 @@ fn is_shard<R: Abort>(rt: &R, shard: Option<&Shard>, ranges: &[(u16, u16)], host
         Some(shard) => {
             assert!(rt; shard.slot_ranges() == ranges);
             is_node(rt, Some(shard.primary()), host, 7001);
-            assert_eq!(rt; shard.replicas().len(), 1);
-            is_node(rt, shard.replicas().first(), "n2", 7002);
+            are_nodes(rt, shard.replicas(), &[("n2", 7002)]);
         }
         None => assert!(rt; false),
     }

@@ -2,7 +2,25 @@
 
 use crate::{NodeAddress, Route, Slot, SlotAddr};
 use resp_core::ErrorKind;
+use std::process::Abort;
 use std::test::Fail;
+
+pub(crate) fn is_node<R: Abort>(rt: &R, node: Option<&NodeAddress>, host: &str, port: u16) {
+    match node {
+        Some(node) => {
+            assert_eq!(rt; node.host(), host);
+            assert_eq!(rt; node.port(), port);
+        }
+        None => assert!(rt; false),
+    }
+}
+
+pub(crate) fn are_nodes<R: Abort>(rt: &R, nodes: &[NodeAddress], expected: &[(&str, u16)]) {
+    assert_eq!(rt; nodes.len(), expected.len());
+    for (node, (host, port)) in nodes.iter().zip(expected) {
+        is_node(rt, Some(node), host, *port);
+    }
+}
 
 #[test]
 fn reads_and_prints_addresses(rt: HostRuntime) -> Result<(), Fail> {

@@ -69,86 +69,136 @@ fn goes_to_the_key(rt: HostRuntime) -> Result<(), Fail> {
     Ok(())
 }
 
+// The route of a command with keys `a` and `b` at these places.
+fn in_two_parts(
+    alloc: Global,
+    places: [&[usize]; 2],
+    pattern: MultiSlotArgPattern,
+    policy: ResponsePolicy,
+) -> Result<Option<RoutingInfo>, AllocError> {
+    let mut parts = Vec::new(alloc);
+    for (slot, of_slot) in [15495, 3300].into_iter().zip(places) {
+        let of_slot = Vec::from_slice(alloc, of_slot)?;
+        parts.push((Route::new(slot, SlotAddr::Master), of_slot))?;
+    }
+    let nodes = MultipleNodeRoutingInfo::MultiSlot((parts, pattern));
+    Ok(Some(RoutingInfo::MultiNode((nodes, Some(policy)))))
+}
+
 #[test]
-fn splits_by_slot(rt: HostRuntime) -> Result<(), Fail> {
-    let alloc = rt.alloc();
-    let a = Route::new(15495, SlotAddr::Master);
-    let b = Route::new(3300, SlotAddr::Master);
-    let parts = vec![in alloc; (a, vec![in alloc; 0, 2]?), (b, vec![in alloc; 1]?)]?;
-    let expected = Some(RoutingInfo::MultiNode((
-        MultipleNodeRoutingInfo::MultiSlot((parts, MultiSlotArgPattern::KeysOnly)),
-        Some(ResponsePolicy::CombineArrays),
-    )));
-    assert!(rt; route(alloc, &["MGET", "a", "b", "a"])? == expected);
-    let parts = vec![in alloc; (a, vec![in alloc; 0, 1]?), (b, vec![in alloc; 2, 3]?)]?;
-    let expected = Some(RoutingInfo::MultiNode((
-        MultipleNodeRoutingInfo::MultiSlot((parts, MultiSlotArgPattern::KeyValuePairs)),
-        Some(ResponsePolicy::AllSucceeded),
-    )));
-    assert!(rt; route(alloc, &["MSET", "a", "1", "b", "2"])? == expected);
-    let parts = vec![in alloc; (a, vec![in alloc; 0]?), (b, vec![in alloc; 1]?)]?;
-    let expected = Some(RoutingInfo::MultiNode((
-        MultipleNodeRoutingInfo::MultiSlot((parts, MultiSlotArgPattern::KeysAndLastArg)),
-        Some(ResponsePolicy::CombineArrays),
-    )));
-    assert!(rt; route(alloc, &["JSON.MGET", "a", "b", "$"])? == expected);
-    assert!(rt; route(alloc, &["MSET", "a"])?.is_none());
-    assert!(rt; route(alloc, &["JSON.MGET", "a"])?.is_none());
-    assert!(rt; route(alloc, &["JSON.MSET", "a", "$"])?.is_none());
-    assert!(rt; route(alloc, &["MGET"])?.is_none());
-    let mut gap = cmd(alloc, &["MGET", "a"])?;
-    gap.cursor_arg(0)?;
-    assert!(rt; RoutingInfo::for_routable(alloc, &gap, &[])?.is_none());
+fn splits_keys_by_slot(rt: HostRuntime) -> Result<(), Fail> {
+    let pattern = MultiSlotArgPattern::KeysOnly;
+    let policy = ResponsePolicy::CombineArrays;
+    let expected = in_two_parts(rt.alloc(), [&[0, 2], &[1]], pattern, policy)?;
+    assert!(rt; route(rt.alloc(), &["MGET", "a", "b", "a"])? == expected);
     Ok(())
+}
+
+#[test]
+fn splits_pairs_by_slot(rt: HostRuntime) -> Result<(), Fail> {
+    let pattern = MultiSlotArgPattern::KeyValuePairs;
+    let policy = ResponsePolicy::AllSucceeded;
+    let expected = in_two_parts(rt.alloc(), [&[0, 1], &[2, 3]], pattern, policy)?;
+    assert!(rt; route(rt.alloc(), &["MSET", "a", "1", "b", "2"])? == expected);
+    Ok(())
+}
+
+#[test]
+fn splits_keys_before_a_path_by_slot(rt: HostRuntime) -> Result<(), Fail> {
+    let pattern = MultiSlotArgPattern::KeysAndLastArg;
+    let policy = ResponsePolicy::CombineArrays;
+    let expected = in_two_parts(rt.alloc(), [&[0], &[1]], pattern, policy)?;
+    assert!(rt; route(rt.alloc(), &["JSON.MGET", "a", "b", "$"])? == expected);
+    Ok(())
+}
+
+#[test]
+fn splits_no_broken_tuple(rt: HostRuntime) -> Result<(), Fail> {
+    let broken: [&[&str]; 4] = [
+        &["MSET", "a"],
+        &["JSON.MGET", "a"],
+        &["JSON.MSET", "a", "$"],
+        &["MGET"],
+    ];
+    assert_eq!(rt; first_elsewhere(rt.alloc(), &broken, &None)?, None);
+    Ok(())
+}
+
+#[test]
+fn splits_no_gap(rt: HostRuntime) -> Result<(), Fail> {
+    let mut gap = cmd(rt.alloc(), &["MGET", "a"])?;
+    gap.cursor_arg(0)?;
+    assert!(rt; RoutingInfo::for_routable(rt.alloc(), &gap, &[])?.is_none());
+    Ok(())
+}
+
+fn read_names(alloc: Global) -> Result<Vec<Vec<u8>>, AllocError> {
+    let mut names = Vec::new(alloc);
+    for name in ["get", "OBJECT FREQ"] {
+        names.push(Vec::from_slice(alloc, name.as_bytes())?)?;
+    }
+    Ok(names)
+}
+
+fn read_route(alloc: Global, words: &[&str]) -> Result<Option<RoutingInfo>, AllocError> {
+    RoutingInfo::for_routable(alloc, &cmd(alloc, words)?, &read_names(alloc)?)
 }
 
 #[test]
 fn reads_may_go_to_replicas(rt: HostRuntime) -> Result<(), Fail> {
     let alloc = rt.alloc();
-    let names = vec![in alloc;
-        Vec::from_slice(alloc, b"get")?,
-        Vec::from_slice(alloc, b"OBJECT FREQ")?,
-    ]?;
     let read = Some(RoutingInfo::SingleNode(SingleNodeRoutingInfo::SpecificNode(Route::new(
         15495,
         SlotAddr::ReplicaOptional,
     ))));
-    assert!(rt; RoutingInfo::for_routable(alloc, &cmd(alloc, &["GET", "a"])?, &names)? == read);
-    assert!(rt;
-        RoutingInfo::for_routable(alloc, &cmd(alloc, &["object", "freq", "a"])?, &names)? == read
-    );
-    assert!(rt;
-        RoutingInfo::for_routable(alloc, &cmd(alloc, &["SET", "a"])?, &names)? == to_slot(15495)
-    );
+    assert!(rt; read_route(alloc, &["GET", "a"])? == read);
+    assert!(rt; read_route(alloc, &["object", "freq", "a"])? == read);
+    assert!(rt; read_route(alloc, &["SET", "a"])? == to_slot(15495));
     Ok(())
+}
+
+fn scan(alloc: Global) -> Result<Cmd, AllocError> {
+    let mut scan = cmd(alloc, &["xinfo", "Stream"])?;
+    scan.cursor_arg(7)?;
+    Ok(scan)
 }
 
 #[test]
 fn looks_at_arguments(rt: HostRuntime) -> Result<(), Fail> {
-    let alloc = rt.alloc();
-    let mut scan = cmd(alloc, &["xinfo", "Stream"])?;
-    scan.cursor_arg(7)?;
+    let scan = scan(rt.alloc())?;
     assert!(rt; scan.arg_idx(1) == Some(b"Stream".as_slice()));
     assert!(rt; scan.arg_idx(2).is_none());
     assert!(rt; scan.arg_idx(3).is_none());
     assert_eq!(rt; scan.position(b"STREAM"), Some(1));
-    assert!(rt; scan.arguments(alloc)?.is_none());
-    let name = scan.command(alloc)?.ok_or("a name")?;
+    assert!(rt; scan.arguments(rt.alloc())?.is_none());
+    let name = scan.command(rt.alloc())?.ok_or("a name")?;
     assert!(rt; name.as_slice() == b"XINFO STREAM".as_slice());
-    let items = vec![in alloc;
-        Value::BulkString(Vec::from_slice(alloc, b"Get")?),
-        Value::Int(1),
-        Value::BulkString(Vec::from_slice(alloc, b"a")?),
-    ]?;
-    let value = Value::Array(items);
+    Ok(())
+}
+
+fn bulk(alloc: Global, text: &[u8]) -> Result<Value, AllocError> {
+    Ok(Value::BulkString(Vec::from_slice(alloc, text)?))
+}
+
+fn items(alloc: Global) -> Result<Value, AllocError> {
+    let mut items = Vec::new(alloc);
+    items.push(bulk(alloc, b"Get")?)?;
+    items.push(Value::Int(1))?;
+    items.push(bulk(alloc, b"a")?)?;
+    Ok(Value::Array(items))
+}
+
+#[test]
+fn looks_at_items(rt: HostRuntime) -> Result<(), Fail> {
+    let value = items(rt.alloc())?;
     assert!(rt; value.arg_idx(0) == Some(b"Get".as_slice()));
     assert!(rt; value.arg_idx(1).is_none());
     assert_eq!(rt; value.position(b"A"), Some(2));
-    assert!(rt; value.arguments(alloc)?.is_none());
-    let name = value.command(alloc)?.ok_or("a name")?;
+    assert!(rt; value.arguments(rt.alloc())?.is_none());
+    assert!(rt; RoutingInfo::for_routable(rt.alloc(), &value, &[])?.is_none());
+    let name = value.command(rt.alloc())?.ok_or("a name")?;
     assert!(rt; name.as_slice() == b"GET".as_slice());
-    assert!(rt; RoutingInfo::for_routable(alloc, &value, &[])?.is_none());
-    assert!(rt; Value::Nil.arguments(alloc)?.is_some());
+    assert!(rt; Value::Nil.arguments(rt.alloc())?.is_some());
     Ok(())
 }
 

@@ -1,5 +1,6 @@
 //! The shards of a map of slots, and the lists of its addresses.
 
+use crate::tests::nodes::{are_nodes, is_node};
 use crate::{
     ClusterTopology, NodeAddress, ReadCandidates, ReadRoutingStrategy, Route, Shard, SlotAddr,
     SlotMap, SlotRange,
@@ -7,6 +8,7 @@ use crate::{
 use resp_core::RedisError;
 use std::alloc::{AllocError, Global};
 use std::cell::Cell;
+use std::process::Abort;
 use std::test::Fail;
 
 fn nodes(alloc: Global, texts: &[&str]) -> Result<Vec<NodeAddress>, RedisError> {
@@ -15,16 +17,6 @@ fn nodes(alloc: Global, texts: &[&str]) -> Result<Vec<NodeAddress>, RedisError> 
         read.push(NodeAddress::try_from(alloc, text)?)?;
     }
     Ok(read)
-}
-
-fn range(
-    alloc: Global,
-    slots: (u16, u16),
-    primary: &str,
-    replicas: &[&str],
-) -> Result<SlotRange, RedisError> {
-    let primary = NodeAddress::try_from(alloc, primary)?;
-    Ok(SlotRange::new(slots.0, slots.1, primary, nodes(alloc, replicas)?))
 }
 
 /// The texts of addresses, with a space behind each.
@@ -37,37 +29,73 @@ fn texts(alloc: Global, addresses: &[&NodeAddress]) -> Result<String, AllocError
     Ok(all)
 }
 
-fn sample_map(alloc: Global) -> Result<SlotMap, RedisError> {
-    let two = ["n1:10000", "n10:1"];
-    let slots = vec![in alloc;
-        range(alloc, (0, 99), "n1:7001", &two)?,
-        range(alloc, (200, 299), "n1:999", &[])?,
-        range(alloc, (300, 399), "n1:7001", &two)?,
-        range(alloc, (400, 499), "n1:7001", &["n10:1", "n1:10000"])?,
-        range(alloc, (500, 599), "n1:7001", &["n1:10000"])?,
-    ]?;
+const TWO: &[&str] = &["n1:10000", "n10:1"];
+
+const TURNED: &[&str] = &["n10:1", "n1:10000"];
+
+fn map_of(alloc: Global, rows: &[(u16, u16, &str, &[&str])]) -> Result<SlotMap, RedisError> {
+    let mut slots = Vec::new(alloc);
+    for (start, end, primary, replicas) in rows {
+        let primary = NodeAddress::try_from(alloc, primary)?;
+        let replicas = nodes(alloc, replicas)?;
+        slots.push(SlotRange::new(*start, *end, primary, replicas))?;
+    }
     Ok(SlotMap::from_slots(alloc, slots)?)
+}
+
+fn sample_map(alloc: Global) -> Result<SlotMap, RedisError> {
+    map_of(
+        alloc,
+        &[
+            (0, 99, "n1:7001", TWO),
+            (200, 299, "n1:999", &[]),
+            (300, 399, "n1:7001", TWO),
+            (400, 499, "n1:7001", TURNED),
+            (500, 599, "n1:7001", &["n1:10000"]),
+        ],
+    )
+}
+
+fn is_shard<R: Abort>(
+    rt: &R,
+    shard: Option<&Shard>,
+    ranges: &[(u16, u16)],
+    port: u16,
+    replicas: &[(&str, u16)],
+) {
+    match shard {
+        Some(shard) => {
+            assert!(rt; shard.slot_ranges() == ranges);
+            is_node(rt, Some(shard.primary()), "n1", port);
+            are_nodes(rt, shard.replicas(), replicas);
+        }
+        None => assert!(rt; false),
+    }
 }
 
 #[test]
 fn makes_one_shard_of_equal_nodes(rt: HostRuntime) -> Result<(), Fail> {
     let topology = sample_map(rt.alloc())?.topology(rt.alloc())?;
     let mut shards = topology.shards();
-    let first = shards.next().ok_or("a shard")?;
-    assert!(rt; first.slot_ranges() == [(0, 99), (300, 399)].as_slice());
-    let replicas = nodes(rt.alloc(), &["n1:10000", "n10:1"])?;
-    assert!(rt; first.replicas() == replicas.as_slice());
-    let second = shards.next().ok_or("a shard")?;
-    assert!(rt; second.slot_ranges() == [(200, 299)].as_slice());
-    assert_eq!(rt; second.primary().to_string(rt.alloc())?.as_str(), "n1:999");
-    assert!(rt; second.replicas().is_empty());
-    let turned = shards.next().ok_or("a shard")?;
-    assert!(rt; turned.slot_ranges() == [(400, 499)].as_slice());
-    let fewer = shards.next().ok_or("a shard")?;
-    assert!(rt; fewer.slot_ranges() == [(500, 599)].as_slice());
-    assert!(rt; fewer.primary() == first.primary());
+    let (low, high) = (("n1", 10000), ("n10", 1));
+    is_shard(
+        &rt,
+        shards.next(),
+        &[(0, 99), (300, 399)],
+        7001,
+        &[low, high],
+    );
+    is_shard(&rt, shards.next(), &[(200, 299)], 999, &[]);
+    is_shard(&rt, shards.next(), &[(400, 499)], 7001, &[high, low]);
+    is_shard(&rt, shards.next(), &[(500, 599)], 7001, &[low]);
     assert!(rt; shards.next().is_none());
     Ok(())
+}
+
+// The end of the first range of the shard that serves the slot.
+fn first_end(topology: &ClusterTopology, slot: u16) -> Option<u16> {
+    let shard = topology.shard_for_slot(slot)?;
+    shard.slot_ranges().first().map(|range| range.1)
 }
 
 #[test]
@@ -81,8 +109,7 @@ fn finds_the_shard_of_a_slot(rt: HostRuntime) -> Result<(), Fail> {
         (300, 99),
         (400, 499),
     ] {
-        let shard = topology.shard_for_slot(slot).ok_or("a shard")?;
-        assert_eq!(rt; shard.slot_ranges().first().map(|r| r.1), Some(end));
+        assert_eq!(rt; first_end(&topology, slot), Some(end));
     }
     for slot in [100, 150, 199, 600, 65535] {
         assert!(rt; topology.shard_for_slot(slot).is_none());
@@ -92,37 +119,61 @@ fn finds_the_shard_of_a_slot(rt: HostRuntime) -> Result<(), Fail> {
 
 #[test]
 fn has_one_shard_for_one_range(rt: HostRuntime) -> Result<(), Fail> {
-    let slots = vec![in rt.alloc(); range(rt.alloc(), (0, 16383), "n1:7001", &[])?]?;
-    let topology = SlotMap::from_slots(rt.alloc(), slots)?.topology(rt.alloc())?;
+    let map = map_of(rt.alloc(), &[(0, 16383, "n1:7001", &[])])?;
+    let topology = map.topology(rt.alloc())?;
     assert_eq!(rt; topology.shards().count(), 1);
-    let shard = topology.shard_for_slot(16383).ok_or("a shard")?;
-    assert!(rt; shard.slot_ranges() == [(0, 16383)].as_slice());
-    assert_eq!(rt; shard.primary().to_string(rt.alloc())?.as_str(), "n1:7001");
-    assert!(rt; shard.replicas().is_empty());
-    let empty = SlotMap::new(rt.alloc());
-    let none = empty.topology(rt.alloc())?;
-    assert!(rt; none.shards().next().is_none());
-    assert!(rt; none.shard_for_slot(0).is_none());
-    assert!(rt; empty.addresses_for_all_nodes(rt.alloc())?.is_empty());
+    is_shard(
+        &rt,
+        topology.shard_for_slot(16383),
+        &[(0, 16383)],
+        7001,
+        &[],
+    );
     Ok(())
 }
 
 #[test]
+fn has_no_shard_for_an_empty_map(rt: HostRuntime) -> Result<(), Fail> {
+    let empty = SlotMap::new(rt.alloc());
+    assert!(rt; empty.addresses_for_all_nodes(rt.alloc())?.is_empty());
+    let topology = empty.topology(rt.alloc())?;
+    assert!(rt; topology.shards().next().is_none());
+    assert!(rt; topology.shard_for_slot(0).is_none());
+    Ok(())
+}
+
+fn shard(
+    alloc: Global,
+    ranges: &[(u16, u16)],
+    primary: &str,
+    replicas: &[&str],
+) -> Result<Shard, RedisError> {
+    let primary = NodeAddress::try_from(alloc, primary)?;
+    let replicas = nodes(alloc, replicas)?;
+    Ok(Shard::new(Vec::from_slice(alloc, ranges)?, primary, replicas))
+}
+
+fn with_equal_ends(alloc: Global) -> Result<ClusterTopology, RedisError> {
+    let mut shards = Vec::new(alloc);
+    let wide = [(0, 99), (200, 299)];
+    shards.push(shard(alloc, &wide, "n1:7001", &["n3:7003"])?)?;
+    shards.push(shard(alloc, &[(250, 299)], "n1:7002", &[])?)?;
+    Ok(ClusterTopology::from_shards(alloc, shards)?)
+}
+
+#[test]
 fn lets_the_last_of_equal_ends_serve(rt: HostRuntime) -> Result<(), Fail> {
-    let wide = vec![in rt.alloc(); (0, 99), (200, 299)]?;
-    let n1 = NodeAddress::try_from(rt.alloc(), "n1:7001")?;
-    let n2 = NodeAddress::try_from(rt.alloc(), "n2:7002")?;
-    let first = Shard::new(wide, n1, nodes(rt.alloc(), &["n3:7003"])?);
-    let late = vec![in rt.alloc(); (250, 299)]?;
-    let second = Shard::new(late, n2, Vec::new(rt.alloc()));
-    let shards = vec![in rt.alloc(); first, second]?;
-    let topology = ClusterTopology::from_shards(rt.alloc(), shards)?;
+    let topology = with_equal_ends(rt.alloc())?;
     assert!(rt; topology.shard_for_slot(200).is_none());
-    let shard = topology.shard_for_slot(250).ok_or("a shard")?;
-    assert_eq!(rt; shard.primary().to_string(rt.alloc())?.as_str(), "n2:7002");
-    let shard = topology.shard_for_slot(50).ok_or("a shard")?;
-    let replicas = nodes(rt.alloc(), &["n3:7003"])?;
-    assert!(rt; shard.replicas() == replicas.as_slice());
+    is_shard(&rt, topology.shard_for_slot(250), &[(250, 299)], 7002, &[]);
+    let wide = [(0, 99), (200, 299)];
+    is_shard(
+        &rt,
+        topology.shard_for_slot(50),
+        &wide,
+        7001,
+        &[("n3", 7003)],
+    );
     Ok(())
 }
 
@@ -139,26 +190,38 @@ fn lists_each_address_once(rt: HostRuntime) -> Result<(), Fail> {
     Ok(())
 }
 
+fn three_routes(alloc: Global) -> Result<Vec<(Route, Vec<usize>)>, AllocError> {
+    let mut routes = Vec::new(alloc);
+    for (slot, address) in [
+        (50, SlotAddr::Master),
+        (150, SlotAddr::Master),
+        (50, SlotAddr::ReplicaRequired),
+    ] {
+        routes.push((Route::new(slot, address), Vec::new(alloc)))?;
+    }
+    Ok(routes)
+}
+
 #[test]
 fn leads_each_of_several_routes(rt: HostRuntime) -> Result<(), Fail> {
     let map = sample_map(rt.alloc())?;
-    let routes = vec![in rt.alloc();
-        (Route::new(50, SlotAddr::Master), Vec::new(rt.alloc())),
-        (Route::new(150, SlotAddr::Master), Vec::new(rt.alloc())),
-        (
-            Route::new(50, SlotAddr::ReplicaRequired),
-            Vec::new(rt.alloc())
-        ),
-    ]?;
+    let routes = three_routes(rt.alloc())?;
     let answers = map.addresses_for_multi_slot(rt.alloc(), &routes, 1, None)?;
     assert_eq!(rt; answers.len(), 3);
-    let n1 = NodeAddress::try_from(rt.alloc(), "n1:7001")?;
-    let n10 = NodeAddress::try_from(rt.alloc(), "n10:1")?;
-    assert!(rt; answers[0] == Some(&n1));
+    is_node(&rt, answers[0], "n1", 7001);
     assert!(rt; answers[1].is_none());
-    assert!(rt; answers[2] == Some(&n10));
-    let left = nodes(rt.alloc(), &["n1:10000", "n10:1"])?;
-    assert!(rt; map.shard_fallback_addrs(50) == left.as_slice());
+    is_node(&rt, answers[2], "n10", 1);
+    Ok(())
+}
+
+#[test]
+fn falls_back_to_the_replicas(rt: HostRuntime) -> Result<(), Fail> {
+    let map = sample_map(rt.alloc())?;
+    are_nodes(
+        &rt,
+        map.shard_fallback_addrs(50),
+        &[("n1", 10000), ("n10", 1)],
+    );
     assert!(rt; map.shard_fallback_addrs(150).is_empty());
     assert!(rt; map.shard_fallback_addrs(200).is_empty());
     Ok(())

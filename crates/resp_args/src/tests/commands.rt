@@ -1,6 +1,7 @@
 //! Commands: what they are sent as, and what they tell of themselves.
 use crate::command::cmd;
 use crate::{Arg, Cmd, RedisWrite, pack_command};
+use std::alloc::{AllocError, Global};
 use std::process::Abort;
 use std::test::Fail;
 
@@ -16,51 +17,87 @@ fn is_scan<R: Abort>(rt: &R, command: &Cmd) {
     assert!(rt; args.next().is_none());
 }
 
-#[test]
-fn packs_gaps_as_the_number_set_last(rt: HostRuntime) -> Result<(), Fail> {
-    let alloc = rt.alloc();
+fn scan(alloc: Global) -> Result<Cmd, AllocError> {
     let mut command = cmd(alloc, "SSCAN")?;
-    assert!(rt; !command.in_scan_mode());
     command.arg("a")?;
     command.cursor_arg(42)?;
-    assert!(rt; command.in_scan_mode());
-    assert_eq!(rt; command.get_packed_command(alloc)?.as_slice(), SCAN);
-    is_scan(&rt, &command);
-    let copy = command.clone()?;
-    command.cursor_arg(7)?;
-    assert_eq!(rt;
-        command.get_packed_command(alloc)?.as_slice(),
-        b"*4\r\n$5\r\nSSCAN\r\n$1\r\na\r\n$1\r\n7\r\n$1\r\n7\r\n".as_slice()
-    );
-    is_scan(&rt, &copy);
-    assert_eq!(rt; copy.get_packed_command(alloc)?.as_slice(), SCAN);
+    Ok(command)
+}
+
+fn packs<R: Abort>(
+    rt: &R,
+    alloc: Global,
+    command: &Cmd,
+    expected: &[u8],
+) -> Result<(), AllocError> {
+    let packed = command.get_packed_command(alloc)?;
+    assert_eq!(rt; packed.as_slice(), expected);
     Ok(())
 }
 
 #[test]
-fn packs_behind_what_stands_in_the_buffer(rt: HostRuntime) -> Result<(), Fail> {
-    let alloc = rt.alloc();
+fn packs_gaps_as_the_number_set_last(rt: HostRuntime) -> Result<(), Fail> {
+    let mut command = scan(rt.alloc())?;
+    assert!(rt; command.in_scan_mode());
+    packs(&rt, rt.alloc(), &command, SCAN)?;
+    is_scan(&rt, &command);
+    command.cursor_arg(7)?;
+    let twice = b"*4\r\n$5\r\nSSCAN\r\n$1\r\na\r\n$1\r\n7\r\n$1\r\n7\r\n";
+    packs(&rt, rt.alloc(), &command, twice)?;
+    Ok(())
+}
+
+#[test]
+fn copies_a_command(rt: HostRuntime) -> Result<(), Fail> {
+    let mut command = scan(rt.alloc())?;
+    let copy = command.clone()?;
+    command.cursor_arg(7)?;
+    is_scan(&rt, &copy);
+    packs(&rt, rt.alloc(), &copy, SCAN)?;
+    Ok(())
+}
+
+fn set(alloc: Global) -> Result<Cmd, AllocError> {
     let mut command = Cmd::with_capacity(alloc, 3, 11)?;
     command.arg("SET")?;
     command.write_arg(b"my_key")?;
     command.arg(42)?;
-    let mut out = Vec::from_slice(alloc, b"x")?;
+    Ok(command)
+}
+
+#[test]
+fn packs_behind_what_stands_in_the_buffer(rt: HostRuntime) -> Result<(), Fail> {
+    let command = set(rt.alloc())?;
+    assert!(rt; !command.in_scan_mode());
+    let mut out = Vec::from_slice(rt.alloc(), b"x")?;
     command.write_packed_command(&mut out)?;
     assert_eq!(rt; &out[1..], SET);
     assert_eq!(rt; out[0], b'x');
+    Ok(())
+}
+
+fn words(alloc: Global) -> Result<Vec<Vec<u8>>, AllocError> {
     let mut args = Vec::new(alloc);
     args.write_arg(b"SET")?;
     args.write_arg(b"my_key")?;
     args.write_arg(b"42")?;
-    assert_eq!(rt; pack_command(alloc, &args)?.as_slice(), SET);
-    assert_eq!(rt; pack_command(alloc, &[])?.as_slice(), b"*0\r\n".as_slice());
+    Ok(args)
+}
+
+#[test]
+fn packs_arguments(rt: HostRuntime) -> Result<(), Fail> {
+    let args = words(rt.alloc())?;
+    assert_eq!(rt; pack_command(rt.alloc(), &args)?.as_slice(), SET);
+    assert_eq!(rt;
+        pack_command(rt.alloc(), &[])?.as_slice(),
+        b"*0\r\n".as_slice()
+    );
     Ok(())
 }
 
 #[test]
 fn clears_to_a_new_command(rt: HostRuntime) -> Result<(), Fail> {
-    let alloc = rt.alloc();
-    let mut command = Cmd::new(alloc);
+    let mut command = Cmd::new(rt.alloc());
     command.arg("SCAN")?;
     command.cursor_arg(0)?;
     assert!(rt; command.set_no_response(true).is_no_response());
@@ -69,9 +106,6 @@ fn clears_to_a_new_command(rt: HostRuntime) -> Result<(), Fail> {
     assert!(rt; !command.is_no_response());
     assert!(rt; command.args_iter().next().is_none());
     command.arg("PING")?;
-    assert_eq!(rt;
-        command.get_packed_command(alloc)?.as_slice(),
-        b"*1\r\n$4\r\nPING\r\n".as_slice()
-    );
+    packs(&rt, rt.alloc(), &command, b"*1\r\n$4\r\nPING\r\n")?;
     Ok(())
 }

@@ -2,7 +2,7 @@
 use crate::{FromRedisValue, from_redis_value, from_redis_value_ref};
 use indexmap::IndexMap;
 use resp_core::{Parser, Value};
-use std::alloc::Global;
+use std::alloc::{AllocError, Global};
 use std::fmt::Debug;
 use std::process::Abort;
 use std::test::Fail;
@@ -154,7 +154,7 @@ fn texts(rt: HostRuntime) -> Result<(), Fail> {
 }
 
 #[test]
-fn options_and_lists(rt: HostRuntime) -> Result<(), Fail> {
+fn options(rt: HostRuntime) -> Result<(), Fail> {
     let alloc = rt.alloc();
     gives(&rt, alloc, b"_\r\n", None::<i64>)?;
     gives(&rt, alloc, b"|1\r\n+k\r\n+v\r\n_\r\n", None::<i64>)?;
@@ -166,6 +166,12 @@ fn options_and_lists(rt: HostRuntime) -> Result<(), Fail> {
         Some((1i64, 2i64)),
     )?;
     refuses::<Option<i64>, _>(&rt, alloc, b"+x\r\n")?;
+    Ok(())
+}
+
+#[test]
+fn lists(rt: HostRuntime) -> Result<(), Fail> {
+    let alloc = rt.alloc();
     let numbers = Vec::from_slice(alloc, &[1i64, 2])?;
     gives(&rt, alloc, b"*2\r\n:1\r\n$1\r\n2\r\n", numbers)?;
     gives(
@@ -203,28 +209,43 @@ fn options_and_lists(rt: HostRuntime) -> Result<(), Fail> {
     ] {
         refuses::<Vec<i64>, _>(&rt, alloc, bytes)?;
     }
+    Ok(())
+}
+
+fn is_read_as<R: Abort>(rt: &R, alloc: Global, value: &Value, bytes: &[u8]) -> Result<(), Fail> {
+    let expected = reply(alloc, bytes)?;
+    assert!(rt; *value == expected);
+    Ok(())
+}
+
+#[test]
+fn lists_of_the_pairs_of_a_map(rt: HostRuntime) -> Result<(), Fail> {
+    let alloc = rt.alloc();
     let maps: Vec<Value> = from_redis_value(
         alloc,
         reply(alloc, b"%2\r\n+a\r\n:1\r\n+b\r\n:2\r\n")?,
     )?;
     assert_eq!(rt; maps.len(), 2);
-    assert!(rt; maps[0] == reply(alloc, b"%1\r\n+a\r\n:1\r\n")?);
-    assert!(rt; maps[1] == reply(alloc, b"%1\r\n+b\r\n:2\r\n")?);
+    is_read_as(&rt, alloc, &maps[0], b"%1\r\n+a\r\n:1\r\n")?;
+    is_read_as(&rt, alloc, &maps[1], b"%1\r\n+b\r\n:2\r\n")?;
     Ok(())
 }
 
 type Fields = IndexMap<String, i64>;
 
-// The pairs of a map, each as its name, an equals sign and its number.
-fn pairs(alloc: Global, bytes: &[u8]) -> Result<String, Fail> {
-    let fields: Fields = from_redis_value(alloc, reply(alloc, bytes)?)?;
+// The pairs, each as its name, an equals sign and its number.
+fn listed(alloc: Global, fields: &Fields) -> Result<String, AllocError> {
     let mut out = String::new(alloc);
     for (name, number) in fields.iter() {
-        out.push_str(name.as_str())?;
-        out.push_str("=")?;
-        out.push_str(format!(in alloc; "{number} ")?.as_str())?;
+        let pair = format!(in alloc; "{name}={number} ")?;
+        out.push_str(pair.as_str())?;
     }
     Ok(out)
+}
+
+fn pairs(alloc: Global, bytes: &[u8]) -> Result<String, Fail> {
+    let fields: Fields = from_redis_value(alloc, reply(alloc, bytes)?)?;
+    Ok(listed(alloc, &fields)?)
 }
 
 #[test]

@@ -2,7 +2,7 @@
 //!
 //! A test prints a line `refused CALL` where a call is refused, sees what then stands, and goes on;
 //! no further call may be refused.
-use crate::tests::conversions::{parsed, reply};
+use crate::tests::conversions::parsed;
 use crate::{Arg, Cmd, from_redis_value, from_redis_value_ref};
 use indexmap::IndexMap;
 use resp_core::{RedisError, Value};
@@ -110,7 +110,7 @@ fn nested_reply<R: Print>(rt: &R, alloc: Global) -> Result<Value, Fail> {
         Some(value) => Ok(value),
         None => {
             println!(rt; "refused reply")?;
-            reply(alloc, NESTED)
+            Ok(parsed(alloc, NESTED).ok_or("no whole value")?)
         }
     }
 }

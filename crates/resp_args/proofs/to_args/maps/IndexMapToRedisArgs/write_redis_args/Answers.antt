@@ -1,4 +1,4 @@
-use Rattle.std.proofs.Common.{rules}
+use Rattle.std.proofs.lemmas.Result.{err_from_is_err_and}
 use Rattle.resp_args.proofs.Writings.{Writing-next, Writing-refused}
 use Rattle.resp_args.proofs.to_args.maps.IndexMapToRedisArgs.write_redis_args.Goals as goal
 
@@ -7,5 +7,5 @@ loop-key-preserved g c = Writing-next (c.in-Some.key.now, c.in-Some.value.now) c
 
 pub returns-in_err-write_two : goal.returns-in_err-write_two
 returns-in_err-write_two g c =
-    let part = Writing-refused (c.in-Some.key.now, c.in-Some.value.now) c.next.new.self c.loop-key.invariant c.in-Some.ensures.steps c.in_err-write_two.ensures in
-    search rules
+    let refused = err_from_is_err_and c.from_residual.result c.from_residual.ensures.1 in
+    rw refused.1 (Writing-refused (c.in-Some.key.now, c.in-Some.value.now) c.next.new.self c.loop-key.invariant c.in-Some.ensures.steps c.in_err-write_two.ensures)
