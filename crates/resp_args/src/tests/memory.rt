@@ -125,25 +125,35 @@ fn copied<R: Print>(rt: &R, value: &Value) -> Result<Value, Fail> {
     }
 }
 
-#[test]
-fn nested_conversion(rt: HostRuntime) -> Result<(), Fail> {
-    let value = nested_reply(&rt, rt.alloc())?;
-    let owned = copied(&rt, &value)?;
-    match from_redis_value::<Nested>(rt.alloc(), owned) {
-        Ok(fields) => is_nested(&rt, &fields),
+fn converts_owned<R: Abort + Print>(rt: &R, alloc: Global, value: &Value) -> Result<(), Fail> {
+    match from_redis_value::<Nested>(alloc, copied(rt, value)?) {
+        Ok(fields) => is_nested(rt, &fields),
         Err(e) => {
             println!(rt; "refused from_redis_value")?;
             assert_eq!(rt; RedisError::from(e).number(), 17);
-            is_nested(&rt, &from_redis_value(rt.alloc(), value.clone()?)?);
-        }
-    }
-    match from_redis_value_ref::<Nested>(rt.alloc(), &value) {
-        Ok(fields) => is_nested(&rt, &fields),
-        Err(e) => {
-            println!(rt; "refused from_redis_value_ref")?;
-            assert_eq!(rt; RedisError::from(e).number(), 17);
-            is_nested(&rt, &from_redis_value_ref(rt.alloc(), &value)?);
+            let fields = from_redis_value(alloc, value.clone()?)?;
+            is_nested(rt, &fields);
         }
     }
     Ok(())
+}
+
+fn converts_lent<R: Abort + Print>(rt: &R, alloc: Global, value: &Value) -> Result<(), Fail> {
+    match from_redis_value_ref::<Nested>(alloc, value) {
+        Ok(fields) => is_nested(rt, &fields),
+        Err(e) => {
+            println!(rt; "refused from_redis_value_ref")?;
+            assert_eq!(rt; RedisError::from(e).number(), 17);
+            let fields = from_redis_value_ref(alloc, value)?;
+            is_nested(rt, &fields);
+        }
+    }
+    Ok(())
+}
+
+#[test]
+fn nested_conversion(rt: HostRuntime) -> Result<(), Fail> {
+    let value = nested_reply(&rt, rt.alloc())?;
+    converts_owned(&rt, rt.alloc(), &value)?;
+    converts_lent(&rt, rt.alloc(), &value)
 }

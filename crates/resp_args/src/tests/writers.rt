@@ -60,24 +60,34 @@ fn one_argument(rt: HostRuntime) -> Result<(), Fail> {
 }
 
 #[test]
-fn several_arguments(rt: HostRuntime) -> Result<(), Fail> {
+fn lists_and_options(rt: HostRuntime) -> Result<(), Fail> {
     let alloc = rt.alloc();
     writes(&rt, alloc, &Some("a"), "a|")?;
     writes(&rt, alloc, &None::<i64>, "")?;
     writes(&rt, alloc, &Vec::from_slice(alloc, &[1u16, 2])?, "1|2|")?;
     writes(&rt, alloc, &["a", "b"].as_slice(), "a|b|")?;
+    Ok(())
+}
+
+#[test]
+fn tuples(rt: HostRuntime) -> Result<(), Fail> {
+    let alloc = rt.alloc();
     writes(&rt, alloc, &("a", 1), "a|1|")?;
     writes(&rt, alloc, &("a", Some(1), true), "a|1|1|")?;
     writes(&rt, alloc, &(1, 2, 3, 4), "1|2|3|4|")?;
-    let mut map = IndexMap::new(alloc);
-    drop(map.insert("z", 1)?);
-    drop(map.insert("a", 2)?);
-    writes(&rt, alloc, &map, "z|1|a|2|")?;
     let limited = (("MAXLEN", "~"), (10usize, Some(("LIMIT", 5usize))));
     writes(&rt, alloc, &limited, "MAXLEN|~|10|LIMIT|5|")?;
     let added = (Some("NOMKSTREAM"), ("MAXLEN", "=", 100usize), None::<&str>);
     writes(&rt, alloc, &added, "NOMKSTREAM|MAXLEN|=|100|")?;
     Ok(())
+}
+
+#[test]
+fn maps(rt: HostRuntime) -> Result<(), Fail> {
+    let mut map = IndexMap::new(rt.alloc());
+    drop(map.insert("z", 1)?);
+    drop(map.insert("a", 2)?);
+    writes(&rt, rt.alloc(), &map, "z|1|a|2|")
 }
 
 #[test]
