@@ -1,7 +1,7 @@
 //! Copies of shards, of a topology, and of where a command goes.
 
-use crate::tests::nodes::{are_nodes, is_node};
-use crate::tests::routes::{cmd, to_slot};
+use crate::tests::routes::{cmd, to_random, to_slot};
+use crate::tests::topology::{is_shard, shard};
 use crate::{
     ClusterTopology, MultiSlotArgPattern, MultipleNodeRoutingInfo, NodeAddress, Redirect, Route,
     RoutingInfo, Shard, SingleNodeRoutingInfo, SlotAddr,
@@ -11,45 +11,39 @@ use std::alloc::{AllocError, Global};
 use std::process::Abort;
 use std::test::Fail;
 
-fn shard(alloc: Global, slots: (u16, u16), nodes: [&str; 2]) -> Result<Shard, RedisError> {
-    let primary = NodeAddress::try_from(alloc, nodes[0])?;
-    let mut replicas = Vec::new(alloc);
-    replicas.push(NodeAddress::try_from(alloc, nodes[1])?)?;
-    Ok(Shard::new(Vec::from_slice(alloc, &[slots])?, primary, replicas))
-}
-
 fn two_shards(alloc: Global) -> Result<ClusterTopology, RedisError> {
     let mut shards = Vec::new(alloc);
-    shards.push(shard(alloc, (0, 99), ["n1:7001", "n3:7003"])?)?;
-    shards.push(shard(alloc, (200, 299), ["n2:7002", "n4:7004"])?)?;
+    shards.push(shard(alloc, &[(0, 99)], "n1:7001", &["n3:7003"])?)?;
+    shards.push(shard(alloc, &[(200, 299)], "n2:7002", &["n4:7004"])?)?;
     Ok(ClusterTopology::from_shards(alloc, shards)?)
 }
 
-fn is_second<R: Abort>(rt: &R, shard: &Shard) {
-    assert!(rt; shard.slot_ranges() == [(200, 299)].as_slice());
-    is_node(rt, Some(shard.primary()), "n2", 7002);
-    are_nodes(rt, shard.replicas(), &[("n4", 7004)]);
+fn is_second<R: Abort>(rt: &R, found: Option<&Shard>) {
+    is_shard(rt, found, &[(200, 299)], ("n2", 7002), &[("n4", 7004)]);
 }
 
 #[test]
 fn copies_a_topology(rt: HostRuntime) -> Result<(), Fail> {
     let copy = two_shards(rt.alloc())?.clone()?;
     assert_eq!(rt; copy.shards().count(), 2);
-    is_second(&rt, copy.shard_for_slot(250).ok_or("a shard")?);
+    is_second(&rt, copy.shard_for_slot(250));
     assert!(rt; copy.shard_for_slot(150).is_none());
     Ok(())
 }
 
 #[test]
 fn copies_a_shard(rt: HostRuntime) -> Result<(), Fail> {
-    let copy = shard(rt.alloc(), (200, 299), ["n2:7002", "n4:7004"])?.clone()?;
-    is_second(&rt, &copy);
+    let second = shard(rt.alloc(), &[(200, 299)], "n2:7002", &["n4:7004"])?;
+    let copy = second.clone()?;
+    is_second(&rt, Some(&copy));
     Ok(())
 }
 
-fn is_copied<R: Abort>(rt: &R, info: &RoutingInfo) -> Result<(), AllocError> {
+// The copy equals what it was made of, and differs from the other.
+fn is_copied<R: Abort>(rt: &R, info: &RoutingInfo, other: &RoutingInfo) -> Result<(), AllocError> {
     let copy = info.clone()?;
     assert!(rt; copy == *info);
+    assert!(rt; copy != *other);
     Ok(())
 }
 
@@ -57,10 +51,10 @@ fn is_copied<R: Abort>(rt: &R, info: &RoutingInfo) -> Result<(), AllocError> {
 fn copies_routes(rt: HostRuntime) -> Result<(), Fail> {
     let command = cmd(rt.alloc(), &["MGET", "a", "b", "a"])?;
     let split = RoutingInfo::for_routable(rt.alloc(), &command, &[])?.ok_or("a route")?;
-    is_copied(&rt, &split)?;
     let one = to_slot(15495).ok_or("a route")?;
-    is_copied(&rt, &one)?;
-    assert!(rt; one != split);
+    let any = to_random().ok_or("a route")?;
+    is_copied(&rt, &split, &one)?;
+    is_copied(&rt, &one, &any)?;
     Ok(())
 }
 
@@ -92,9 +86,14 @@ fn copies_several_nodes(rt: HostRuntime) -> Result<(), Fail> {
     Ok(())
 }
 
-fn is_redirect_copied<R: Abort>(rt: &R, redirect: &Redirect) -> Result<(), AllocError> {
+fn is_redirect_copied<R: Abort>(
+    rt: &R,
+    redirect: &Redirect,
+    other: &Redirect,
+) -> Result<(), AllocError> {
     let copy = redirect.clone()?;
     assert!(rt; copy == *redirect);
+    assert!(rt; copy != *other);
     Ok(())
 }
 
@@ -102,8 +101,7 @@ fn is_redirect_copied<R: Abort>(rt: &R, redirect: &Redirect) -> Result<(), Alloc
 fn copies_redirects(rt: HostRuntime) -> Result<(), Fail> {
     let moved = Redirect::Moved(NodeAddress::try_from(rt.alloc(), "n1:7001")?);
     let ask = Redirect::Ask(NodeAddress::try_from(rt.alloc(), "n1:7001")?);
-    is_redirect_copied(&rt, &moved)?;
-    is_redirect_copied(&rt, &ask)?;
-    assert!(rt; ask != moved);
+    is_redirect_copied(&rt, &moved, &ask)?;
+    is_redirect_copied(&rt, &ask, &moved)?;
     Ok(())
 }

@@ -3,11 +3,12 @@
 //! A test prints a line `refused CALL` where a call is refused, sees what then stands, and goes on;
 //! no further call may be refused.
 
-use crate::tests::nodes::{are_nodes, is_node};
+use crate::tests::nodes::is_node;
 use crate::tests::routes::{cmd, to_slot};
+use crate::tests::topology::is_shard;
 use crate::{
     ClusterTopology, MultiSlotArgPattern, MultipleNodeRoutingInfo, NodeAddress, ResponsePolicy,
-    Route, RoutingInfo, Shard, SlotAddr, SlotMap, SlotRange, SlotRangeMap, parse_slots,
+    Route, RoutingInfo, SlotAddr, SlotMap, SlotRange, SlotRangeMap, parse_slots,
 };
 use resp_args::Cmd;
 use resp_core::{Parser, Value};
@@ -196,29 +197,15 @@ fn map_of<R: Print>(rt: &R, alloc: Global) -> Result<SlotMap, Fail> {
     }
 }
 
-fn is_shard<R: Abort>(rt: &R, shard: Option<&Shard>, ranges: &[(u16, u16)], host: &str) {
-    match shard {
-        Some(shard) => {
-            assert!(rt; shard.slot_ranges() == ranges);
-            is_node(rt, Some(shard.primary()), host, 7001);
-            are_nodes(rt, shard.replicas(), &[("n2", 7002)]);
-        }
-        None => assert!(rt; false),
-    }
-}
-
 fn are_shards<R: Abort>(rt: &R, topology: &ClusterTopology) {
+    let (n1, n2, n3) = (("n1", 7001), ("n2", 7002), ("n3", 7001));
+    let both = [(0, 99), (200, 299)];
     let mut shards = topology.shards();
-    is_shard(rt, shards.next(), &[(0, 99), (200, 299)], "n1");
-    is_shard(rt, shards.next(), &[(100, 199)], "n3");
+    is_shard(rt, shards.next(), &both, n1, &[n2]);
+    is_shard(rt, shards.next(), &[(100, 199)], n3, &[n2]);
     assert!(rt; shards.next().is_none());
-    is_shard(
-        rt,
-        topology.shard_for_slot(250),
-        &[(0, 99), (200, 299)],
-        "n1",
-    );
-    is_shard(rt, topology.shard_for_slot(100), &[(100, 199)], "n3");
+    is_shard(rt, topology.shard_for_slot(250), &both, n1, &[n2]);
+    is_shard(rt, topology.shard_for_slot(100), &[(100, 199)], n3, &[n2]);
     assert!(rt; topology.shard_for_slot(300).is_none());
 }
 

@@ -56,17 +56,17 @@ fn sample_map(alloc: Global) -> Result<SlotMap, RedisError> {
     )
 }
 
-fn is_shard<R: Abort>(
+pub(crate) fn is_shard<R: Abort>(
     rt: &R,
     shard: Option<&Shard>,
     ranges: &[(u16, u16)],
-    port: u16,
+    primary: (&str, u16),
     replicas: &[(&str, u16)],
 ) {
     match shard {
         Some(shard) => {
             assert!(rt; shard.slot_ranges() == ranges);
-            is_node(rt, Some(shard.primary()), "n1", port);
+            is_node(rt, Some(shard.primary()), primary.0, primary.1);
             are_nodes(rt, shard.replicas(), replicas);
         }
         None => assert!(rt; false),
@@ -77,17 +77,12 @@ fn is_shard<R: Abort>(
 fn makes_one_shard_of_equal_nodes(rt: HostRuntime) -> Result<(), Fail> {
     let topology = sample_map(rt.alloc())?.topology(rt.alloc())?;
     let mut shards = topology.shards();
-    let (low, high) = (("n1", 10000), ("n10", 1));
-    is_shard(
-        &rt,
-        shards.next(),
-        &[(0, 99), (300, 399)],
-        7001,
-        &[low, high],
-    );
-    is_shard(&rt, shards.next(), &[(200, 299)], 999, &[]);
-    is_shard(&rt, shards.next(), &[(400, 499)], 7001, &[high, low]);
-    is_shard(&rt, shards.next(), &[(500, 599)], 7001, &[low]);
+    let (n1, low, high) = (("n1", 7001), ("n1", 10000), ("n10", 1));
+    let both = [(0, 99), (300, 399)];
+    is_shard(&rt, shards.next(), &both, n1, &[low, high]);
+    is_shard(&rt, shards.next(), &[(200, 299)], ("n1", 999), &[]);
+    is_shard(&rt, shards.next(), &[(400, 499)], n1, &[high, low]);
+    is_shard(&rt, shards.next(), &[(500, 599)], n1, &[low]);
     assert!(rt; shards.next().is_none());
     Ok(())
 }
@@ -122,13 +117,8 @@ fn has_one_shard_for_one_range(rt: HostRuntime) -> Result<(), Fail> {
     let map = map_of(rt.alloc(), &[(0, 16383, "n1:7001", &[])])?;
     let topology = map.topology(rt.alloc())?;
     assert_eq!(rt; topology.shards().count(), 1);
-    is_shard(
-        &rt,
-        topology.shard_for_slot(16383),
-        &[(0, 16383)],
-        7001,
-        &[],
-    );
+    let shard = topology.shard_for_slot(16383);
+    is_shard(&rt, shard, &[(0, 16383)], ("n1", 7001), &[]);
     Ok(())
 }
 
@@ -142,7 +132,7 @@ fn has_no_shard_for_an_empty_map(rt: HostRuntime) -> Result<(), Fail> {
     Ok(())
 }
 
-fn shard(
+pub(crate) fn shard(
     alloc: Global,
     ranges: &[(u16, u16)],
     primary: &str,
@@ -157,7 +147,7 @@ fn with_equal_ends(alloc: Global) -> Result<ClusterTopology, RedisError> {
     let mut shards = Vec::new(alloc);
     let wide = [(0, 99), (200, 299)];
     shards.push(shard(alloc, &wide, "n1:7001", &["n3:7003"])?)?;
-    shards.push(shard(alloc, &[(250, 299)], "n1:7002", &[])?)?;
+    shards.push(shard(alloc, &[(250, 299)], "n2:7002", &[])?)?;
     Ok(ClusterTopology::from_shards(alloc, shards)?)
 }
 
@@ -165,15 +155,11 @@ fn with_equal_ends(alloc: Global) -> Result<ClusterTopology, RedisError> {
 fn lets_the_last_of_equal_ends_serve(rt: HostRuntime) -> Result<(), Fail> {
     let topology = with_equal_ends(rt.alloc())?;
     assert!(rt; topology.shard_for_slot(200).is_none());
-    is_shard(&rt, topology.shard_for_slot(250), &[(250, 299)], 7002, &[]);
+    let late = topology.shard_for_slot(250);
+    is_shard(&rt, late, &[(250, 299)], ("n2", 7002), &[]);
+    let early = topology.shard_for_slot(50);
     let wide = [(0, 99), (200, 299)];
-    is_shard(
-        &rt,
-        topology.shard_for_slot(50),
-        &wide,
-        7001,
-        &[("n3", 7003)],
-    );
+    is_shard(&rt, early, &wide, ("n1", 7001), &[("n3", 7003)]);
     Ok(())
 }
 

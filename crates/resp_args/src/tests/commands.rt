@@ -37,6 +37,7 @@ fn packs<R: Abort>(
 
 #[test]
 fn packs_gaps_as_the_number_set_last(rt: HostRuntime) -> Result<(), Fail> {
+    assert!(rt; !cmd(rt.alloc(), "SSCAN")?.in_scan_mode());
     let mut command = scan(rt.alloc())?;
     assert!(rt; command.in_scan_mode());
     packs(&rt, rt.alloc(), &command, SCAN)?;
@@ -68,7 +69,6 @@ fn set(alloc: Global) -> Result<Cmd, AllocError> {
 #[test]
 fn packs_behind_what_stands_in_the_buffer(rt: HostRuntime) -> Result<(), Fail> {
     let command = set(rt.alloc())?;
-    assert!(rt; !command.in_scan_mode());
     let mut out = Vec::from_slice(rt.alloc(), b"x")?;
     command.write_packed_command(&mut out)?;
     assert_eq!(rt; &out[1..], SET);
