@@ -1,10 +1,3 @@
-pub mod Addresses
-pub mod LinkPlaces
-pub mod Bytes
-pub mod Pairing
-pub mod Events
-pub mod Agree
-pub mod Chains
-pub mod OneCall
-pub mod Nodes
-pub mod Kept
+pub mod LinkLaws
+pub mod ServerLaws
+pub mod LogLaws

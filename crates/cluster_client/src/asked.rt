@@ -20,7 +20,7 @@ pub struct Asked {
 impl Model for Asked {
     ghost use Rattle.std.specs.Prelude.{map};
     ghost use Rattle.cluster_routing.specs.Seen.{address};
-    ghost use Rattle.cluster_client.specs.Request.{Request};
+    ghost use Rattle.cluster_client.specs.Links.Request.{Request};
 
     ghost Value = { Request };
 

@@ -1,37 +1,37 @@
-//! The client: it refreshes its slot map, and sends keyed commands to the nodes that serve them.
-ghost use Rattle.std.specs.Prelude.{◌≡◌, ◌≢◌, ◌↔◌, ◌<◌, ◌⊎◌, ◌∷◌, Ok, Err, [], true, false, vec_len, IfOk, IfErr, OnErr, option_map};
+//! The client: it refreshes its slot map, and sends commands to the nodes that serve them.
+ghost use Rattle.std.specs.Prelude.{◌≡◌, ◌≢◌, ◌↔◌, ◌<◌, ◌||◌, Err, None, [], true, false, vec_len, map, IfOk, IfErr, OnErr, if◌then◌else◌, option_map};
 ghost use Rattle.resp_core.specs.Errors.{by_cause};
-ghost use Rattle.resp_core.specs.View.{view};
-ghost use Rattle.resp_core.specs.declared.errors.redis_error.Cause.TheVariants.{Memory, RepeatedAddress};
-ghost use Rattle.cluster_routing.specs.Seen.{address};
+ghost use Rattle.resp_core.specs.View.{push_view, view};
+ghost use Rattle.resp_core.specs.declared.errors.redis_error.Cause.TheVariants.{Memory, NoResponse, NoRoute, RepeatedAddress};
+ghost use Rattle.resp_link.specs.Call.{Seen};
+ghost use Rattle.cluster_routing.specs.Info.{texts};
+ghost use Rattle.cluster_routing.specs.Seen.{address, addresses};
 ghost use Rattle.cluster_routing.specs.SlotMap.{put_all};
 ghost use Rattle.cluster_routing.specs.SlotsReply.{ranges};
+ghost use Rattle.cluster_routing.specs.Split.{has_split_word};
 ghost use Rattle.cluster_routing.specs.Topology.{shards_of};
-ghost use Rattle.cluster_client.specs.Places.{IsOpenAt};
-ghost use Rattle.cluster_client.specs.Leaves.{Leaves};
-ghost use Rattle.cluster_client.specs.Plan.{Refresh, Query, first_node};
-ghost use Rattle.cluster_client.specs.Request.{slots_command};
-ghost use Rattle.cluster_client.specs.Answer.{told, refreshed};
-ghost use Rattle.cluster_client.specs.Played.{CallMade};
-ghost use Rattle.cluster_client.specs.Converted.{QueryMade};
-ghost use Rattle.cluster_routing.specs.Info.{texts};
-ghost use Rattle.cluster_routing.specs.Seen.{addresses};
-ghost use Rattle.cluster_client.specs.Picks.{ArePicks, candidates_of};
-ghost use Rattle.cluster_client.specs.World.{addresses_of, has_repeats, link_at, new_world, nodes, open_links, viewed};
-ghost use Rattle.cluster_client.specs.Accepted.{IsAccepted};
-ghost use Rattle.cluster_client.specs.Whole.{whole};
+ghost use Rattle.cluster_client.specs.Calls.Answer.{Value};
+ghost use Rattle.cluster_client.specs.Calls.Call.{Query, Refresh};
+ghost use Rattle.cluster_client.specs.Links.Chains.{ChainMade};
+ghost use Rattle.cluster_client.specs.Links.Converted.{ValueMade, refresh_answer, value_answer};
+ghost use Rattle.cluster_client.specs.Links.Happened.{CallMade, Happened};
+ghost use Rattle.cluster_client.specs.Links.Places.{IsOpenAt};
+ghost use Rattle.cluster_client.specs.Links.Turns.{hop_to};
+ghost use Rattle.cluster_client.specs.Links.Whole.{whole};
+ghost use Rattle.cluster_client.specs.Links.Run.{with_log};
+ghost use Rattle.cluster_client.specs.Links.World.{addresses_of, has_repeats, link_at, new_world, nodes, tree_result};
 
 use crate::asked::Asked;
-use crate::first::first_place;
-use crate::hops::{Place, Turn, turn_by};
-use crate::links::{has_repeats, open_place, place_of};
+use crate::exchange::exchange_one;
+use crate::links::Links;
+use crate::place::{Place, first_place};
 use crate::reply::needs_refresh;
-use crate::sending::send;
-use cluster_routing::{
-    ClusterTopology, NodeAddress, ReadRoutingStrategy, SlotMap, parse_slots, slot_cmd,
-};
+use crate::route::only_part;
+use crate::slots::{slot_map_in, slots_request};
+use crate::turn::{Turn, turn_by};
+use cluster_routing::{ClusterTopology, NodeAddress, ReadRoutingStrategy, SlotMap};
 use resp_args::{Cmd, FromRedisValue, from_redis_value};
-use resp_core::{Cause, RedisError, Value};
+use resp_core::{Cause, PushInfo, RedisError, Value};
 use resp_link::ConnectionLike;
 use std::alloc::{AllocError, Global};
 
@@ -41,7 +41,7 @@ use std::alloc::{AllocError, Global};
 /// time, and each tells what it sent by `asked`.
 #[derive(Drop)]
 pub struct ClusterClient<L> {
-    links: Vec<(NodeAddress, L)>,
+    links: Links<L>,
     read_only: Vec<Vec<u8>>,
     budget: u16,
     slots: SlotMap,
@@ -68,7 +68,8 @@ impl<L: ConnectionLike + Drop> ClusterClient<L> {
         ensures repeated { (result ≡ Err (by_cause RepeatedAddress)) ↔ (has_repeats (addresses_of (nodes L.seen links.items)) ≡ true) }
         ensures only { IfErr result (λ e. e ≡ by_cause RepeatedAddress) }
     {
-        if has_repeats(&links) {
+        let links = Links { nodes: links };
+        if links.has_repeats() {
             return Err(RedisError::from(Cause::RepeatedAddress));
         }
         Ok(ClusterClient {
@@ -89,128 +90,101 @@ impl<L: ConnectionLike + Drop> ClusterClient<L> {
     /// holds one; `Io` and `Parse` where the link failed, which is closed then; `Memory`. Each
     /// leaves the slot map and `needs_refresh` as they were. No redirect is followed.
     pub fn refresh(&mut self, alloc: Global, node: &NodeAddress) -> Result<(), RedisError>
-        ensures played { result ≢ Err (by_cause Memory) → CallMade (whole L.seen self.old) (whole L.seen self.new) (Refresh (address node.now)) (refreshed result) }
-        ensures picks { (whole L.seen self.new).picked ≡ [] }
-        // What stays, also where memory is refused.
-        ensures settings { (whole L.seen self.new).settings ≡ (whole L.seen self.old).settings }
-        ensures unasked { Leaves (whole L.seen self.old).nodes (whole L.seen self.new).nodes (whole L.seen self.new).log }
-        ensures map { OnErr result ((whole L.seen self.new).entries ≡ (whole L.seen self.old).entries) }
-        ensures flag { OnErr result ((whole L.seen self.new).needs_refresh ≡ (whole L.seen self.old).needs_refresh) }
-        ensures held { ((whole L.seen self.new).nodes ≡ (whole L.seen self.old).nodes) ⊎ ((whole L.seen self.new).log ≡ record { node = address node.now; args = slots_command; asking = false } ∷ []) }
+        ensures { CallMade None (whole L.seen self.old) (whole L.seen self.new) (Refresh (address node.now)) (refresh_answer result) }
     {
         self.asked = Vec::new(alloc);
         self.picked = Vec::new(alloc);
-        let Some(which) = open_place(&self.links, node) else {
+        let Some(which) = self.links.open_place(node) else {
             return Err(RedisError::from(Cause::NoLink));
         };
-        let args = slot_cmd(alloc)?.wire_args(alloc)?;
-        let reply = send(
-            &mut self.links,
-            &mut self.asked,
-            alloc,
-            which,
-            node,
-            &args,
-            false,
-        )?;
-        self.slots = accepted(alloc, reply, node)?;
+        let request = slots_request(alloc, node)?;
+        let reply = exchange_one(&mut self.links, alloc, &mut self.asked, which, request)?;
+        self.slots = slot_map_in(alloc, reply, node)?;
         self.needs_refresh = false;
         Ok(())
     }
 
-    /// Sends a keyed command to the node that serves its key's slot, and answers the reply as a `T`.
+    /// Sends a command to the node that serves it, and answers the reply as a `T`.
     ///
-    /// The routing table (`RoutingInfo::for_routable`) tells the key. A command goes to the slot's
-    /// primary; one of the names that `new` was given as read-only goes to the node that `strategy`
-    /// picks, where there is a strategy and the slot has replicas. The strategy is asked before the
-    /// first byte, and `picked` tells what it answered.
+    /// The routing table (`RoutingInfo::for_routable`) tells the key. A command goes to the primary of
+    /// its key's slot; one of the names that `new` was given as read-only goes to the node that
+    /// `strategy` picks, where there is a strategy and the slot has replicas. A command that any node
+    /// may serve goes to node number `number` of all nodes, ascending, modulo their count. The
+    /// strategy is asked before the first byte, and `picked` tells what it answered.
     ///
     /// A reply that is itself MOVED or ASK is followed, within the budget, to the node that it
-    /// names; behind ASK the request goes out with `ASKING` before it, in one write. `picks` is for
-    /// routes to any node, which are not taken yet.
+    /// names; behind ASK the request goes out with `ASKING` before it, in one write.
     ///
     /// # Errors
     /// In the order of the checks: `NoResponse` for a command that waits for none; `NoRoute` for one
-    /// without a key by the table, for one that goes to any node or to several, and for one that is
-    /// split by its keys, also where these have one slot; `NoNode` where no node serves the slot;
-    /// `NoLink` where no usable link leads to the node, or to the node that a redirect names; the
-    /// server's error where the last reply is or holds one, a redirect out of budget or without a
-    /// readable node among them; `Io` and `Parse` where the link failed, which is closed then;
-    /// `UnexpectedReturnType` where the reply is no `T`, which leaves the link in step; `Memory`.
-    /// Until `NoLink` of the first node nothing is sent.
+    /// that goes nowhere or to several nodes by the table, and for one that is split by its keys,
+    /// also where these have one slot; `NoNode` where no node serves it; `NoLink` where no usable
+    /// link leads to the node, or to the node that a redirect names; the server's error where the
+    /// last reply is or holds one, a redirect out of budget or without a readable node among them;
+    /// `Io` and `Parse` where the link failed, which is closed then; `UnexpectedReturnType` where
+    /// the reply is no `T`, which leaves the link in step; `Memory`. Until `NoLink` of the first
+    /// node nothing is sent.
     pub fn query<T: FromRedisValue>(
         &mut self,
         alloc: Global,
         cmd: &Cmd,
-        _picks: u64,
+        number: u64,
         strategy: Option<&dyn ReadRoutingStrategy>,
     ) -> Result<T, RedisError>
-        ensures answered { result ≢ Err (by_cause Memory) → QueryMade (whole L.seen self.old) (whole L.seen self.new) cmd.now T.meaning T.convert result }
-        ensures picks { result ≢ Err (by_cause Memory) → ArePicks (option_map (λ s. admits s.now) strategy.entry) (candidates_of (whole L.seen self.old).entries (whole L.seen self.old).settings.read_only cmd.now) (whole L.seen self.new).picked }
-        // What stays, also where memory is refused.
-        ensures settings { (whole L.seen self.new).settings ≡ (whole L.seen self.old).settings }
-        ensures unasked { Leaves (whole L.seen self.old).nodes (whole L.seen self.new).nodes (whole L.seen self.new).log }
-        ensures map { (whole L.seen self.new).entries ≡ (whole L.seen self.old).entries }
-        ensures flag { (whole L.seen self.old).needs_refresh ≡ true → (whole L.seen self.new).needs_refresh ≡ true }
+        // What happened, also where memory is refused.
+        ensures happened { has_split_word cmd.now.args ≡ false → Happened (option_map (λ s. admits s.now) strategy.entry) (whole L.seen self.old) (whole L.seen self.new) (Query cmd.now number) }
+        ensures answered { has_split_word cmd.now.args ≡ false → result ≢ Err (by_cause Memory)
+            → ValueMade (option_map (λ s. admits s.now) strategy.entry) (whole L.seen self.old) (whole L.seen self.new) (Query cmd.now number) T.meaning T.convert result }
+        // A command that is split by its keys is not taken yet, and nothing is sent.
+        ensures split { has_split_word cmd.now.args ≡ true → (result ≡ Err (by_cause (if cmd.now.no_response then NoResponse else NoRoute)))
+            × (whole L.seen self.new ≡ with_log (whole L.seen self.old) [] []) }
     {
-        let reply = self.reply_to(alloc, cmd, strategy)?;
+        let reply = self.reply_to(alloc, cmd, number, strategy)?;
         Ok(from_redis_value(alloc, reply)?)
     }
 
-    /// The one reply to a keyed command, behind its redirects.
+    /// The one reply to a command that is not split, behind its redirects.
     fn reply_to(
         &mut self,
         alloc: Global,
         cmd: &Cmd,
+        number: u64,
         strategy: Option<&dyn ReadRoutingStrategy>,
     ) -> Result<Value, RedisError>
-        ensures played { result ≢ Err (by_cause Memory) → CallMade (whole L.seen self.old) (whole L.seen self.new) (Query cmd.now (whole L.seen self.new).picked) (told (viewed view result)) }
-        ensures picks { result ≢ Err (by_cause Memory) → ArePicks (option_map (λ s. admits s.now) strategy.entry) (candidates_of (whole L.seen self.old).entries (whole L.seen self.old).settings.read_only cmd.now) (whole L.seen self.new).picked }
-        ensures settings { (whole L.seen self.new).settings ≡ (whole L.seen self.old).settings }
-        ensures unasked { Leaves (whole L.seen self.old).nodes (whole L.seen self.new).nodes (whole L.seen self.new).log }
-        ensures map { (whole L.seen self.new).entries ≡ (whole L.seen self.old).entries }
-        ensures flag { (whole L.seen self.old).needs_refresh ≡ true → (whole L.seen self.new).needs_refresh ≡ true }
+        ensures made { has_split_word cmd.now.args ≡ false → CallMade (option_map (λ s. admits s.now) strategy.entry) (whole L.seen self.old) (whole L.seen self.new) (Query cmd.now number) (value_answer (tree_result view result)) }
+        ensures split { has_split_word cmd.now.args ≡ true → (result ≡ Err (by_cause (if cmd.now.no_response then NoResponse else NoRoute)))
+            × (whole L.seen self.new ≡ with_log (whole L.seen self.old) [] []) }
     {
         self.asked = Vec::new(alloc);
         self.picked = Vec::new(alloc);
+        let part = only_part(alloc, cmd, &self.read_only, number)?;
         let place = first_place(
             &self.links,
             alloc,
             &self.slots,
-            &self.read_only,
-            cmd,
+            &part.target,
             strategy,
             &mut self.picked,
         )?;
-        self.reply_from(alloc, cmd, place)
+        self.follow(alloc, &part.args, place)
     }
 
-    /// The one reply to a keyed command that goes to this place first, behind its redirects.
-    fn reply_from(&mut self, alloc: Global, cmd: &Cmd, first: Place) -> Result<Value, RedisError>
-        requires planned { first_node (open_links (nodes L.seen self.old.links.items)) self.old.slots (texts self.old.read_only.items) cmd.now (addresses self.old.picked.items) ≡ Ok (address first.node) }
-        requires place { IsOpenAt (nodes L.seen self.old.links.items) (address first.node) first.which }
-        requires direct { first.asking ≡ false }
-        requires within { first.which < vec_len self.old.links }
-        requires fresh { self.old.asked.items ≡ [] }
-        ensures played { result ≢ Err (by_cause Memory) → CallMade (whole L.seen self.old) (whole L.seen self.new) (Query cmd.now (addresses self.old.picked.items)) (told (viewed view result)) }
-        ensures picks { self.new.picked ≡ self.old.picked }
-        ensures settings { (whole L.seen self.new).settings ≡ (whole L.seen self.old).settings }
-        ensures unasked { Leaves (whole L.seen self.old).nodes (whole L.seen self.new).nodes (whole L.seen self.new).log }
-        ensures map { (whole L.seen self.new).entries ≡ (whole L.seen self.old).entries }
-        ensures flag { (whole L.seen self.old).needs_refresh ≡ true → (whole L.seen self.new).needs_refresh ≡ true }
+    /// The reply to one part that goes to this place first, behind its redirects.
+    fn follow(&mut self, alloc: Global, args: &[Vec<u8>], first: Place) -> Result<Value, RedisError>
+        requires place { IsOpenAt (nodes L.seen self.old.links.nodes.items) (address first.node) first.which }
+        requires within { first.which < vec_len self.old.links.nodes }
+        ensures { ChainMade (whole L.seen self.old) (whole L.seen self.new) (hop_to first) (texts args.now) (tree_result view result) }
     {
-        let args = cmd.wire_args(alloc)?;
         let mut place = first;
         let mut left = self.budget;
         'requests: loop {
-            let reply = send(
+            let request = Asked::new(alloc, &place.node, args, place.asking)?;
+            let reply = exchange_one(
                 &mut self.links,
-                &mut self.asked,
                 alloc,
+                &mut self.asked,
                 place.which,
-                &place.node,
-                &args,
-                place.asking,
+                request,
             )?;
             self.needs_refresh = needs_refresh(self.needs_refresh, &reply);
             match turn_by(alloc, &self.links, left, reply)? {
@@ -233,7 +207,8 @@ impl<L: ConnectionLike + Drop> ClusterClient<L> {
         self.slots.topology(alloc)
     }
 
-    /// Whether a request was answered by MOVED since the last accepted refresh.
+    /// Whether a request was answered by MOVED since the last accepted refresh; that a refresh itself was
+    /// does not count.
     pub fn needs_refresh(&self) -> bool
         ensures { result ≡ (whole L.seen self.now).needs_refresh }
     {
@@ -255,29 +230,40 @@ impl<L: ConnectionLike + Drop> ClusterClient<L> {
         self.picked.as_slice()
     }
 
+    /// Every node and its link, in the order in which they were handed in.
+    pub fn links(&self) -> &[(NodeAddress, L)]
+        ensures { nodes L.seen result.now ≡ (whole L.seen self.now).nodes }
+    {
+        self.links.nodes.as_slice()
+    }
+
     /// The link to a node.
     pub fn link(&self, node: &NodeAddress) -> Option<&L>
         ensures { option_map (λ link. L.seen link.now) result ≡ link_at (whole L.seen self.now).nodes (address node.now) }
     {
-        match place_of(&self.links, node) {
-            Some(which) => Some(&self.links[which].1),
+        match self.links.place_of(node) {
+            Some(which) => Some(&self.links.nodes[which].1),
             None => None,
         }
     }
-}
 
-/// The slot map that a reply to `CLUSTER SLOTS` of this node lists, or the error in it.
-fn accepted(alloc: Global, reply: Value, node: &NodeAddress) -> Result<SlotMap, RedisError>
-    ensures { result ≢ Err (by_cause Memory) → IsAccepted (view reply) (address node.now).host result }
-{
-    let reply = reply.extract_error()?;
-    Ok(listed(alloc, &reply, node)?)
-}
+    /// The pushes that were set aside at a node's link; `None` where there is no such link.
+    pub fn pushes(&self, node: &NodeAddress) -> Option<&[PushInfo]>
+        ensures { option_map (λ pushes. map push_view pushes.now) result ≡ option_map (λ (link : Seen). link.pushes) (link_at (whole L.seen self.now).nodes (address node.now)) }
+    {
+        match self.link(node) {
+            Some(link) => Some(link.pushes()),
+            None => None,
+        }
+    }
 
-/// The slot map that a reply to `CLUSTER SLOTS` of this node lists.
-fn listed(alloc: Global, reply: &Value, node: &NodeAddress) -> Result<SlotMap, AllocError>
-    ensures { IfOk result (λ map. map ≡ put_all [] (ranges (view reply.now) (address node.now).host)) }
-{
-    let ranges = parse_slots(alloc, reply, node.host())?;
-    SlotMap::from_slots(alloc, ranges)
+    /// Whether a node's link is usable; `None` where there is no such link.
+    pub fn link_state(&self, node: &NodeAddress) -> Option<bool>
+        ensures { result ≡ option_map (λ (link : Seen). link.usable) (link_at (whole L.seen self.now).nodes (address node.now)) }
+    {
+        match self.link(node) {
+            Some(link) => Some(link.is_open()),
+            None => None,
+        }
+    }
 }

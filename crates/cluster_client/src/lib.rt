@@ -3,35 +3,122 @@
 
 mod asked;
 mod client;
-mod first;
-mod hops;
-mod keyed;
+mod exchange;
+pub mod laws;
 mod links;
-mod redirect;
+mod place;
 mod reply;
-mod sending;
+mod route;
+mod slots;
+mod turn;
 
 pub use asked::Asked;
 pub use client::ClusterClient;
-pub use cluster_routing::{
-    AggregateOp, AnyNodeCandidates, ClusterTopology, LogicalAggregateOp, MultiSlotArgPattern,
-    MultipleNodeRoutingInfo, NodeAddress, ReadCandidates, ReadRoutingStrategy, Redirect, Replicas,
-    ReplicasOnlyCandidates, ResponsePolicy, Routable, Route, RoutingInfo, Shard,
-    SingleNodeRoutingInfo, Slot, SlotAddr, SlotAddrs, SlotMap, SlotRange, SlotRangeMap,
-    parse_slots, slot_cmd,
-};
-pub use resp_args::{
-    Arg, Cmd, FromRedisValue, RedisWrite, ToRedisArgs, ToSingleRedisArg, command, from_redis_value,
-    from_redis_value_ref, pack_command,
-};
-pub use resp_core::{
-    Cause, ErrorKind, LinkRead, Parser, ParsingError, PushInfo, PushKind, RedisError, Refused,
-    RetryMethod, ServerError, ServerErrorKind, Value, VerbatimFormat, get_push_kind,
-    parse_redis_value,
-};
-pub use resp_link::{
-    ByteLink, ConnectionLike, FromRead, FromWrite, LinkWrite, MemoryReader, MemoryWriter,
-};
+pub use cluster_routing::AggregateOp;
+pub use cluster_routing::AnyNodeCandidates;
+pub use cluster_routing::ClusterTopology;
+pub use cluster_routing::LogicalAggregateOp;
+pub use cluster_routing::MultiSlotArgPattern;
+pub use cluster_routing::MultipleNodeRoutingInfo;
+pub use cluster_routing::NodeAddress;
+pub use cluster_routing::ReadCandidates;
+pub use cluster_routing::ReadRoutingStrategy;
+pub use cluster_routing::Redirect;
+pub use cluster_routing::Replicas;
+pub use cluster_routing::ReplicasOnlyCandidates;
+pub use cluster_routing::ResponsePolicy;
+pub use cluster_routing::Routable;
+pub use cluster_routing::Route;
+pub use cluster_routing::RoutingInfo;
+pub use cluster_routing::Shard;
+pub use cluster_routing::SingleNodeRoutingInfo;
+pub use cluster_routing::Slot;
+pub use cluster_routing::SlotAddr;
+pub use cluster_routing::SlotAddrs;
+pub use cluster_routing::SlotAddrsIter;
+pub use cluster_routing::SlotMap;
+pub use cluster_routing::SlotRange;
+pub use cluster_routing::SlotRangeMap;
+pub use cluster_routing::SlotRangeValues;
+pub use cluster_routing::SlotRanges;
+pub use cluster_routing::parse_slots;
+pub use cluster_routing::slot_cmd;
+pub use resp_args::Arg;
+pub use resp_args::ArgsIter;
+pub use resp_args::Cmd;
+pub use resp_args::Count;
+pub use resp_args::FieldName;
+pub use resp_args::FromRedisValue;
+pub use resp_args::Number;
+pub use resp_args::RedisWrite;
+pub use resp_args::ToRedisArgs;
+pub use resp_args::ToSingleRedisArg;
+pub use resp_args::command;
+pub use resp_args::from_redis_value;
+pub use resp_args::from_redis_value_ref;
+pub use resp_args::pack_command;
+pub use resp_core::Cause;
+pub use resp_core::ErrorKind;
+pub use resp_core::LEVELS;
+pub use resp_core::LinkRead;
+pub use resp_core::MapIter;
+pub use resp_core::OwnedMapIter;
+pub use resp_core::Parser;
+pub use resp_core::ParsingError;
+pub use resp_core::PushInfo;
+pub use resp_core::PushKind;
+pub use resp_core::RedisError;
+pub use resp_core::Refused;
+pub use resp_core::RetryMethod;
+pub use resp_core::ServerError;
+pub use resp_core::ServerErrorKind;
+pub use resp_core::Value;
+pub use resp_core::VerbatimFormat;
+pub use resp_core::get_push_kind;
+pub use resp_core::parse_redis_value;
+pub use resp_link::ByteLink;
+pub use resp_link::ConnectionLike;
+pub use resp_link::FromRead;
+pub use resp_link::FromWrite;
+pub use resp_link::LinkWrite;
+pub use resp_link::MemoryReader;
+pub use resp_link::MemoryWriter;
+pub use stream_commands::ConfigRangeError;
+pub use stream_commands::IDMP_DURATION_MAX;
+pub use stream_commands::IDMP_DURATION_MIN;
+pub use stream_commands::IDMP_MAXSIZE_MAX;
+pub use stream_commands::IDMP_MAXSIZE_MIN;
+pub use stream_commands::StreamAddOptions;
+pub use stream_commands::StreamAutoClaimOptions;
+pub use stream_commands::StreamAutoClaimReply;
+pub use stream_commands::StreamClaimOptions;
+pub use stream_commands::StreamClaimReply;
+pub use stream_commands::StreamConfigOptions;
+pub use stream_commands::StreamDeletionPolicy;
+pub use stream_commands::StreamId;
+pub use stream_commands::StreamIdempotencyMode;
+pub use stream_commands::StreamInfoConsumer;
+pub use stream_commands::StreamInfoConsumersReply;
+pub use stream_commands::StreamInfoGroup;
+pub use stream_commands::StreamInfoGroupsReply;
+pub use stream_commands::StreamInfoStreamReply;
+pub use stream_commands::StreamInfoStreamReplyWithIdempotency;
+pub use stream_commands::StreamKey;
+pub use stream_commands::StreamMaxlen;
+pub use stream_commands::StreamNackMode;
+pub use stream_commands::StreamNackOptions;
+pub use stream_commands::StreamPendingCountReply;
+pub use stream_commands::StreamPendingData;
+pub use stream_commands::StreamPendingId;
+pub use stream_commands::StreamPendingReply;
+pub use stream_commands::StreamRangeReply;
+pub use stream_commands::StreamReadOptions;
+pub use stream_commands::StreamReadReply;
+pub use stream_commands::StreamTrimOptions;
+pub use stream_commands::StreamTrimStrategy;
+pub use stream_commands::StreamTrimmingMode;
+pub use stream_commands::XAckDelStatusCode;
+pub use stream_commands::XDelExStatusCode;
 
 #[cfg(test)]
 mod tests;

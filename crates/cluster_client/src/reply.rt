@@ -1,8 +1,8 @@
-//! What a reply is: data, an error, or a redirect.
+//! What a reply is.
 ghost use Rattle.std.specs.Prelude.{◌≡◌, ◌||◌};
 ghost use Rattle.resp_core.specs.View.{view};
-ghost use Rattle.cluster_client.specs.Reply.{sort_of};
-ghost use Rattle.cluster_client.specs.Log.{is_moved_sort};
+ghost use Rattle.cluster_client.specs.Links.Reply.{sort_of};
+ghost use Rattle.cluster_client.specs.Links.Log.{is_moved_sort};
 
 use resp_core::{ServerErrorKind, Value};
 

@@ -1,115 +1,89 @@
-//! Whole calls over bytes in memory, with expected values worked out by hand.
+//! What no session shows: replies read as other types, strategies, and what a client tells of itself.
 use crate::*;
 use std::alloc::{AllocError, Global};
-use std::process::Abort;
 use std::test::Fail;
 
 mod answers;
-mod faults;
 mod reads;
-mod redirects;
-mod routes;
 
 type Link = ByteLink<MemoryReader, MemoryWriter>;
 
+type Links = Vec<(NodeAddress, Link)>;
+
 type Client = ClusterClient<Link>;
-
-/// A reply to `CLUSTER SLOTS`: all slots at n1:7001.
-const ALL_AT_N1: &[u8] = b"*1\r\n*3\r\n:0\r\n:16383\r\n*3\r\n$2\r\nn1\r\n:7001\r\n$1\r\nx\r\n";
-
-/// The same with slots 0 to 8191 at n1:7001 and the rest at n2:7002.
-const HALVES: &[u8] =
-    b"*2\r\n*3\r\n:0\r\n:8191\r\n*2\r\n$2\r\nn1\r\n:7001\r\n*3\r\n:8192\r\n:16383\r\n*2\r\n$2\r\nn2\r\n:7002\r\n";
-
-const SLOTS: &[u8] = b"*2\r\n$7\r\nCLUSTER\r\n$5\r\nSLOTS\r\n";
-
-const GET_A: &[u8] = b"*2\r\n$3\r\nGET\r\n$1\r\na\r\n";
-
-const GET_B: &[u8] = b"*2\r\n$3\r\nGET\r\n$1\r\nb\r\n";
 
 fn node(alloc: Global, text: &str) -> Result<NodeAddress, RedisError> {
     NodeAddress::try_from(alloc, text)
 }
 
-fn joined(alloc: Global, first: &[u8], second: &[u8]) -> Result<Vec<u8>, AllocError> {
-    let mut bytes = Vec::from_slice(alloc, first)?;
-    bytes.extend_from_slice(second)?;
-    Ok(bytes)
+/// A link from which these bytes come in pieces of 7.
+fn link(alloc: Global, bytes: &[u8]) -> Result<Link, AllocError> {
+    let reader = MemoryReader::new(Vec::from_slice(alloc, bytes)?, 7, 0);
+    Ok(ByteLink::new(alloc, reader, MemoryWriter::new(alloc, 0)))
 }
 
-/// A client of n1:7001 and n2:7002 to which these bytes come in pieces of 3, after a refresh.
-fn client(
+fn add_link(
     alloc: Global,
-    slots: &[u8],
-    first: &[u8],
-    second: &[u8],
-    budget: u16,
-) -> Result<Client, RedisError> {
-    let mut links = Vec::new(alloc);
-    let n1 = MemoryReader::new(joined(alloc, slots, first)?, 3, 0);
-    let n2 = MemoryReader::new(Vec::from_slice(alloc, second)?, 3, 0);
-    links.push((
-        node(alloc, "n1:7001")?,
-        ByteLink::new(alloc, n1, MemoryWriter::new(alloc, 0)),
-    ))?;
-    links.push((
-        node(alloc, "n2:7002")?,
-        ByteLink::new(alloc, n2, MemoryWriter::new(alloc, 0)),
-    ))?;
-    let mut client = ClusterClient::new(alloc, links, Vec::new(alloc), budget)?;
-    client.refresh(alloc, &node(alloc, "n1:7001")?)?;
-    Ok(client)
-}
-
-fn get(alloc: Global, key: &str) -> Result<Cmd, AllocError> {
-    let mut cmd = command::cmd(alloc, "GET")?;
-    cmd.arg(key)?;
-    Ok(cmd)
-}
-
-/// The bytes that went out to a node.
-fn assert_sent<R: Abort>(
-    rt: &R,
-    alloc: Global,
-    client: &Client,
+    links: &mut Links,
     address: &str,
-    wanted: &[&[u8]],
+    bytes: &[u8],
 ) -> Result<(), RedisError> {
-    let mut bytes = Vec::new(alloc);
-    for part in wanted {
-        bytes.extend_from_slice(part)?;
-    }
-    match client.link(&node(alloc, address)?) {
-        Some(link) => assert_eq!(rt; link.writer().written(), bytes.as_slice()),
-        None => assert!(rt; false),
-    }
+    let node = node(alloc, address)?;
+    let link = link(alloc, bytes)?;
+    links.push((node, link))?;
     Ok(())
 }
 
-/// The last call's requests, as `ADDRESS plain|asking WORD ..` lines.
-fn log(alloc: Global, client: &Client) -> Result<String, RedisError> {
-    let mut text = String::new(alloc);
-    for asked in client.asked() {
-        let name = asked.node.to_string(alloc)?;
-        text.push_str(name.as_str())?;
-        text.push_str(if asked.asking { " asking" } else { " plain" })?;
-        for arg in &asked.args {
-            text.push_str(" ")?;
-            let arg = String::from_utf8_lossy(alloc, arg)?;
-            text.push_str(arg.as_str())?;
-        }
-        text.push_str("\n")?;
-    }
-    Ok(text)
+/// Whether the slot map of n1:7001 is learned.
+fn is_refreshed(alloc: Global, client: &mut Client) -> Result<bool, RedisError> {
+    let n1 = node(alloc, "n1:7001")?;
+    Ok(client.refresh(alloc, &n1).is_ok())
 }
 
-/// The kind of a refusal, and whether there was one.
-fn kind_of<T>(outcome: Result<T, RedisError>) -> Option<ErrorKind>
-where
-    T: Drop,
-{
+fn get_a(alloc: Global) -> Result<Cmd, AllocError> {
+    let mut cmd = command::cmd(alloc, "GET")?;
+    cmd.arg("a")?;
+    Ok(cmd)
+}
+
+/// The answer to `GET a` as a number.
+fn number_at_a(
+    alloc: Global,
+    client: &mut Client,
+    strategy: Option<&dyn ReadRoutingStrategy>,
+) -> Result<i64, RedisError> {
+    let cmd = get_a(alloc)?;
+    client.query(alloc, &cmd, 0, strategy)
+}
+
+/// The kind of a refusal, none where there was none.
+fn kind_of(outcome: Result<i64, RedisError>) -> Option<ErrorKind> {
     match outcome {
         Ok(_) => None,
         Err(e) => Some(e.kind()),
     }
+}
+
+/// Whether the last call's only request, or the second of two, went to the node.
+fn is_last_asked(alloc: Global, client: &Client, address: &str) -> Result<bool, RedisError> {
+    let node = node(alloc, address)?;
+    Ok(match client.asked() {
+        [only] => only.node == node,
+        [_, last] => last.node == node,
+        _ => false,
+    })
+}
+
+/// Whether just these bytes went out to the node.
+fn has_sent(
+    alloc: Global,
+    client: &Client,
+    address: &str,
+    bytes: &[u8],
+) -> Result<bool, RedisError> {
+    let node = node(alloc, address)?;
+    Ok(match client.link(&node) {
+        Some(link) => link.writer().written() == bytes,
+        None => false,
+    })
 }

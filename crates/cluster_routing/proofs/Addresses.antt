@@ -15,7 +15,8 @@ use Rattle.std.proofs.lemmas.Str.{IsUtf8-from_ascii}
 use Rattle.std.specs.Str.{IsUtf8}
 use Rattle.std.proofs.Math.Seq.{drop-length}
 use denote.Ref.{Bor}
-use Rattle.cluster_routing.specs.Numbers.{is_digit, digits_below, number_below}
+use Rattle.resp_core.specs.Numbers.{is_digit, digits_below, number_below}
+use Rattle.resp_core.proofs.TextNumbers.{own, parsed}
 use Rattle.cluster_routing.specs.Address.{Address, cut_here, cut_last, without_front, without_end, begins_plain, ends_plain, is_plain, address_with, address_of, address_read, written}
 
 -- the front
@@ -82,59 +83,6 @@ cut_is s (Some x) (i, j, found, front, back, le, fits, more) =
     let whole : s ≡ x.0.now ++ 58 ∷ x.1.now = sym (take-append-drop i s) ∙ ap (λ ys. take i s ++ ys) (drop_at_char 58 s i j found.1 (lit< tt) ∙ ap (λ ys. 58 ∷ ys) (sym back)) ∙ ap (λ ys. ys ++ 58 ∷ x.1.now) (sym front) in
     let none : (k : ℕ) → k < length x.1.now → get_or x.1.now k 0 ≢ 58 = λ k. rw back (λ l. NoCharPasses-char 58 (drop j s) k found.0 (lit< tt) l) in
     sym (ap (cut_last 58) whole ∙ cut_last-at 58 x.0.now x.1.now none)
-
--- numbers
-abbrev value : List ℕ → ℕ
-value ds = fold (λ n d. 10 * n + (d - 48)) 0 ds
-
-own : IsNumeralModel (λ ds. list_all is_digit ds ≡ true) value
-own = numerals_by_fold _ (search rules) (λ m ds. fold (λ n d. 10 * n + (d - 48)) m ds) (search rules)
-
-digits_ok : {E : Type 0} (k : ℕ) (ds : List ℕ) (r : Result ℕ E) → OkIff r ((list_all is_digit ds ≡ true) × (0 < length ds) × (value ds < 2 ^ k)) (value ds) → result_ok r ≡ digits_below (2 ^ k) ds
-digits_ok k [] (Ok x) h = absurd (omega (arith, h.0.1))
-digits_ok k [] (Err e) h = refl
-digits_ok k (d ∷ ds) (Ok x) (h, e) = by (list_all is_digit (d ∷ ds)) (nat_lt (value (d ∷ ds)) (2 ^ k)) h.0 (grind (arith, nat_tests, h.2))
-  where
-    by : (a b : Bool) → a ≡ true → b ≡ true → Some x ≡ (if a && b then Some (value (d ∷ ds)) else None)
-    by true true p q = ap (λ n. Some n) e
-    by true false p q = cc
-    by false b p q = cc
-digits_ok k (d ∷ ds) (Err e) h = by (list_all is_digit (d ∷ ds)) (nat_lt (value (d ∷ ds)) (2 ^ k)) (λ p q. h (p, omega arith, grind (arith, nat_tests, q)))
-  where
-    by : (a b : Bool) → (a ≡ true → b ≡ true → ⊥) → None ≡ (if a && b then Some (value (d ∷ ds)) else None)
-    by true true p = absurd (p refl refl)
-    by true false p = refl
-    by false b p = refl
-
-pub parsed : {E : Type 0} (k : ℕ) (bs : List ℕ) (r : Result ℕ E) → ParsesUnsigned k 10 bs r → result_ok r ≡ number_below (2 ^ k) bs
-parsed k [] r h = digits_ok k [] r (parse_plain own k [] r h (λ e. omega arith))
-parsed k (b ∷ bs) r h = elim (eqb_tells b 43) [
-  | inl (t, e) ↦ digits_ok k bs r (parse_plus own k (b ∷ bs) r h e) ∙ ap (λ u. if u then digits_below (2 ^ k) bs else digits_below (2 ^ k) (b ∷ bs)) (sym t)
-  | inr (f, ne) ↦ digits_ok k (b ∷ bs) r (parse_plain own k (b ∷ bs) r h ne) ∙ ap (λ u. if u then digits_below (2 ^ k) bs else digits_below (2 ^ k) (b ∷ bs)) (sym f)
-]
-
--- digits are text
-digits_ascii : (ds : List ℕ) → list_all is_digit ds ≡ true → (i : ℕ) → get_or ds i 0 < 128
-digits_ascii [] p i = omega arith
-digits_ascii (d ∷ ds) p zero = let h : is_digit d ≡ true = (and_parts _ _ p).0 in grind (arith, nat_tests, h)
-digits_ascii (d ∷ ds) p (suc i) = digits_ascii ds (and_parts (is_digit d) _ p).1 i
-
-digits_none : (limit : ℕ) (ds : List ℕ) → (list_all is_digit ds ≡ true → ⊥) → None ≡ digits_below limit ds
-digits_none limit [] p = refl
-digits_none limit (d ∷ ds) p = by (list_all is_digit (d ∷ ds)) (nat_lt (value (d ∷ ds)) limit) p
-  where
-    by : (a b : Bool) → (a ≡ true → ⊥) → None ≡ (if a && b then Some (value (d ∷ ds)) else None)
-    by true b q = absurd (q refl)
-    by false b q = refl
-
-pub not_text : (limit : ℕ) (bs : List ℕ) → (IsUtf8 bs → ⊥) → None ≡ number_below limit bs
-not_text limit [] p = refl
-not_text limit (b ∷ bs) p = elim (eqb_tells b 43) [
-  | inl (t, e) ↦ digits_none limit bs (λ q. p (IsUtf8-from_ascii (b ∷ bs) (λ i. elim i as (λ k. get_or (b ∷ bs) k 0 < 128) [ zero ↦ omega arith | suc k ↦ digits_ascii bs q k ])))
-      ∙ ap (λ u. if u then digits_below limit bs else digits_below limit (b ∷ bs)) (sym t)
-  | inr (f, ne) ↦ digits_none limit (b ∷ bs) (λ q. p (IsUtf8-from_ascii (b ∷ bs) (digits_ascii (b ∷ bs) q)))
-      ∙ ap (λ u. if u then digits_below limit bs else digits_below limit (b ∷ bs)) (sym f)
-]
 
 -- the text of an address
 port_back : (n : ℕ) → n < 2 ^ 16 → number_below (2 ^ 16) (decimal n) ≡ Some n

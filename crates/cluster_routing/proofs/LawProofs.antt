@@ -20,7 +20,7 @@ use Rattle.cluster_routing.specs.Ranges.{Entry, first_from, value_at, value_if_b
 use Rattle.cluster_routing.specs.Command.{Args, is_one_of, is_word, if_counted, all_bytes, name_by, bytes_of}
 use Rattle.cluster_routing.specs.Table.{Row, Rule, split, key_after_streams, table, families, is_family, rule_in, rule_of, other_rule}
 use Rattle.cluster_routing.specs.Routing.{destination, destination_by, role_of, to_key_behind, to_split}
-use Rattle.cluster_routing.specs.Laws.{EqualTags, EqualArguments, CaseOfTheWord, AreApart, BeginsBehind, OneRange}
+use Rattle.cluster_routing.specs.Laws.{EqualTags, CaseOfTheWord, AreApart, BeginsBehind, OneRange}
 use Rattle.cluster_routing.proofs.Tags.{position-cons}
 
 pub equal_tags : EqualTags
@@ -28,14 +28,11 @@ unfolding hash_slot
 equal_tags key other b bs t u =
     ap (λ (text : List ℕ). let bits = flat_map byte_bits text in bits_value (drop 2 (remainder (length bits) (bits ++ replicate 16 false)))) (ap (tag_or key) t ∙ sym (ap (tag_or other) u))
 
-pub equal_arguments : EqualArguments
-equal_arguments args other read_only e = ap (λ a. destination a read_only) e
-
 -- what goes by a name goes by its letters in lower case
 is_one_of-lower : (words : List (List ℕ)) (a b : List ℕ) → str_to_ascii_lowercase a ≡ str_to_ascii_lowercase b → is_one_of words a ≡ is_one_of words b
 is_one_of-lower words a b h = ap (λ l. list_any (λ word. bytes_eq (str_to_ascii_lowercase word) l) words) h
 
-rule_in-lower : (rows : List Row) (a b : List ℕ) (other : Rule) → str_to_ascii_lowercase a ≡ str_to_ascii_lowercase b → rule_in rows a other ≡ rule_in rows b other
+pub rule_in-lower : (rows : List Row) (a b : List ℕ) (other : Rule) → str_to_ascii_lowercase a ≡ str_to_ascii_lowercase b → rule_in rows a other ≡ rule_in rows b other
 rule_in-lower [] a b other h = refl
 rule_in-lower (r ∷ rs) a b other h = ap (λ x. if x then r.rule else rule_in rs a other) (is_one_of-lower r.names a b h) ∙ ap (λ y. if is_one_of r.names b then r.rule else y) (rule_in-lower rs a b other h)
 

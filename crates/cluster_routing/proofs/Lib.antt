@@ -16,3 +16,5 @@ pub mod DistinctNodes
 pub mod ServingShards
 pub mod LawProofs
 pub mod Places
+pub mod Gathered
+pub mod WireRoutes

@@ -5,8 +5,7 @@ use Rattle.std.proofs.lemmas.Bool.Decides.{nat_tests}
 use Rattle.cluster_routing.specs.Lists.{among}
 use Rattle.cluster_routing.specs.Parts.{places_from}
 use Rattle.cluster_routing.specs.Laws.{holds_at, IsBelowNumbers, NumbersAscend, PartsShareThePlaces}
-use Rattle.cluster_routing.proofs.Distinct.{nat_tells}
-use Rattle.cluster_routing.proofs.ServingShards.{among-firsts}
+use Rattle.cluster_routing.proofs.Gathered.{groups_each, groups_once}
 
 other : (j n : ℕ) → j < n → nat_eq j n ≡ false
 other j n h = grind (arith, nat_tests, h)
@@ -63,5 +62,6 @@ pub parts_share : PartsShareThePlaces
 parts_share = record {
   own = λ slots s place. ap (λ k. among nat_eq k (places_from s 0 slots)) (from_zero place) ∙ own_from s 0 place slots;
   ascending = λ slots s. ascend_from s 0 slots;
-  each = λ slots s. among-firsts nat_eq nat_tells s slots;
+  each = groups_each;
+  once = groups_once;
 }

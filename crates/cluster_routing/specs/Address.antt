@@ -1,10 +1,11 @@
 -- Addresses of nodes, and how they are written: host, colon, port (documentation of the crate `redis`).
 use Rattle.std.specs.Prelude.{ℕ, ◌^◌, Bool, false, not, ◌&&◌, ◌==◌, if◌then◌else◌, List, [], ◌∷◌, ◌++◌, reverse, Option, Some, None, option_and_then, decimal, bytes_eq}
+use Rattle.std.specs.Hash as fed
 use Rattle.std.specs.Ordering.{nat_cmp, match_ordering}
 use Rattle.std.specs.Cmp.Lexicographic.{slice_cmp}
 use Rattle.std.specs.declared.cmp.Ordering.{Ordering}
 use Rattle.std.specs.declared.cmp.Ordering.TheVariants.{Less, Greater}
-use Rattle.cluster_routing.specs.Numbers.{number_below}
+use Rattle.resp_core.specs.Numbers.{number_below}
 
 -- a node's address: the bytes of its host, and its port
 pub record Address : Type 0 where
@@ -17,6 +18,10 @@ same_address a b = bytes_eq a.host b.host && a.port == b.port
 -- by the bytes of the host, then by the port
 abbrev pub address_cmp : Address → Address → Ordering
 address_cmp a b = match_ordering (slice_cmp nat_cmp a.host b.host) Less (nat_cmp a.port b.port) Greater
+
+-- what a hasher is fed: the host as a text, then the port (documentation of Rust's `Hash`)
+abbrev pub hashed_address : Address → List (List ℕ)
+hashed_address a = fed.str a.host ++ fed.u16 a.port
 
 -- the text of an address
 abbrev pub written : Address → List ℕ

@@ -1,8 +1,8 @@
 -- What the code's answers on routes are.
-use Rattle.std.specs.Prelude.{ℕ, List, map, Option, Some, None, Vec}
+use Rattle.std.specs.Prelude.{ℕ, Bool, false, List, map, Option, Some, None, Vec}
 use Rattle.std.specs.Borrow.{Bor}
 use Rattle.std.specs.Global.{Global}
-use Rattle.cluster_routing.specs.Address.{Address}
+use Rattle.cluster_routing.specs.Address.{Address, same_address}
 use Rattle.cluster_routing.specs.Seen.{address}
 use Rattle.cluster_routing.specs.Routing.{Destination, to_any_node, to_any_primary, to_route, to_address, to_all_nodes, to_all_primaries, to_parts}
 use Rattle.cluster_routing.specs.declared.route.Route.{Route}
@@ -50,6 +50,11 @@ single_of (Some route) = SpecificNode route
 pub data Redirection : Type 0 where
   from_now_on : Address → Redirection
   this_once : Address → Redirection
+
+abbrev pub same_redirection : Redirection → Redirection → Bool
+same_redirection (from_now_on a) (from_now_on b) = same_address a b
+same_redirection (this_once a) (this_once b) = same_address a b
+same_redirection _ _ = false
 
 abbrev pub shown_redirect : Redirect → Redirection
 shown_redirect (Moved a) = from_now_on (address a)

@@ -1,20 +1,21 @@
 -- Laws of addresses, slots, range maps and routes, over the definitions alone.
-use Rattle.std.specs.Prelude.{◌≡◌, ℕ, zero, suc, nat_eq, ◌<◌, ◌≤◌, ◌^◌, Bool, true, false, ◌&&◌, List, [], ◌∷◌, Some, None, option_map, slice_get, ◌↔◌, ⊤}
+use Rattle.std.specs.Prelude.{◌≡◌, ℕ, zero, suc, nat_eq, ◌<◌, ◌≤◌, ◌^◌, Bool, true, false, ◌&&◌, List, [], ◌∷◌, map, Some, None, option_map, slice_get, ◌↔◌, ⊤}
 use Rattle.std.specs.List.{list_all}
 use Rattle.std.specs.Str.{str_to_ascii_lowercase}
 use Rattle.std.specs.declared.cmp.Ordering.TheVariants.{Less, Equal}
 use Rattle.resp_args.specs.declared.cmd.Arg.TheVariants.{Simple}
+use Rattle.resp_args.specs.Packed.{wire}
 use Rattle.cluster_routing.specs.Address.{Address, address_cmp, address_read, is_plain, same_address, written}
 use Rattle.cluster_routing.specs.AllNodes.{ascending}
-use Rattle.cluster_routing.specs.Lists.{among, firsts}
-use Rattle.cluster_routing.specs.Parts.{places_from}
+use Rattle.cluster_routing.specs.Lists.{among}
+use Rattle.cluster_routing.specs.Parts.{groups, places_from}
 use Rattle.cluster_routing.specs.HashSlot.{hash_slot, tag}
 use Rattle.cluster_routing.specs.Ranges.{Entry, IsAscending, value_at}
 use Rattle.cluster_routing.specs.SlotMap.{SlotEntries, nodes_at}
 use Rattle.cluster_routing.specs.Topology.{shard_at, shards_of}
 use Rattle.cluster_routing.specs.Command.{Args}
 use Rattle.cluster_routing.specs.Table.{Row, Rule, table, rule_of, same_rule}
-use Rattle.cluster_routing.specs.Routing.{destination}
+use Rattle.cluster_routing.specs.Routing.{Destination, destination}
 
 -- an address comes back from its text exactly where its host is plain
 abbrev pub RoundTrip : Type 0
@@ -34,9 +35,11 @@ CaseOfTheWord =
     (word other : List ℕ) (args : Args) (read_only : List (List ℕ)) → str_to_ascii_lowercase word ≡ str_to_ascii_lowercase other
     → destination (Simple word ∷ args) read_only ≡ destination (Simple other ∷ args) read_only
 
--- equal arguments go to one place
-abbrev pub EqualArguments : Type 0
-EqualArguments = (args other : Args) (read_only : List (List ℕ)) → args ≡ other → destination args read_only ≡ destination other read_only
+-- a command that goes anywhere goes there with its gaps filled, as its arguments stand on the wire
+abbrev pub RoutesAsOnTheWire : Type 0
+RoutesAsOnTheWire =
+    (args : Args) (cursor : ℕ) (read_only : List (List ℕ)) (to : Destination) → cursor < 2 ^ 64 → destination args read_only ≡ Some to
+    → destination (map (λ bytes. Simple bytes) (wire cursor args)) read_only ≡ Some to
 
 -- no range is reversed, and each begins behind the end of the one before
 abbrev pub BeginsBehind : {V : Type 0} → ℕ → List (Entry V) → Type 0
@@ -92,9 +95,15 @@ abbrev pub NumbersAscend : List ℕ → Type 0
 NumbersAscend [] = ⊤
 NumbersAscend (x ∷ xs) = IsBelowNumbers x xs × NumbersAscend xs
 
--- the parts of a split share its places: each place stands in the part of its own slot and in no other, places ascend, and each slot
--- has its part
+-- each number stands in the list once
+abbrev pub StandOnce : List ℕ → Type 0
+StandOnce [] = ⊤
+StandOnce (x ∷ xs) = (among nat_eq x xs ≡ false) × StandOnce xs
+
+-- the parts of a split share its places: each place stands in the part of its own slot and in no other, places ascend, each slot has
+-- its part, and no slot has two
 pub record PartsShareThePlaces : Type 0 where
   pub own : (slots : List ℕ) (slot place : ℕ) → among nat_eq place (places_from slot 0 slots) ≡ holds_at slots place slot
   pub ascending : (slots : List ℕ) (slot : ℕ) → NumbersAscend (places_from slot 0 slots)
-  pub each : (slots : List ℕ) (slot : ℕ) → among nat_eq slot (firsts nat_eq slots) ≡ among nat_eq slot slots
+  pub each : (slots : List ℕ) (slot : ℕ) → among nat_eq slot (map (λ g. g.0) (groups slots)) ≡ among nat_eq slot slots
+  pub once : (slots : List ℕ) → StandOnce (map (λ g. g.0) (groups slots))

@@ -1,5 +1,4 @@
 pub mod Lists
-pub mod Numbers
 pub mod HashSlot
 pub mod Register
 pub mod Address
@@ -22,3 +21,7 @@ pub mod Info
 pub mod Laws
 pub mod Examples
 pub mod ExampleRoutes
+pub mod Split
+pub mod Combine
+pub mod Policies
+pub mod CombineLaws

@@ -1,8 +1,8 @@
 -- Where a command goes (Redis Cluster specification; documentation of the crate `redis`).
-use Rattle.std.specs.Prelude.{ℕ, zero, suc, ◌+◌, ◌^◌, Bool, if◌then◌else◌, List, [], ◌∷◌, map, drop, slice_get, Option, Some, None, option_map, option_and_then, codes}
+use Rattle.std.specs.Prelude.{ℕ, zero, suc, ◌+◌, ◌^◌, Bool, nat_eq, if◌then◌else◌, List, [], ◌∷◌, ◌++◌, map, drop, slice_get, Option, Some, None, option_map, option_and_then, codes}
 use Rattle.resp_args.specs.declared.cmd.Arg.{Arg}
 use Rattle.cluster_routing.specs.Address.{Address}
-use Rattle.cluster_routing.specs.Numbers.{number_below}
+use Rattle.resp_core.specs.Numbers.{number_below}
 use Rattle.cluster_routing.specs.HashSlot.{hash_slot}
 use Rattle.cluster_routing.specs.Command.{Args, is_one_of, bytes_of, place_of, all_bytes, name_by}
 use Rattle.cluster_routing.specs.Parts.{Tuple, width_of, in_tuples, tuples_of, argument_slots, groups}
@@ -48,6 +48,14 @@ to_key_behind role args (Some place) = to_key role (slice_get args (place + 1))
 -- to parts: nowhere without a tuple, to one slot where all keys have it
 abbrev pub part_to : SlotAddr → ℕ × List ℕ → Route × List ℕ
 part_to role g = (route_to role g.0, g.1)
+
+-- the slots of parts, and parts with one more place: in the part of its route's slot, which goes last where there is none
+abbrev pub part_slots : List (Route × List ℕ) → List ℕ
+part_slots parts = map (λ (p : Route × List ℕ). p.0.slot) parts
+
+abbrev pub put_place : Route → ℕ → List (Route × List ℕ) → List (Route × List ℕ)
+put_place route place [] = (route, place ∷ []) ∷ []
+put_place route place (p ∷ ps) = if nat_eq route.slot p.0.slot then (p.0, p.1 ++ place ∷ []) ∷ ps else p ∷ put_place route place ps
 
 abbrev pub to_some_parts : MultiSlotArgPattern → ResponsePolicy → List (Route × List ℕ) → Option Destination
 to_some_parts pattern policy [] = None

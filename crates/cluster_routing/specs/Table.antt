@@ -78,7 +78,8 @@ abbrev pub rule_in : List Row → List ℕ → Rule → Rule
 rule_in [] name other = other
 rule_in (r ∷ rs) name other = if is_one_of r.names name then r.rule else rule_in rs name other
 
--- every other name of a family goes nowhere, every other word to its first argument
+-- every other name of a family goes nowhere, every other word to its first argument: this project's own rule, since the Redis
+-- documentation has commands without a key there (SWAPDB 0 1 goes to the slot of the key 0)
 abbrev pub other_rule : Bool → Rule
 other_rule family = if family then nowhere else key_at 1
 

@@ -3,7 +3,7 @@
 ghost use Rattle.std.specs.Prelude.{◌≡◌, ◌^◌, [], IfOk, option_map};
 ghost use Rattle.std.specs.String.{string_bytes};
 ghost use Rattle.cluster_routing.specs.Address.{address_of, address_read, address_with, cut_last, without_end, without_front};
-ghost use Rattle.cluster_routing.specs.Numbers.{number_below};
+ghost use Rattle.resp_core.specs.Numbers.{number_below};
 ghost use Rattle.cluster_routing.specs.Refusals.{Reads};
 ghost use Rattle.cluster_routing.specs.Seen.{address, addresses};
 
@@ -50,8 +50,8 @@ impl NodeAddress {
     /// and each `]` at its end.
     ///
     /// # Errors
-    /// `UnreadableAddress` where there is no `:`, the port is none, or the host is empty; `Memory`
-    /// where the host's copy is refused.
+    /// `UnreadableAddress` where there is no `:`, the port is none, or the host is empty, whatever
+    /// memory does; `Memory` where the text spells an address and the host's copy is refused.
     pub fn try_from(alloc: Global, text: &str) -> Result<NodeAddress, RedisError>
         ensures { Reads (address_read text.now) result }
     {

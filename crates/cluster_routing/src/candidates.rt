@@ -95,12 +95,8 @@ impl<'a> Model for AnyNodeCandidates<'a> {
 }
 
 impl<'a> AnyNodeCandidates<'a> {
-    /// The candidates of a slot with these nodes.
-    pub(crate) fn new(
-        slot: u16,
-        primary: &'a NodeAddress,
-        replicas: Replicas<'a>,
-    ) -> AnyNodeCandidates<'a>
+    /// The candidates of the slot of this number with these nodes.
+    pub fn new(slot: u16, primary: &'a NodeAddress, replicas: Replicas<'a>) -> AnyNodeCandidates<'a>
         ensures { result ≡ record { slot = slot; nodes = record { primary = address primary.now; replicas = replicas.entry } } }
     {
         AnyNodeCandidates {
@@ -148,8 +144,8 @@ impl<'a> Model for ReplicasOnlyCandidates<'a> {
 }
 
 impl<'a> ReplicasOnlyCandidates<'a> {
-    /// The candidates of a slot with these replicas.
-    pub(crate) fn new(slot: u16, replicas: Replicas<'a>) -> ReplicasOnlyCandidates<'a>
+    /// The candidates of the slot of this number with these replicas.
+    pub fn new(slot: u16, replicas: Replicas<'a>) -> ReplicasOnlyCandidates<'a>
         ensures { result ≡ record { slot = slot; replicas = replicas.entry } }
     {
         ReplicasOnlyCandidates { slot, replicas }

@@ -1,12 +1,17 @@
 //! Laws of addresses, slots, range maps and routes. Each is the contract of a call that does
 //! nothing, or that makes the one call that it speaks of.
 
-ghost use Rattle.std.specs.Prelude.{◌≡◌, ℕ, true};
-ghost use Rattle.cluster_routing.specs.Address.{address_cmp, same_address};
-ghost use Rattle.cluster_routing.specs.Laws.{CaseOfTheWord, EachAddressOnce, EachNameHasItsRow, EqualArguments, EqualTags, OneRange, OrderAgrees, PartsShareThePlaces, RoundTrip, TopologyServes};
+ghost use Rattle.std.specs.Prelude.{◌≡◌, fold, option_map, true, IfOk};
+ghost use Rattle.cluster_routing.specs.Address.{address_cmp, hashed_address, same_address};
+ghost use Rattle.cluster_routing.specs.Info.{same_redirection, shown_info, shown_redirect, texts};
+ghost use Rattle.cluster_routing.specs.Routing.{destination};
+ghost use Rattle.cluster_routing.specs.Laws.{CaseOfTheWord, EachAddressOnce, EachNameHasItsRow, EqualTags, OneRange, OrderAgrees, PartsShareThePlaces, RoundTrip, RoutesAsOnTheWire, TopologyServes};
 ghost use Rattle.cluster_routing.specs.Seen.{address};
 
 use crate::address::NodeAddress;
+use crate::routable::Routable;
+use crate::routing::{Redirect, RoutingInfo};
+use std::alloc::{AllocError, Global};
 use std::cmp::Ordering;
 use std::hash::{Hash, Hasher};
 
@@ -30,19 +35,29 @@ pub fn equality_of_addresses(a: &NodeAddress, b: &NodeAddress) -> bool
     a == b
 }
 
+/// Two redirects are equal where both are `MOVED`, or both `ASK`, with equal addresses.
+pub fn equality_of_redirects(a: &Redirect, b: &Redirect) -> bool
+    ensures { result ≡ same_redirection (shown_redirect a.now) (shown_redirect b.now) }
+{
+    a == b
+}
+
 /// The order of addresses tells two of them equal exactly where they are.
 pub fn order_and_equality_agree()
     ensures { OrderAgrees }
 {}
 
-/// Equal addresses are hashed alike: two hashers that were equal are equal afterwards.
+/// Each address feeds its hasher the host and the port, and nothing else. So equal addresses are
+/// hashed alike: two hashers that were equal are equal afterwards.
 pub fn hashes_of_addresses<H: Hasher>(
     a: &NodeAddress,
     b: &NodeAddress,
     first: &mut H,
     second: &mut H,
 )
-    ensures { same_address (address a.now) (address b.now) ≡ true → first.old ≡ second.old → first.new ≡ second.new }
+    ensures first { first.new ≡ fold H.write first.old (hashed_address (address a.now)) }
+    ensures second { second.new ≡ fold H.write second.old (hashed_address (address b.now)) }
+    ensures alike { same_address (address a.now) (address b.now) ≡ true → first.old ≡ second.old → first.new ≡ second.new }
 {
     a.hash(first);
     b.hash(second);
@@ -58,15 +73,35 @@ pub fn case_changes_no_route()
     ensures { CaseOfTheWord }
 {}
 
-/// Equal arguments have equal routes.
-pub fn equal_arguments_have_equal_routes()
-    ensures { EqualArguments }
+/// A command with a gap that goes anywhere goes there too with the cursor in the gap, as its
+/// arguments stand on the wire.
+pub fn gaps_change_no_route()
+    ensures { RoutesAsOnTheWire }
 {}
+
+/// The routes of two commands, of any types, are equal where their arguments are.
+///
+/// # Errors
+/// `AllocError` where memory is refused.
+pub fn equal_arguments_have_equal_routes<A: Routable, B: Routable>(
+    alloc: Global,
+    a: &A,
+    b: &B,
+    read_only: &[Vec<u8>],
+) -> Result<(Option<RoutingInfo>, Option<RoutingInfo>), AllocError>
+    ensures first { IfOk result (λ both. option_map shown_info both.0 ≡ destination (A.args a.now) (texts read_only.now)) }
+    ensures second { IfOk result (λ both. option_map shown_info both.1 ≡ destination (B.args b.now) (texts read_only.now)) }
+    ensures equal { A.args a.now ≡ B.args b.now → IfOk result (λ both. option_map shown_info both.0 ≡ option_map shown_info both.1) }
+{
+    let first = RoutingInfo::for_routable(alloc, a, read_only)?;
+    let second = RoutingInfo::for_routable(alloc, b, read_only)?;
+    Ok((first, second))
+}
 
 /// Where ranges are apart and none is reversed, the value of a slot is that of the one range that
 /// holds it.
-pub fn the_one_range_serves()
-    ensures { OneRange ℕ }
+pub fn the_one_range_serves<V>()
+    ensures { OneRange V }
 {}
 
 /// Each name of the routing table is routed by its own row, and by no other.
@@ -87,7 +122,7 @@ pub fn the_topology_serves_as_the_map_does()
 {}
 
 /// The parts of a split command share its places: each place stands in the part of its own slot and in
-/// no other, the places of a part ascend, and each slot has its part.
+/// no other, the places of a part ascend, and each slot has its part, and no more than one.
 pub fn parts_share_the_places()
     ensures { PartsShareThePlaces }
 {}

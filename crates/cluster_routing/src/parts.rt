@@ -1,15 +1,15 @@
 //! The parts of a split command.
 
-ghost use Rattle.std.specs.Prelude.{◌≡◌, ◌<◌, ◌≤◌, ◌+◌, ◌*◌, ◌^◌, ◌++◌, drop, length, map, take, nat_eq, option_map, IfOk};
+ghost use Rattle.std.specs.Prelude.{◌≡◌, ◌<◌, ◌≤◌, ◌+◌, ◌*◌, ◌^◌, ◌++◌, drop, length, map, take, option_map, IfOk};
 ghost use Rattle.cluster_routing.specs.Info.{lent, shown_info, shown_part};
-ghost use Rattle.cluster_routing.specs.Lists.{among, firsts};
-ghost use Rattle.cluster_routing.specs.Parts.{argument_slots, group, groups, in_tuples, len_in_tuples, places_from, tuple_count, tuple_slot, tuples_from, tuples_of, width_of};
-ghost use Rattle.cluster_routing.specs.Routing.{part_to, to_some_parts, to_split, to_tuples};
+ghost use Rattle.cluster_routing.specs.Parts.{argument_slots, groups, in_tuples, len_in_tuples, tuple_count, tuple_slot, tuples_from, tuples_of, width_of};
+ghost use Rattle.cluster_routing.specs.Routing.{part_slots, part_to, put_place, to_some_parts, to_split, to_tuples};
 
 use crate::policy::{MultiSlotArgPattern, ResponsePolicy};
 use crate::route::{Route, SlotAddr};
 use crate::routing::{MultipleNodeRoutingInfo, RoutingInfo, SingleNodeRoutingInfo};
 use crate::slot::Slot;
+use indexmap::IndexSet;
 use std::alloc::{AllocError, Global};
 
 /// Where a split command goes whose arguments, with the word, are these bytes.
@@ -171,54 +171,31 @@ fn parts_of(
 ) -> Result<Vec<(Route, Vec<usize>)>, AllocError>
     ensures { IfOk result (λ v. map shown_part v.items ≡ map (part_to role) (groups slots.now)) }
 {
-    let first_slots = distinct(alloc, slots)?;
+    let mut seen = IndexSet::new(alloc);
     let mut parts = Vec::new(alloc);
-    for slot in &first_slots {
-        parts.push(part_of(alloc, slots, *slot, role)?)?;
+    'slots: for (place, slot) in slots.iter().enumerate() {
+        put_place(&mut seen, &mut parts, Route::new(*slot, role), place)?;
     }
     Ok(parts)
 }
 
-fn part_of(
-    alloc: Global,
-    slots: &[u16],
-    slot: u16,
-    role: SlotAddr,
-) -> Result<(Route, Vec<usize>), AllocError>
-    ensures { IfOk result (λ p. shown_part p ≡ part_to role (group slots.now slot)) }
+/// Puts a place into the part of its route's slot, which `seen` has at the index of that part.
+fn put_place(
+    seen: &mut IndexSet<u16>,
+    parts: &mut Vec<(Route, Vec<usize>)>,
+    route: Route,
+    place: usize,
+) -> Result<(), AllocError>
+    requires { seen.old.keys ≡ part_slots (map shown_part parts.old.items) }
+    ensures seen { IfOk result (λ _. seen.new.keys ≡ part_slots (map shown_part parts.new.items)) }
+    ensures parts { IfOk result (λ _. map shown_part parts.new.items ≡ put_place route place (map shown_part parts.old.items)) }
 {
-    let places = places_of(alloc, slots, slot)?;
-    Ok((Route::new(slot, role), places))
-}
-
-fn places_of(alloc: Global, slots: &[u16], slot: u16) -> Result<Vec<usize>, AllocError>
-    ensures { IfOk result (λ v. v.items ≡ places_from slot 0 slots.now) }
-{
-    let mut places = Vec::new(alloc);
-    for (place, other) in slots.iter().enumerate() {
-        if *other == slot {
-            places.push(place)?;
-        }
+    let (part, is_new) = seen.insert_full(route.slot())?;
+    if is_new {
+        parts.push((route, Vec::new(*parts.allocator())))?;
     }
-    Ok(places)
-}
-
-fn distinct(alloc: Global, slots: &[u16]) -> Result<Vec<u16>, AllocError>
-    ensures { IfOk result (λ v. v.items ≡ firsts nat_eq slots.now) }
-{
-    let mut seen = Vec::new(alloc);
-    for slot in slots {
-        if !has(&seen, *slot) {
-            seen.push(*slot)?;
-        }
-    }
-    Ok(seen)
-}
-
-fn has(slots: &[u16], slot: u16) -> bool
-    ensures { result ≡ among nat_eq slot slots.now }
-{
-    slots.iter().any(|other| slot == *other)
+    parts[part].1.push(place)?;
+    Ok(())
 }
 
 /// One part is a single node, and no part is none.

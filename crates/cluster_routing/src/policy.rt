@@ -1,9 +1,10 @@
 //! How the replies of several nodes become one, and how a command is cut into tuples.
 
-ghost use Rattle.std.specs.Prelude.{◌≡◌, false};
+ghost use Rattle.std.specs.Prelude.{◌≡◌, false, option_map};
+ghost use Rattle.cluster_routing.specs.Split.{Splitting, splitting_of};
 ghost use Rattle.cluster_routing.specs.Table.{policy_by, rule_of};
 
-use crate::table::{Rule, rule_for};
+use crate::table::{Rule, is_family, rule_for};
 
 /// A test over the replies. (Documentation of the crate `redis`.)
 #[derive(Clone, Copy, Debug, PartialEq, Eq)]
@@ -70,4 +71,18 @@ pub enum MultiSlotArgPattern {
     KeysAndLastArg,
     /// Each key has two arguments behind it.
     KeyWithTwoArgTriples,
+}
+
+impl MultiSlotArgPattern {
+    /// How the arguments of this word's commands fall into tuples, whatever the case of its ASCII
+    /// letters; `None` where the word is none of a split command. It takes no memory.
+    #[tactic(auto, unfolding(crate::specs::Split::splitting_of))]
+    pub fn for_command(word: &[u8]) -> Option<MultiSlotArgPattern>
+        ensures { result ≡ option_map (λ (s : Splitting). s.pattern) (splitting_of word.now) }
+    {
+        match rule_for(word, is_family(word)) {
+            Rule::Split(pattern, _) => Some(pattern),
+            _ => None,
+        }
+    }
 }

@@ -49,13 +49,15 @@ impl SlotAddrs {
         nodes
     }
 
-    pub(crate) fn primary(&self) -> &NodeAddress
+    /// The primary.
+    pub fn primary(&self) -> &NodeAddress
         ensures { address result.now ≡ self.now.primary }
     {
         &self.primary
     }
 
-    pub(crate) fn replicas(&self) -> &[NodeAddress]
+    /// The replicas, in the order of their listing.
+    pub fn replicas(&self) -> &[NodeAddress]
         ensures { addresses result.now ≡ self.now.replicas }
     {
         &self.replicas
@@ -120,6 +122,27 @@ impl SlotRange {
             end: e,
             nodes: SlotAddrs::new(m, r),
         }
+    }
+
+    /// The first slot.
+    pub fn start(&self) -> u16
+        ensures { result ≡ self.now.start }
+    {
+        self.start
+    }
+
+    /// The last slot.
+    pub fn end(&self) -> u16
+        ensures { result ≡ self.now.last }
+    {
+        self.end
+    }
+
+    /// The nodes that serve the slots.
+    pub fn addrs(&self) -> &SlotAddrs
+        ensures { result.now ≡ self.now.nodes }
+    {
+        &self.nodes
     }
 }
 

@@ -2,7 +2,7 @@
 
 ghost use Rattle.std.specs.Prelude.{◌≡◌, ◌+◌, ◌<◌, ◌^◌, codes, map, option_map, option_and_then, slice_get, IfOk, None, Some};
 ghost use Rattle.cluster_routing.specs.Command.{all_bytes, bytes_of, is_one_of, place_of};
-ghost use Rattle.cluster_routing.specs.Numbers.{number_below};
+ghost use Rattle.resp_core.specs.Numbers.{number_below};
 ghost use Rattle.cluster_routing.specs.Info.{shown_info, texts};
 ghost use Rattle.cluster_routing.specs.Routing.{destination, destination_by, destination_of_word, name_of_word, role_of, to_counted_key, to_key, to_key_behind, to_split};
 ghost use Rattle.cluster_routing.specs.Rows.{shown_rule};
@@ -77,6 +77,9 @@ impl From<Option<Route>> for SingleNodeRoutingInfo {
 
 impl RoutingInfo {
     /// Where a command goes; `None` where it goes to no node by the routing table.
+    ///
+    /// A word that the table does not list goes to the slot of its first argument, as if that were
+    /// a key: the table is this project's own there, and `SWAPDB 0 1` goes to the slot of `0`.
     ///
     /// `read_only` are the names of the commands that may be served by a replica: their route is
     /// `ReplicaOptional`, every other `Master`. Names are compared without the case of ASCII

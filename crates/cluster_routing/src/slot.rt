@@ -51,6 +51,13 @@ impl Slot {
         }
     }
 
+    /// Its number.
+    pub fn number(&self) -> u16
+        ensures { result ≡ self.now.number }
+    {
+        self.number
+    }
+
     /// The slot of a key.
     ///
     /// What is hashed are the bytes between the first `{` and the first `}` behind it, where at

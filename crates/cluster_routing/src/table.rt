@@ -36,8 +36,11 @@ struct Row {
     rule: Rule,
 }
 
-/// The rows of the table. A name that no row lists has its key at place 1, but for the other
-/// names of a family, which go nowhere. (Redis command documentation.)
+/// The rows of the table. (Redis command documentation.)
+///
+/// A name that no row lists has its key at place 1, but for the other names of a family, which go
+/// nowhere. That is this project's own rule, not the Redis documentation's: some commands that no
+/// row lists have no key there. So `SWAPDB 0 1` goes to the slot of the key `0`.
 const ROWS: [Row; 23] = [
     Row {
         names: &["MGET"],

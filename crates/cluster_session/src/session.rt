@@ -9,8 +9,6 @@ mod play;
 mod print;
 mod script;
 mod streams;
-#[cfg(test)]
-mod tests;
 
 use resp_core::RedisError;
 use std::alloc::Global;

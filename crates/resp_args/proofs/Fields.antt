@@ -24,11 +24,11 @@ module _ {K V M N : Type 0} (eq : K → K → Bool) (same : M → M → Bool) (n
   each-insert_all agrees es [] = refl
   each-insert_all agrees es (x ∷ xs) = each-insert_all agrees (insert_entry eq es x.0 x.1) xs ∙ rw (each-insert_entry agrees es x.0 x.1) refl
 
-  pub Answers-collected : {S : Type 0} (f : Tree → Option M) (g : Tree → Option N) (entries : S → List (K × V)) → ((a b : K) → eq a b ≡ same (name a) (name b)) → (ps : List (Tree × Tree)) (read : List (K × V)) (r : Result S Unreadable)
+  pub Answers-collect : {S : Type 0} (f : Tree → Option M) (g : Tree → Option N) (entries : S → List (K × V)) → ((a b : K) → eq a b ≡ same (name a) (name b)) → (ps : List (Tree × Tree)) (read : List (K × V)) (r : Result S Unreadable)
       → traverse (part_by_part f g) ps ≡ Some (each (parts name meaning) read) → MatchResult r (λ m. entries m ≡ insert_all eq [] read) (λ e. e ≡ no_memory) → Answers (λ m. each (parts name meaning) (entries m)) (fields_of f g same ps) r
-  Answers-collected f g entries agrees ps read (Ok m) h k = rw (h, k, each-insert_all agrees [] read) refl
-  Answers-collected f g entries agrees ps read (Err (refused text)) h k = cc
-  Answers-collected f g entries agrees ps read (Err no_memory) h k = tt
+  Answers-collect f g entries agrees ps read (Ok m) h k = rw (h, k, each-insert_all agrees [] read) refl
+  Answers-collect f g entries agrees ps read (Err (refused text)) h k = cc
+  Answers-collect f g entries agrees ps read (Err no_memory) h k = tt
 
 pub insert_all-push : {K V : Type 0} (eq : K → K → Bool) (es xs : List (K × V)) (x : K × V) → insert_all eq es (xs ++ x ∷ []) ≡ insert_entry eq (insert_all eq es xs) x.0 x.1
 insert_all-push eq es [] x = refl

@@ -5,7 +5,6 @@ pub mod Trees
 pub mod Answering
 pub mod Texts
 pub mod Fields
-pub mod Pairings
 pub mod Numerals
 pub mod ReadBack
 pub mod PackedOnce

@@ -1,10 +1,11 @@
 -- What a reply is read as. Each reading is a partial function of the reply's tree; where it gives nothing, the conversion is refused.
 -- Source: the documentation of the crate `redis`, `FromRedisValue`; numbers and texts are not made of doubles and big numbers.
-use Rattle.std.specs.Prelude.{◌≡◌, ℕ, ℤ, pos, negsuc, List, [], ◌∷◌, Bool, true, false, Option, Some, None, Result, Ok, Err, option_map, option_and_then, codes, ⊤, not, if◌then◌else◌, ◌==◌}
+use Rattle.std.specs.Prelude.{◌≡◌, ℕ, ℤ, pos, negsuc, List, [], ◌∷◌, Bool, true, false, Option, Some, None, Result, Ok, Err, option_map, option_and_then, map as each, codes, ⊤, not, if◌then◌else◌, ◌==◌}
 use Rattle.std.specs.Str.{is_utf8}
 use Rattle.std.specs.Fmt.{signed_decimal}
 use Rattle.indexmap.specs.IndexMap.{insert_all}
-use Rattle.resp_core.specs.Trees.{Tree, nil, int, bulk, array, simple, okay, map, attribute, set, boolean, verbatim, Trees, no_trees, tree, Pairs, no_pairs, pair}
+use Rattle.resp_core.specs.Trees.{Tree, nil, int, bulk, array, simple, okay, map, attribute, set, boolean, verbatim, Trees, no_trees, tree, no_pairs, pair}
+use Rattle.resp_core.specs.Parts.{pair_list, pairs_in}
 use Rattle.resp_core.specs.Errors.{Unreadable, refused, no_memory}
 use Rattle.resp_args.specs.Numbers.{unsigned_number, unsigned_text, signed_number, signed_text}
 
@@ -22,10 +23,6 @@ plain t = t
 abbrev pub items : Trees → List Tree
 items no_trees = []
 items (tree t ts) = t ∷ items ts
-
-abbrev pub entries : Pairs → List (Tree × Tree)
-entries no_pairs = []
-entries (pair k v ps) = (k, v) ∷ entries ps
 
 -- each in turn, if none is refused
 abbrev pub traverse : {A B : Type 0} → (A → Option B) → List A → Option (List B)
@@ -97,14 +94,19 @@ one_pair p = map (pair p.0 p.1 no_pairs)
 abbrev pub alone : {M : Type 0} → (Tree → Option M) → List ℕ → Option (List M)
 alone convert b = option_map (λ m. m ∷ []) (convert (bulk b))
 
--- item by item, given how the bytes of a bulk are read
-abbrev pub sequence : {M : Type 0} → (Tree → Option M) → (List ℕ → Option (List M)) → Tree → Option (List M)
-sequence convert bytes (array ts) = traverse convert (items ts)
-sequence convert bytes (set ts) = traverse convert (items ts)
-sequence convert bytes nil = Some []
-sequence convert bytes (map ps) = traverse (λ p. convert (one_pair p)) (entries ps)
-sequence convert bytes (bulk b) = bytes b
-sequence convert bytes t = None
+-- a bulk as its bytes, where each byte is an item, and else as itself alone
+abbrev pub bulk_items : {M : Type 0} → (Tree → Option M) → Option (ℕ → M) → List ℕ → Option (List M)
+bulk_items convert (Some item) b = Some (each item b)
+bulk_items convert None b = alone convert b
+
+-- item by item, given what a byte means, where it is an item
+abbrev pub sequence : {M : Type 0} → (Tree → Option M) → Option (ℕ → M) → Tree → Option (List M)
+sequence convert byte (array ts) = traverse convert (items ts)
+sequence convert byte (set ts) = traverse convert (items ts)
+sequence convert byte nil = Some []
+sequence convert byte (map ps) = traverse (λ p. convert (one_pair p)) (pair_list ps)
+sequence convert byte (bulk b) = bulk_items convert byte b
+sequence convert byte t = None
 
 -- Fields
 
@@ -117,21 +119,13 @@ both None n = None
 abbrev pub part_by_part : {M N : Type 0} → (Tree → Option M) → (Tree → Option N) → Tree × Tree → Option (M × N)
 part_by_part f g p = both (f p.0) (g p.1)
 
--- two by two, of an even number
-abbrev pub paired : List Tree → Option (List (Tree × Tree))
-paired [] = Some []
-paired (a ∷ []) = None
-paired (a ∷ b ∷ ts) = option_map (λ ps. (a, b) ∷ ps) (paired ts)
-
 -- every pair is read; a repeated name keeps its first place and its last value
 abbrev pub fields_of : {M N : Type 0} → (Tree → Option M) → (Tree → Option N) → (M → M → Bool) → List (Tree × Tree) → Option (List (M × N))
 fields_of f g same ps = option_map (insert_all same []) (traverse (part_by_part f g) ps)
 
 abbrev pub fields : {M N : Type 0} → (Tree → Option M) → (Tree → Option N) → (M → M → Bool) → Tree → Option (List (M × N))
 fields f g same nil = Some []
-fields f g same (map ps) = fields_of f g same (entries ps)
-fields f g same (array ts) = option_and_then (fields_of f g same) (paired (items ts))
-fields f g same t = None
+fields f g same t = option_and_then (fields_of f g same) (pairs_in t)
 
 -- Tuple: an array of exactly that length, for two parts also a map of one pair; its own attributes are not looked through
 
@@ -145,7 +139,7 @@ lone_pair f g ps = None
 
 abbrev pub tuple2 : {M N : Type 0} → (Tree → Option M) → (Tree → Option N) → Tree → Option (M × N)
 tuple2 f g (array ts) = pair_of f g (items ts)
-tuple2 f g (map ps) = lone_pair f g (entries ps)
+tuple2 f g (map ps) = lone_pair f g (pair_list ps)
 tuple2 f g t = None
 
 abbrev pub three : {M N O : Type 0} → Option M → Option N → Option O → Option (M × N × O)

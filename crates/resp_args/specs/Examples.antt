@@ -7,7 +7,7 @@ use Rattle.resp_core.specs.Trees.{Tree, int, bulk, array, okay, map, attribute, 
 use Rattle.resp_args.specs.declared.cmd.Arg.TheVariants.{Simple, Cursor}
 use Rattle.resp_args.specs.Command.{Command}
 use Rattle.resp_args.specs.Packed.{packed, sent}
-use Rattle.resp_args.specs.Convert.{plain, truth, text, signed_count, unsigned_count, sequence, alone, fields, tuple2}
+use Rattle.resp_args.specs.Convert.{plain, truth, text, signed_count, unsigned_count, sequence, fields, tuple2}
 
 abbrev pub scan : Command
 scan = record { args = Simple (codes "SSCAN") ∷ Simple (codes "a") ∷ Cursor ∷ []; cursor = Some 42; no_response = false }
@@ -52,5 +52,12 @@ reads_a_map_of_one_pair_as_a_tuple = refl
 abbrev pub any : Tree → Option Tree
 any t = Some t
 
-pub reads_a_map_as_its_pairs : sequence any (alone any) (map (pair okay (int (pos 1)) (pair okay (int (pos 2)) no_pairs))) ≡ Some (map (pair okay (int (pos 1)) no_pairs) ∷ map (pair okay (int (pos 2)) no_pairs) ∷ [])
+pub reads_a_map_as_its_pairs : sequence any None (map (pair okay (int (pos 1)) (pair okay (int (pos 2)) no_pairs))) ≡ Some (map (pair okay (int (pos 1)) no_pairs) ∷ map (pair okay (int (pos 2)) no_pairs) ∷ [])
 reads_a_map_as_its_pairs = refl
+
+pub reads_a_bulk_alone_as_a_list_of_one : sequence text None (bulk (codes "ab")) ≡ Some (codes "ab" ∷ [])
+unfolding is_utf8 chars encode
+reads_a_bulk_alone_as_a_list_of_one = refl
+
+pub reads_a_bulk_as_its_bytes : sequence (unsigned_count 8) (Some pos) (bulk (codes "ab")) ≡ Some (pos 97 ∷ pos 98 ∷ [])
+reads_a_bulk_as_its_bytes = refl

@@ -52,6 +52,10 @@ impl Arguments {
         })
     }
 
+    pub(crate) fn allocator(&self) -> Global {
+        *self.buffer.allocator()
+    }
+
     pub(crate) fn clone(&self) -> Result<Arguments, AllocError>
         ensures { IfOk result (λ args. args ≡ self.now) }
     {
@@ -122,6 +126,10 @@ fn end_after(last: usize, end: Arg<usize>) -> usize
 
 impl RedisWrite for Arguments {
     ghost written = { λ c. c };
+
+    ghost Beside = { Unit {0} };
+
+    ghost beside = { λ _. tt };
 
     fn write_arg(&mut self, arg: &[u8]) -> Result<(), AllocError> {
         let len = self.buffer.len();

@@ -154,19 +154,23 @@ impl Cmd {
     /// The arguments as they stand on the wire: each gap is the decimal of the number set last.
     ///
     /// It is refused only for want of memory.
-    pub fn wire_args(&self, alloc: Global) -> Result<Vec<Vec<u8>>, AllocError>
+    pub fn wire_args(&self) -> Result<Vec<Vec<u8>>, AllocError>
         ensures { IfOk result (λ v. map (λ a. a.items) v.items ≡ sent self.now) }
     {
-        wire(alloc, self.args.iter(), self.cursor.unwrap_or(0))
+        wire(
+            self.args.allocator(),
+            self.args.iter(),
+            self.cursor.unwrap_or(0),
+        )
     }
 
     /// The bytes that the command is sent as. It is refused only for want of memory.
     ///
     /// Source: Redis serialization protocol specification, "Sending commands to a Redis server".
-    pub fn get_packed_command(&self, alloc: Global) -> Result<Vec<u8>, AllocError>
+    pub fn get_packed_command(&self) -> Result<Vec<u8>, AllocError>
         ensures { IfOk result (λ v. v.items ≡ packed (sent self.now)) }
     {
-        let mut out = Vec::new(alloc);
+        let mut out = Vec::new(self.args.allocator());
         self.write_packed_command(&mut out)?;
         Ok(out)
     }
@@ -190,8 +194,13 @@ impl Cmd {
 
 impl RedisWrite for Cmd {
     ghost use Rattle.resp_args.specs.declared.cmd.Arg.TheVariants.{Simple};
+    ghost use Rattle.resp_args.specs.Command.{Command};
 
     ghost written = { λ c. c.args };
+
+    ghost Beside = { Command };
+
+    ghost beside = { λ c. record c { args = [] } };
 
     fn write_arg(&mut self, arg: &[u8]) -> Result<(), AllocError>
         ensures { self.new ≡ (if is_ok result then record self.old { args = self.old.args ++ Simple arg.now ∷ [] } else self.old) }

@@ -3,7 +3,7 @@ ghost use Rattle.std.specs.Prelude.{◌≡◌, Bool, Option, List, ℕ, map as e
 ghost use Rattle.resp_core.specs.Trees.{Tree};
 ghost use Rattle.resp_core.specs.View.{view};
 ghost use Rattle.resp_core.specs.Errors.{no_memory};
-ghost use Rattle.resp_args.specs.Convert.{Answers};
+ghost use Rattle.resp_args.specs.Convert.{Answers, bulk_items};
 
 use resp_core::{ParsingError, Value};
 use std::alloc::Global;
@@ -33,8 +33,8 @@ pub trait FromRedisValue: Sized + Drop {
     /// The meaning that a tree is read as.
     ghost convert: { Tree → Option Meaning };
 
-    /// The meanings that the bytes of a bulk are read as.
-    ghost convert_bytes: { List ℕ → Option (List Meaning) };
+    /// What a byte of a bulk means, where each is an item of its own: for `u8` alone.
+    ghost byte_item: { Option (ℕ → Meaning) };
 
     /// Whether two meanings are one, where a field may be named so.
     ghost same: { Meaning → Meaning → Bool };
@@ -50,9 +50,9 @@ pub trait FromRedisValue: Sized + Drop {
         Self::from_redis_value(alloc, value.clone()?)
     }
 
-    /// Reads the bytes of a bulk where a list is wanted: as a list of one, but for `u8` as its bytes.
+    /// Reads the bytes of a bulk where a list is wanted: the bulk alone, but for `u8` each of its bytes.
     fn from_byte_vec(alloc: Global, bytes: Vec<u8>) -> Result<Vec<Self>, ParsingError>
-        ensures { Answers (λ v. each meaning v.items) (convert_bytes bytes.items) result };
+        ensures { Answers (λ v. each meaning v.items) (bulk_items convert byte_item bytes.items) result };
 }
 
 /// Reads a reply as a `T`: refused, as an unexpected type, exactly where `T` reads no such tree.

@@ -1,5 +1,5 @@
 //! Laws on arguments: each function does nothing, and its contract is a law.
-ghost use Rattle.resp_args.specs.Laws.{OneArgument, ReadsBack, PackedOnce};
+ghost use Rattle.resp_args.specs.Laws.{AllPackedOnce, OneArgument, ReadsBack, PackedOnce};
 
 use crate::from::FromRedisValue;
 use crate::to_args::ToSingleRedisArg;
@@ -12,6 +12,12 @@ pub fn one_argument<T: ToSingleRedisArg>()
 /// Equal packed bytes come from equal arguments.
 pub fn packed_once()
     ensures { PackedOnce }
+{}
+
+/// Equal bytes of commands, one packed after another, come from the same commands: what goes out to
+/// a node tells which commands were sent.
+pub fn all_packed_once()
+    ensures { AllPackedOnce }
 {}
 
 /// A bulk of the argument of a truth value is read as that value.

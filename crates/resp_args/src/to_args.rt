@@ -21,25 +21,28 @@ pub trait ToRedisArgs: Sized {
     /// The bytes that a slice of values is, where it is written as one argument.
     ghost slice_bytes: { List Self → Option (List ℕ) } = { λ _. None };
 
-    /// Appends the arguments of the value.
+    /// Appends the arguments of the value, and changes nothing beside them.
     ///
     /// It is refused only for want of memory. Then some first of the arguments are written.
     fn write_redis_args<W: RedisWrite>(&self, out: &mut W) -> Result<(), AllocError>
-        ensures { Writes result (W.written out.old) (args self.now) (W.written out.new) };
+        ensures writes { Writes result (W.written out.old) (args self.now) (W.written out.new) }
+        ensures keeps { W.beside out.new ≡ W.beside out.old };
 
     /// The bytes of a slice that is written as one argument: of `u8` the slice itself, of all other
     /// types none. It takes no memory.
     fn slice_as_bytes(items: &[Self]) -> Option<&[u8]>
         ensures { option_map (λ s. s.now) result ≡ slice_bytes items.now };
 
-    /// Appends the arguments of each item in turn, or the bytes of a slice as one argument.
+    /// Appends the arguments of each item in turn, or the bytes of a slice as one argument, and
+    /// changes nothing beside them.
     ///
     /// It is refused only for want of memory. Then some first of the arguments are written.
     final fn write_args_from_slice<W: RedisWrite>(
         items: &[Self],
         out: &mut W,
     ) -> Result<(), AllocError>
-        ensures { Writes result (W.written out.old) (slice_args args (slice_bytes items.now) items.now) (W.written out.new) }
+        ensures writes { Writes result (W.written out.old) (slice_args args (slice_bytes items.now) items.now) (W.written out.new) }
+        ensures keeps { W.beside out.new ≡ W.beside out.old }
     {
         match Self::slice_as_bytes(items) {
             Some(bytes) => out.write_arg(bytes),
@@ -70,7 +73,8 @@ pub trait ToSingleRedisArg: ToRedisArgs {
 
 // The arguments of each item in turn.
 fn write_each<T: ToRedisArgs, W: RedisWrite>(items: &[T], out: &mut W) -> Result<(), AllocError>
-    ensures { Writes result (W.written out.old) (flat_map T.args items.now) (W.written out.new) }
+    ensures writes { Writes result (W.written out.old) (flat_map T.args items.now) (W.written out.new) }
+    ensures keeps { W.beside out.new ≡ W.beside out.old }
 {
     for item in items {
         item.write_redis_args(out)?;

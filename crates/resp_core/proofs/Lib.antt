@@ -7,6 +7,8 @@ pub mod Numbers
 pub mod LineReads
 pub mod Groups
 pub mod Fronts
+pub mod GivenReads
+pub mod Readings
 pub mod ReadingEnds
 pub mod Pairs
 pub mod KindNames
@@ -14,3 +16,13 @@ pub mod FirstErrors
 pub mod Computing
 pub mod ExampleReads
 pub mod ErrorTexts
+pub mod Rows
+pub mod Closings
+pub mod LineSearches
+pub mod CountedBytes
+pub mod Machine
+pub mod Standings
+pub mod Steps
+pub mod Resting
+pub mod TextNumbers
+pub mod PlainNumbers

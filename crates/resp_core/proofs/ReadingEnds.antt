@@ -1,31 +1,96 @@
--- one value, one fault, one bound: what a reading meets at its end
-use Rattle.std.proofs.Common.{◌≡◌, ℕ, List, [], ◌∷◌, sym, ◌∙◌, append-nil, refl, arith, inr}
+-- one value, one fault, one bound, one read: what a reading is made of
+use Rattle.std.proofs.Common.{◌≡◌, ◌≤◌, ◌+◌, ℕ, Bool, ◌==◌, ◌&&◌, if◌then◌else◌, List, [], ◌∷◌, ◌++◌, length, take, Ok, sym, ap, subst, ◌∙◌, append-nil, refl, arith, inl, inr}
+use Rattle.std.proofs.lemmas.List.{length-take-le}
+use Rattle.std.proofs.lemmas.Bool.Decides.{eqb_tells}
+use Rattle.std.specs.Io.KnownBytes.{ReadConsumes}
 use Rattle.resp_core.specs.Trees.{Tree}
+use Rattle.resp_core.specs.Counts.{counted, CountsRead}
 use Rattle.resp_core.specs.Standing.{BeginsWith, BeginsFaulty, BeginsUnfinished}
-use Rattle.resp_core.specs.Incoming.{Reading, Reads, Stops, Meets}
-use Rattle.resp_core.specs.Readings.{Consumes-none, Reads-none, Reads-append}
+use Rattle.resp_core.specs.Incoming.{Reading, Takes, IsSound, ReadsWhile, Awaits, Lacks, Reads, Seeks, Stops, Meets}
+use Rattle.resp_core.proofs.Readings.{Consumes-none, Takes-none, Takes-append, ReadsWhile-append, Seeks-none, Stops-behind}
 
--- a value that was held whole
-pub Reads-value : (a : Reading) (t : Tree) (rest : List ℕ) → BeginsWith 100 t a.held rest → Reads a (record a { held = rest }) (t ∷ [])
-Reads-value a t rest b = record {
-  takes = record {
-    got = [];
-    bytes = b.0;
-    consumed = Consumes-none a.left;
-    spells = (b.0, [], sym (append-nil b.0), b.1, refl);
-    joins = append-nil a.held ∙ b.2;
-    room = omega arith;
-    reads = λ _. refl;
-  };
-  sound = record { refused = refl; empty = refl };
+-- while no value is taken, what is awaited is the bytes themselves
+awaits_all : (bytes : List ℕ) → BeginsUnfinished 100 bytes → Awaits [] bytes
+awaits_all bytes u rest h = subst (λ (x : List ℕ). BeginsUnfinished 100 x) (h.2 ∙ ap (λ (x : List ℕ). x ++ rest) h.1) u
+
+all_await : (bytes : List ℕ) → Awaits [] bytes → BeginsUnfinished 100 bytes
+all_await bytes awaits = awaits bytes ([], refl, refl)
+
+lacks_one : (t : Tree) (bytes : List ℕ) → Awaits [] bytes → Lacks (t ∷ []) bytes
+lacks_one t bytes awaits rest h =
+    let value = h.1 in
+    let front : h.0 ≡ value.0 = value.2 ∙ ap (λ (x : List ℕ). value.0 ++ x) value.4 ∙ append-nil value.0 in
+    (all_await bytes awaits).0 t rest (value.0, value.3, h.2 ∙ ap (λ (x : List ℕ). x ++ rest) front)
+
+abbrev taken : (a : Reading) (t : Tree) (rest : List ℕ) → BeginsWith 100 t a.held rest → Takes a (record a { held = rest }) (t ∷ [])
+taken a t rest b = record {
+  got = [];
+  bytes = b.0;
+  consumed = Consumes-none a.left;
+  spells = (b.0, [], sym (append-nil b.0), b.1, refl);
+  joins = append-nil a.held ∙ b.2;
+  room = omega arith;
+  reads = λ _. refl;
 }
 
-pub Meets-fault : (a : Reading) → BeginsFaulty 100 a.held → Meets a a []
-Meets-fault a b = record { reads = Reads-none a; faulty = b }
+-- a value that is held whole behind what was read for it
+pub Seeks-then_value : (a b : Reading) (t : Tree) (rest rest' : List ℕ) → Seeks a b [] → BeginsWith 100 t b.held rest → rest' ≡ rest → Reads a (record b { held = rest' }) (t ∷ [])
+Seeks-then_value a b t rest rest' p h e = rw e (record {
+  takes = Takes-append p.takes (taken b t rest h);
+  sound = p.sound;
+  needed = elim p.needed [
+    | inl n ↦ inl (n.0, n.1, append-nil p.takes.got ∙ n.2)
+    | inr l ↦ inr (l.0, l.1, l.2, append-nil p.takes.got ∙ l.3, l.4, l.5, l.6, lacks_one t (a.held ++ l.0) l.7)
+  ];
+})
+
+-- the bytes so far are awaited
+still : {a b : Reading} (p : Takes a b []) (more : List ℕ) → Awaits [] (b.held ++ more) → Awaits [] (p.bytes ++ (b.held ++ more))
+still {b = b} p more awaits = subst (λ (x : List ℕ). Awaits [] (x ++ (b.held ++ more))) (sym p.spells) awaits
+
+pub Seeks-on : {a b c : Reading} → Seeks a b [] → Seeks b c [] → Seeks a c []
+Seeks-on {a} {b} {c} p q = record {
+  takes = Takes-append p.takes q.takes;
+  sound = record { refused = q.sound.refused ∙ p.sound.refused; empty = q.sound.empty ∙ p.sound.empty };
+  needed = ReadsWhile-append (Awaits []) (Awaits []) (Awaits []) a b c p.takes q.takes.got (λ bytes awaits. awaits) (still p.takes) p.needed q.needed;
+}
+
+pub Stops-on : {a b c : Reading} → Seeks a b [] → Stops b c [] → Stops a c []
+Stops-on p q = Stops-behind p.takes p.sound q
+
+pub Meets-fault : {a b : Reading} → Seeks a b [] → BeginsFaulty 100 b.held → Meets a b []
+Meets-fault p b = record { seeks = p; faulty = b }
 
 -- no further read was allowed
 pub Stops-bound : (a : Reading) → BeginsUnfinished 100 a.held → a.allowed ≡ 0 → Stops a a []
-Stops-bound a u e = record { takes = (Reads-none a).takes; unfinished = u; cause = inr (inr (record { refused = refl; empty = refl }, e)) }
+Stops-bound a u e = record { takes = Takes-none a; unfinished = u; cause = inr (inr (record { refused = refl; empty = refl }, e)) }
 
-pub Reads-then_value : (a b : Reading) (t : Tree) (rest rest' : List ℕ) → Reads a b [] → BeginsWith 100 t b.held rest → rest' ≡ rest → Reads a (record b { held = rest' }) (t ∷ [])
-Reads-then_value a b t rest rest' p h e = rw e (Reads-append p (Reads-value b t rest h))
+not_empty : (n : ℕ) (old new : ℕ) (rest : Bool) → (n ≡ 0 → ⊥) → new ≡ (if (n == 0) && rest then counted old else old) → new ≡ old
+not_empty n old new rest some e = elim (eqb_tells n 0) [ inl p ↦ absurd (some p.1) | inr p ↦ rw p.0 at e ]
+
+-- one read gave this front of the buffer
+pub Seeks-once : {E : Type 0} (a b : Reading) (buffer : List ℕ) (n : ℕ) → BeginsUnfinished 100 a.held → ReadConsumes {E = E} a.left b.left (Ok n) buffer
+    → CountsRead {E = E} a.counts b.counts (Ok n) (length buffer) → a.held ++ take n buffer ≡ b.held
+    → (n ≡ 0 → ⊥) → n ≤ length buffer → length buffer ≡ 4096 → a.allowed ≡ b.allowed + 1 → Seeks a b []
+Seeks-once a b buffer n u bytes counts joins some bound room allowed = record {
+  takes = record {
+    got = take n buffer;
+    bytes = [];
+    consumed = bytes.0;
+    spells = refl;
+    joins = joins;
+    room = omega (arith, length-take-le n buffer bound, room, allowed);
+    reads = λ h. omega (arith, h, counts.reads, allowed);
+  };
+  sound = record { refused = counts.refused; empty = not_empty n a.counts.empty b.counts.empty _ some counts.empty };
+  needed = inr (
+    [],
+    take n buffer,
+    0,
+    refl,
+    (omega arith, omega arith),
+    (omega (arith, length-take-le n buffer bound, some), omega (arith, length-take-le n buffer bound, room)),
+    omega (arith, allowed),
+    subst (λ (x : List ℕ). Awaits [] x) (sym (append-nil a.held)) (awaits_all a.held u),
+  );
+}

@@ -1,6 +1,9 @@
 pub mod Trees
 pub mod View
 pub mod Errors
+pub mod Numbers
+pub mod Redirect
+pub mod Retrying
 pub mod Printed
 pub mod Parts
 pub mod MapIters
@@ -11,9 +14,14 @@ pub mod Grammar
 pub mod Reading
 pub mod Laws
 pub mod Announced
+pub mod Frames
+pub mod Head
+pub mod Behind
+pub mod LineEnds
+pub mod Placing
 pub mod Condition
 pub mod Standing
+pub mod Advancing
 pub mod Counts
 pub mod Incoming
 pub mod Examples
-pub mod Readings

@@ -2,5 +2,8 @@
 mod errors;
 mod grammar;
 mod known;
+mod machine;
 mod memory;
+mod reading;
+mod refusals;
 mod values;

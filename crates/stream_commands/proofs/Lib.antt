@@ -1,2 +1,8 @@
 pub mod Reading
 pub mod Telling
+mod ExampleCommands
+pub mod Made
+pub mod Lookups
+pub mod FieldCopies
+pub mod Respellings
+pub mod RespelledErrors

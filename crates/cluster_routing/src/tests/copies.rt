@@ -1,6 +1,6 @@
 //! Copies of shards, of a topology, and of where a command goes.
 
-use crate::tests::routes::{cmd, to_random, to_slot};
+use crate::tests::routes::route;
 use crate::tests::topology::{is_shard, shard};
 use crate::{
     ClusterTopology, MultiSlotArgPattern, MultipleNodeRoutingInfo, NodeAddress, Redirect, Route,
@@ -47,14 +47,25 @@ fn is_copied<R: Abort>(rt: &R, info: &RoutingInfo, other: &RoutingInfo) -> Resul
     Ok(())
 }
 
+// The route of these words is copied, and differs from the other.
+fn is_route_copied<R: Abort>(
+    rt: &R,
+    alloc: Global,
+    words: &[&str],
+    other: &[&str],
+) -> Result<(), Fail> {
+    let info = route(alloc, words)?.ok_or("a route")?;
+    let other = route(alloc, other)?.ok_or("a route")?;
+    is_copied(rt, &info, &other)?;
+    Ok(())
+}
+
 #[test]
 fn copies_routes(rt: HostRuntime) -> Result<(), Fail> {
-    let command = cmd(rt.alloc(), &["MGET", "a", "b", "a"])?;
-    let split = RoutingInfo::for_routable(rt.alloc(), &command, &[])?.ok_or("a route")?;
-    let one = to_slot(15495).ok_or("a route")?;
-    let any = to_random().ok_or("a route")?;
-    is_copied(&rt, &split, &one)?;
-    is_copied(&rt, &one, &any)?;
+    let split: &[&str] = &["MGET", "a", "b", "a"];
+    let one: &[&str] = &["GET", "a"];
+    is_route_copied(&rt, rt.alloc(), split, one)?;
+    is_route_copied(&rt, rt.alloc(), one, &["TIME"])?;
     Ok(())
 }
 

@@ -3,30 +3,28 @@
 ghost use Rattle.std.specs.Prelude.{Contains};
 ghost use Rattle.cluster_routing.specs.Seen.{address};
 
+use crate::tests::memory::parsed;
 use crate::tests::nodes::is_node;
 use crate::{
-    NodeAddress, ReadCandidates, ReadRoutingStrategy, Replicas, Route, SlotAddr, SlotAddrs,
-    SlotMap, SlotRange, SlotRangeMap, parse_slots, slot_cmd,
+    AnyNodeCandidates, NodeAddress, ReadCandidates, ReadRoutingStrategy, Replicas,
+    ReplicasOnlyCandidates, Route, SlotAddr, SlotAddrs, SlotMap, SlotRange, SlotRangeMap,
+    parse_slots, slot_cmd,
 };
 use resp_core::Value;
 use std::alloc::{AllocError, Global};
 use std::cell::Cell;
+use std::process::Abort;
 use std::test::Fail;
 
 fn node(alloc: Global, host: &str, port: u16) -> Result<NodeAddress, AllocError> {
     Ok(NodeAddress::new(String::from_str(alloc, host)?, port))
 }
 
-fn bulk(alloc: Global, text: &str) -> Result<Value, AllocError> {
-    Ok(Value::BulkString(Vec::from_slice(alloc, text.as_bytes())?))
-}
-
-fn listed(alloc: Global, host: Value, port: i64) -> Result<Value, AllocError> {
-    Ok(Value::Array(vec![in alloc; host, Value::Int(port)]?))
-}
-
-fn row(alloc: Global, start: i64, end: i64, node: Value) -> Result<Value, AllocError> {
-    Ok(Value::Array(vec![in alloc; Value::Int(start), Value::Int(end), node]?))
+// The map has these values at these slots.
+fn has<R: Abort>(rt: &R, map: &SlotRangeMap<u8>, values: &[(u16, Option<u8>)]) {
+    for (slot, value) in values {
+        assert_eq!(rt; map.get(*slot).copied(), *value);
+    }
 }
 
 #[test]
@@ -34,63 +32,54 @@ fn gets_by_the_least_end(rt: HostRuntime) -> Result<(), Fail> {
     let mut map = SlotRangeMap::new(rt.alloc());
     map.insert(100, 200, 1u8)?;
     map.insert(300, 400, 2)?;
-    assert_eq!(rt; map.get(100).copied(), Some(1));
-    assert_eq!(rt; map.get(200).copied(), Some(1));
-    assert_eq!(rt; map.get(350).copied(), Some(2));
-    assert_eq!(rt; map.get(99).copied(), None);
-    assert_eq!(rt; map.get(250).copied(), None);
-    assert_eq!(rt; map.get(401).copied(), None);
+    let inside = [(100, Some(1)), (200, Some(1)), (350, Some(2))];
+    has(&rt, &map, &inside);
+    has(&rt, &map, &[(99, None), (250, None), (401, None)]);
     map.clear();
-    map.insert(0, 500, 3)?;
-    map.insert(150, 160, 4)?;
-    assert_eq!(rt; map.get(100).copied(), None);
-    assert_eq!(rt; map.get(155).copied(), Some(4));
-    assert_eq!(rt; map.get(170).copied(), Some(3));
-    map.insert(450, 500, 5)?;
-    assert_eq!(rt; map.get(170).copied(), None);
-    let mut ends = Vec::new(rt.alloc());
-    for (start, end, value) in map.iter() {
-        ends.push((start, end, *value))?;
-    }
-    assert!(rt; ends.as_slice() == [(150, 160, 4), (450, 500, 5)].as_slice());
-    let values = map.values().copied().collect::<Vec<u8>>(rt.alloc())?;
-    assert!(rt; values.as_slice() == [4, 5].as_slice());
+    assert!(rt; map.values().next().is_none());
     Ok(())
 }
 
-fn sample_reply(alloc: Global) -> Result<Value, AllocError> {
-    let first = row(alloc, 0, 99, listed(alloc, bulk(alloc, "")?, 7001)?)?;
-    let wide = row(alloc, 100, 70000, listed(alloc, bulk(alloc, "n2")?, 7002)?)?;
-    let unknown = row(alloc, 200, 300, listed(alloc, bulk(alloc, "?")?, 7002)?)?;
-    let late = row(alloc, 400, 500, listed(alloc, bulk(alloc, "n2")?, 7002)?)?;
-    Ok(Value::Array(vec![in alloc; first, wide, unknown, Value::Int(5), late]?))
+#[test]
+fn hides_what_lies_behind_an_end(rt: HostRuntime) -> Result<(), Fail> {
+    let mut map = SlotRangeMap::new(rt.alloc());
+    map.insert(0, 500, 3u8)?;
+    map.insert(150, 160, 4)?;
+    has(&rt, &map, &[(100, None), (155, Some(4)), (170, Some(3))]);
+    map.insert(450, 500, 5)?;
+    has(&rt, &map, &[(170, None)]);
+    let mut ranges = map.iter();
+    assert!(rt; ranges.next() == Some((150, 160, &4)));
+    assert!(rt; ranges.next() == Some((450, 500, &5)));
+    assert!(rt; ranges.next().is_none());
+    Ok(())
+}
+
+const ROWS: &[u8] =
+    b"*5\r\n*3\r\n:0\r\n:99\r\n*2\r\n$0\r\n\r\n:7001\r\n*3\r\n:100\r\n:70000\r\n*2\r\n$2\r\nn2\r\n:7002\r\n*3\r\n:200\r\n:300\r\n*2\r\n$1\r\n?\r\n:7002\r\n:5\r\n*3\r\n:400\r\n:500\r\n*2\r\n$2\r\nn2\r\n:7002\r\n";
+
+// The one range is that of the first row.
+fn is_first_row<R: Abort>(rt: &R, ranges: &[SlotRange]) {
+    assert_eq!(rt; ranges.len(), 1);
+    let range = &ranges[0];
+    assert_eq!(rt; (range.start(), range.end()), (0, 99));
+    is_node(rt, Some(range.addrs().primary()), "n1", 7001);
+    assert!(rt; range.addrs().replicas().is_empty());
 }
 
 #[test]
 fn parses_slots(rt: HostRuntime) -> Result<(), Fail> {
-    let reply = sample_reply(rt.alloc())?;
+    let reply = parsed(rt.alloc(), ROWS).ok_or("a reply")?;
     let ranges = parse_slots(rt.alloc(), &reply, "n1")?;
-    assert_eq!(rt; ranges.len(), 1);
-    let range = &ranges[0];
-    assert_eq!(rt; range.start, 0);
-    assert_eq!(rt; range.end, 99);
-    let primary = node(rt.alloc(), "n1", 7001)?;
-    assert!(rt; range.nodes.primary == primary);
-    assert!(rt; range.nodes.replicas.is_empty());
+    is_first_row(&rt, &ranges);
     let none = parse_slots(rt.alloc(), &Value::Okay, "n1")?;
     assert!(rt; none.is_empty());
-    let nil = listed(rt.alloc(), Value::Nil, 0)?;
-    let reply = Value::Array(vec![in rt.alloc(); row(rt.alloc(), 7, 65535, nil)?]?);
-    let ranges = parse_slots(rt.alloc(), &reply, "h")?;
-    assert_eq!(rt; ranges.len(), 1);
-    let expected = node(rt.alloc(), "h", 0)?;
-    assert!(rt; ranges[0].nodes.primary == expected);
     Ok(())
 }
 
 #[test]
 fn asks_for_slots(rt: HostRuntime) -> Result<(), Fail> {
-    let packed = slot_cmd(rt.alloc())?.get_packed_command(rt.alloc())?;
+    let packed = slot_cmd(rt.alloc())?.get_packed_command()?;
     assert!(rt; packed.as_slice() == b"*2\r\n$7\r\nCLUSTER\r\n$5\r\nSLOTS\r\n".as_slice());
     Ok(())
 }
@@ -154,6 +143,28 @@ fn asks_the_strategy_once(rt: HostRuntime) -> Result<(), Fail> {
         7001,
     );
     assert_eq!(rt; second.asked.get(), 1);
+    Ok(())
+}
+
+#[test]
+fn a_strategy_is_asked_for_candidates_of_ones_own(rt: HostRuntime) -> Result<(), Fail> {
+    let primary = node(rt.alloc(), "n1", 7001)?;
+    let nodes = vec![in rt.alloc();
+        node(rt.alloc(), "n3", 7003)?,
+        node(rt.alloc(), "n4", 7004)?,
+    ]?;
+    let replicas = Replicas::new(&nodes).ok_or("replicas")?;
+    let any = ReadCandidates::AnyNode(AnyNodeCandidates::new(7, &primary, replicas));
+    let second = Nth {
+        place: 1,
+        asked: Cell::new(0),
+    };
+    assert_eq!(rt; any.slot(), 7);
+    is_node(&rt, Some(second.route_read(&any)), "n4", 7004);
+    let replicas = Replicas::new(&nodes[..1]).ok_or("a replica")?;
+    let only = ReadCandidates::ReplicasOnly(ReplicasOnlyCandidates::new(9, replicas));
+    assert_eq!(rt; only.slot(), 9);
+    is_node(&rt, Some(second.route_read(&only)), "n3", 7003);
     Ok(())
 }
 

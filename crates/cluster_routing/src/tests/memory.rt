@@ -20,25 +20,26 @@ use std::test::Fail;
 const SLOTS: &[u8] =
     b"*3\r\n*3\r\n:0\r\n:99\r\n*2\r\n$0\r\n\r\n:7001\r\n*4\r\n:100\r\n:300\r\n*2\r\n$2\r\nn2\r\n:7002\r\n*2\r\n$2\r\nn3\r\n:7003\r\n*3\r\n:400\r\n:16383\r\n*2\r\n_\r\n:7004\r\n";
 
-fn parsed(alloc: Global) -> Option<Value> {
+/// The value that bytes spell.
+pub(crate) fn parsed(alloc: Global, bytes: &[u8]) -> Option<Value> {
     let mut parser = Parser::new(alloc);
-    parser.feed(SLOTS).ok()?;
+    parser.feed(bytes).ok()?;
     parser.take_value().ok()?
 }
 
 fn slots_reply<R: Print>(rt: &R, alloc: Global) -> Result<Value, Fail> {
-    match parsed(alloc) {
+    match parsed(alloc, SLOTS) {
         Some(value) => Ok(value),
         None => {
             println!(rt; "refused reply")?;
-            Ok(parsed(alloc).ok_or("no whole value")?)
+            Ok(parsed(alloc, SLOTS).ok_or("no whole value")?)
         }
     }
 }
 
 fn is_range<R: Abort>(rt: &R, range: &SlotRange, slots: (u16, u16), nodes: &[(&str, u16)]) {
-    assert_eq!(rt; (range.start, range.end), slots);
-    let mut found = (&range.nodes).into_iter();
+    assert_eq!(rt; (range.start(), range.end()), slots);
+    let mut found = range.addrs().into_iter();
     for (host, port) in nodes {
         is_node(rt, found.next(), host, *port);
     }

@@ -93,6 +93,7 @@ fn knows_slots(rt: HostRuntime) -> Result<(), Fail> {
     }
     assert!(rt; Slot::new(16384).is_none());
     let last = Slot::new(16383).ok_or("a slot")?;
+    assert_eq!(rt; last.number(), 16383);
     let route = Route::with_slot(last, SlotAddr::ReplicaRequired);
     assert!(rt; route == Route::new(16383, SlotAddr::ReplicaRequired));
     Ok(())

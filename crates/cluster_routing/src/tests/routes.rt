@@ -1,5 +1,6 @@
 //! Where single commands go.
 
+use crate::tests::memory::parsed;
 use crate::{
     AggregateOp, MultiSlotArgPattern, MultipleNodeRoutingInfo, ResponsePolicy, Routable, Route,
     RoutingInfo, SingleNodeRoutingInfo, SlotAddr,
@@ -176,29 +177,25 @@ fn looks_at_arguments(rt: HostRuntime) -> Result<(), Fail> {
     Ok(())
 }
 
-fn bulk(alloc: Global, text: &[u8]) -> Result<Value, AllocError> {
-    Ok(Value::BulkString(Vec::from_slice(alloc, text)?))
-}
-
-fn items(alloc: Global) -> Result<Value, AllocError> {
-    let mut items = Vec::new(alloc);
-    items.push(bulk(alloc, b"Get")?)?;
-    items.push(Value::Int(1))?;
-    items.push(bulk(alloc, b"a")?)?;
-    Ok(Value::Array(items))
-}
+// The second item is a gap.
+const ITEMS: &[u8] = b"*3\r\n$3\r\nGet\r\n:1\r\n$1\r\na\r\n";
 
 #[test]
 fn looks_at_items(rt: HostRuntime) -> Result<(), Fail> {
-    let value = items(rt.alloc())?;
+    let value = parsed(rt.alloc(), ITEMS).ok_or("a value")?;
     assert!(rt; value.arg_idx(0) == Some(b"Get".as_slice()));
     assert!(rt; value.arg_idx(1).is_none());
     assert_eq!(rt; value.position(b"A"), Some(2));
+    Ok(())
+}
+
+#[test]
+fn gathers_items(rt: HostRuntime) -> Result<(), Fail> {
+    let value = parsed(rt.alloc(), ITEMS).ok_or("a value")?;
     assert!(rt; value.arguments(rt.alloc())?.is_none());
-    assert!(rt; RoutingInfo::for_routable(rt.alloc(), &value, &[])?.is_none());
+    assert!(rt; Value::Nil.arguments(rt.alloc())?.is_some());
     let name = value.command(rt.alloc())?.ok_or("a name")?;
     assert!(rt; name.as_slice() == b"GET".as_slice());
-    assert!(rt; Value::Nil.arguments(rt.alloc())?.is_some());
     Ok(())
 }
 

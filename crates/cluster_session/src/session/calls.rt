@@ -1,6 +1,6 @@
 //! What a session uses of the client, each call in one place.
 use crate::session::lines::LineError;
-use crate::session::script::Node;
+use crate::session::script::Incoming;
 use cluster_client::{Asked, ByteLink, ClusterClient, MemoryReader, MemoryWriter, NodeAddress};
 use resp_args::Cmd;
 use resp_core::{ErrorKind, RedisError, Value};
@@ -23,11 +23,10 @@ pub(super) fn address(alloc: Global, word: &str) -> Result<NodeAddress, LineErro
     }
 }
 
-/// The node's address and its link.
-pub(super) fn link(alloc: Global, node: Node) -> (NodeAddress, Link) {
-    let reader = MemoryReader::new(node.incoming, node.piece, 0);
-    let writer = MemoryWriter::new(alloc, 0);
-    (node.address, ByteLink::new(alloc, reader, writer))
+/// A link from which these bytes come.
+pub(super) fn link(alloc: Global, incoming: Incoming) -> Link {
+    let reader = MemoryReader::new(incoming.bytes, incoming.piece, 0);
+    ByteLink::new(alloc, reader, MemoryWriter::new(alloc, 0))
 }
 
 /// A client over these links that follows at most `budget` redirects for a request.
@@ -70,10 +69,12 @@ pub(super) fn asked(client: &Client) -> &[Asked] {
     client.asked()
 }
 
-/// The bytes that went out to the node, none where it has no link.
-pub(super) fn sent<'a>(client: &'a Client, node: &NodeAddress) -> &'a [u8] {
-    match client.link(node) {
-        Some(link) => link.writer().written(),
-        None => &[],
-    }
+/// Every node and its link, in the order in which the client got them.
+pub(super) fn links(client: &Client) -> &[(NodeAddress, Link)] {
+    client.links()
+}
+
+/// The bytes that went out over the link.
+pub(super) fn sent(link: &Link) -> &[u8] {
+    link.writer().written()
 }

@@ -1,6 +1,6 @@
 //! A line of a session: its words and what they say.
 use crate::session::calls;
-use crate::session::script::{Call, Line, Node};
+use crate::session::script::{Call, Incoming, Line};
 use hex::FromHexError;
 use std::alloc::{AllocError, AllocFailed, Global};
 
@@ -57,11 +57,13 @@ fn is_skipped(line: &[u8]) -> bool {
 fn read_words(alloc: Global, text: &str) -> Result<Line, LineError> {
     let words: Vec<&str> = text.split(' ').collect(alloc)?;
     match words.as_slice() {
-        ["node", address, piece, incoming] => Ok(Line::Node(Node {
-            address: calls::address(alloc, address)?,
-            piece: piece_of(piece)?,
-            incoming: bytes_of(alloc, incoming)?,
-        })),
+        ["node", address, piece, bytes] => Ok(Line::Node(
+            calls::address(alloc, address)?,
+            Incoming {
+                piece: piece_of(piece)?,
+                bytes: bytes_of(alloc, bytes)?,
+            },
+        )),
         ["budget", budget] => Ok(Line::Budget(budget_of(budget)?)),
         ["refresh", address] => Ok(Line::Call(Call::Refresh(calls::address(alloc, address)?))),
         ["query", picks, first, others @ ..] => Ok(Line::Call(Call::Query {

@@ -3,11 +3,12 @@ ghost use Rattle.std.specs.Prelude.{◌≡◌, IfOk, string_bytes};
 ghost use Rattle.cluster_session.specs.Output.{GoesWith, fault_line};
 
 use crate::session::calls::{Client, Link};
-use crate::session::script::{Call, Node, Script, ScriptError};
+use crate::session::script::{Call, Incoming, Script, ScriptError};
 use crate::session::{calls, print};
 use cluster_client::NodeAddress;
 use resp_core::{Cause, RedisError};
 use std::alloc::{AllocError, Global};
+use std::collections::BTreeMap;
 
 // The budget of redirects of a session without a line for it.
 const BUDGET: u16 = 1;
@@ -47,29 +48,22 @@ fn play_script(alloc: Global, script: Script) -> Result<Played, RedisError>
         budget,
         calls,
     } = script;
-    let addresses = sorted_addresses(alloc, nodes.as_slice())?;
     let links = links(alloc, nodes)?;
     let mut client = calls::client(alloc, links, budget.unwrap_or(BUDGET))?;
     let mut output = String::new(alloc);
     play_calls(&mut output, alloc, &mut client, calls.as_slice())?;
-    print_sent(&mut output, &client, addresses.as_slice())?;
+    print_sent(&mut output, calls::links(&client))?;
     Ok(Played { status: 0, output })
 }
 
-/// The nodes' addresses, ascending.
-fn sorted_addresses(alloc: Global, nodes: &[Node]) -> Result<Vec<NodeAddress>, AllocError> {
-    let mut addresses = Vec::with_capacity(alloc, nodes.len())?;
-    for node in nodes {
-        addresses.push(node.address.clone()?)?;
-    }
-    addresses.sort()?;
-    Ok(addresses)
-}
-
-fn links(alloc: Global, nodes: Vec<Node>) -> Result<Vec<(NodeAddress, Link)>, AllocError> {
+/// A link for each node, in the ascending order of the addresses.
+fn links(
+    alloc: Global,
+    nodes: BTreeMap<NodeAddress, Incoming>,
+) -> Result<Vec<(NodeAddress, Link)>, AllocError> {
     let mut links = Vec::with_capacity(alloc, nodes.len())?;
-    for node in nodes {
-        links.push(calls::link(alloc, node))?;
+    for (address, incoming) in nodes {
+        links.push((address, calls::link(alloc, incoming)))?;
     }
     Ok(links)
 }
@@ -106,13 +100,9 @@ fn play_call(
     }
 }
 
-fn print_sent(
-    output: &mut String,
-    client: &Client,
-    addresses: &[NodeAddress],
-) -> Result<(), AllocError> {
-    for address in addresses {
-        print::sent(output, address, calls::sent(client, address))?;
+fn print_sent(output: &mut String, links: &[(NodeAddress, Link)]) -> Result<(), AllocError> {
+    for (address, link) in links {
+        print::sent(output, address, calls::sent(link))?;
     }
     Ok(())
 }

@@ -2,26 +2,26 @@
 use crate::session::lines::{LineError, read_line};
 use cluster_client::NodeAddress;
 use std::alloc::{AllocFailed, Global};
+use std::collections::BTreeMap;
 
-/// A node that a session sets up: the bytes that come from it, at most `piece` a read.
-#[derive(Debug, PartialEq, Drop)]
-pub(super) struct Node {
-    pub address: NodeAddress,
+/// The bytes that come from a node, at most `piece` a read.
+#[derive(Drop)]
+pub(super) struct Incoming {
     pub piece: usize,
-    pub incoming: Vec<u8>,
+    pub bytes: Vec<u8>,
 }
 
 /// A call that a session makes.
-#[derive(Debug, PartialEq, Drop)]
+#[derive(Drop)]
 pub(super) enum Call {
     Refresh(NodeAddress),
     Query { picks: u64, args: Vec<Vec<u8>> },
 }
 
 /// What a line says.
-#[derive(Debug, PartialEq, Drop)]
+#[derive(Drop)]
 pub(super) enum Line {
-    Node(Node),
+    Node(NodeAddress, Incoming),
     Budget(u16),
     Call(Call),
 }
@@ -35,11 +35,11 @@ pub(super) enum ScriptError {
     Memory,
 }
 
-/// A session: nodes with different addresses, a budget of redirects where a line sets it, and the
-/// calls in order.
-#[derive(Debug, PartialEq, Drop)]
+/// A session: what comes from each node, a budget of redirects where a line sets it, and the calls
+/// in order.
+#[derive(Drop)]
 pub(super) struct Script {
-    pub nodes: Vec<Node>,
+    pub nodes: BTreeMap<NodeAddress, Incoming>,
     pub budget: Option<u16>,
     pub calls: Vec<Call>,
 }
@@ -50,7 +50,7 @@ impl Script {
 
     fn empty(alloc: Global) -> Script {
         Script {
-            nodes: Vec::new(alloc),
+            nodes: BTreeMap::new(alloc),
             budget: None,
             calls: Vec::new(alloc),
         }
@@ -74,23 +74,19 @@ impl Script {
     fn add_line(&mut self, alloc: Global, line: &[u8]) -> Result<(), LineError> {
         match read_line(alloc, line)? {
             None => Ok(()),
-            Some(Line::Node(node)) => self.add_node(node),
+            Some(Line::Node(address, incoming)) => self.add_node(address, incoming),
             Some(Line::Budget(budget)) => self.set_budget(budget),
             Some(Line::Call(call)) => self.add_call(call),
         }
     }
 
     // Refused behind a call, and where the address has a node already.
-    fn add_node(&mut self, node: Node) -> Result<(), LineError> {
-        if !self.calls.is_empty() || self.has_node(&node.address) {
+    fn add_node(&mut self, address: NodeAddress, incoming: Incoming) -> Result<(), LineError> {
+        if !self.calls.is_empty() || self.nodes.contains_key(&address) {
             return Err(LineError::Bad);
         }
-        self.nodes.push(node)?;
+        self.nodes.insert(address, incoming)?;
         Ok(())
-    }
-
-    fn has_node(&self, address: &NodeAddress) -> bool {
-        self.nodes.iter().any(|node| node.address == *address)
     }
 
     // Refused behind a call, and where a line set it already.

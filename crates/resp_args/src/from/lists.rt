@@ -1,8 +1,8 @@
 //! Replies as options and lists.
-ghost use Rattle.std.specs.Prelude.{◌≡◌, false, Option, List, option_map, map as each};
+ghost use Rattle.std.specs.Prelude.{◌≡◌, false, Option, List, option_map, map as each, None};
 ghost use Rattle.std.specs.Cmp.Lexicographic.{pointwise};
 ghost use Rattle.resp_core.specs.View.{view, pair_view};
-ghost use Rattle.resp_args.specs.Convert.{plain, optional, sequence, alone, traverse, one_pair, Answers};
+ghost use Rattle.resp_args.specs.Convert.{plain, optional, sequence, traverse, one_pair, Answers};
 
 use crate::from::plain::{into_plain, plain};
 use crate::from::{FromRedisValue, one};
@@ -20,7 +20,7 @@ impl<T: FromRedisValue> FromRedisValue for Option<T> {
 
     ghost convert = { λ t. optional T.convert (plain t) };
 
-    ghost convert_bytes = { λ b. alone (λ t. optional T.convert (plain t)) b };
+    ghost byte_item = { None };
 
     fn from_redis_value(alloc: Global, value: Value) -> Result<Option<T>, ParsingError> {
         match into_plain(value) {
@@ -51,9 +51,9 @@ impl<T: FromRedisValue> FromRedisValue for Vec<T> {
 
     ghost same = { pointwise T.same };
 
-    ghost convert = { λ t. sequence T.convert T.convert_bytes (plain t) };
+    ghost convert = { λ t. sequence T.convert T.byte_item (plain t) };
 
-    ghost convert_bytes = { λ b. alone (λ t. sequence T.convert T.convert_bytes (plain t)) b };
+    ghost byte_item = { None };
 
     fn from_redis_value(alloc: Global, value: Value) -> Result<Vec<T>, ParsingError> {
         match into_plain(value) {
@@ -63,6 +63,15 @@ impl<T: FromRedisValue> FromRedisValue for Vec<T> {
             Value::Map(pairs) => each_pair(alloc, pairs),
             Value::BulkString(bytes) => T::from_byte_vec(alloc, bytes),
             _ => Err(ParsingError::fixed("a list was wanted")),
+        }
+    }
+
+    fn from_redis_value_ref(alloc: Global, value: &Value) -> Result<Vec<T>, ParsingError> {
+        match plain(value) {
+            Value::Array(items) => each_item_ref(alloc, items.as_slice()),
+            Value::Set(items) => each_item_ref(alloc, items.as_slice()),
+            Value::BulkString(bytes) => T::from_byte_vec(alloc, Vec::from_slice(alloc, bytes)?),
+            _ => Vec::from_redis_value(alloc, value.clone()?),
         }
     }
 
@@ -78,6 +87,16 @@ fn each_item<T: FromRedisValue>(alloc: Global, items: Vec<Value>) -> Result<Vec<
     let mut list = Vec::with_capacity(alloc, items.len())?;
     for item in items {
         list.push(T::from_redis_value(alloc, item)?)?;
+    }
+    Ok(list)
+}
+
+fn each_item_ref<T: FromRedisValue>(alloc: Global, items: &[Value]) -> Result<Vec<T>, ParsingError>
+    ensures { Answers (λ v. each T.meaning v.items) (traverse T.convert (each view items.now)) result }
+{
+    let mut list = Vec::with_capacity(alloc, items.len())?;
+    for item in items {
+        list.push(T::from_redis_value_ref(alloc, item)?)?;
     }
     Ok(list)
 }

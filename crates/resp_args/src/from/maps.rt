@@ -1,15 +1,17 @@
 //! Replies as maps.
-ghost use Rattle.std.specs.Prelude.{◌≡◌, false, List, option_and_then, map as each, MatchResult, []};
+ghost use Rattle.std.specs.Prelude.{◌≡◌, false, List, option_and_then, map as each, MatchResult, [], None};
 ghost use Rattle.indexmap.specs.IndexMap.{insert_all};
 ghost use Rattle.resp_core.specs.Errors.{no_memory};
+ghost use Rattle.resp_core.specs.MapIters.{owned_left, pairs_left};
+ghost use Rattle.resp_core.specs.Parts.{pairs_in};
 ghost use Rattle.resp_core.specs.View.{view, pair_view};
-ghost use Rattle.resp_args.specs.Convert.{plain, alone, fields, fields_of, part_by_part, paired, traverse, Answers};
+ghost use Rattle.resp_args.specs.Convert.{plain, fields, fields_of, part_by_part, traverse, Answers};
 
 use crate::from::names::FieldName;
-use crate::from::plain::into_plain;
+use crate::from::plain::{into_plain, plain};
 use crate::from::{FromRedisValue, one};
 use indexmap::IndexMap;
-use resp_core::{ParsingError, Value};
+use resp_core::{MapIter, OwnedMapIter, ParsingError, Value};
 use std::alloc::Global;
 
 /// The pairs of a map or of an array of even length, in order of their first names; a repeated
@@ -23,14 +25,19 @@ impl<K: FieldName, V: FromRedisValue> FromRedisValue for IndexMap<K, V> {
 
     ghost convert = { λ t. fields K.convert V.convert K.same (plain t) };
 
-    ghost convert_bytes = { λ b. alone (λ t. fields K.convert V.convert K.same (plain t)) b };
+    ghost byte_item = { None };
 
     fn from_redis_value(alloc: Global, value: Value) -> Result<IndexMap<K, V>, ParsingError> {
         match into_plain(value) {
             Value::Nil => Ok(IndexMap::new(alloc)),
-            Value::Map(pairs) => from_pairs(alloc, pairs),
-            Value::Array(items) => from_items(alloc, items),
-            _ => Err(ParsingError::fixed("a map was wanted")),
+            value => convert_pairs(alloc, value),
+        }
+    }
+
+    fn from_redis_value_ref(alloc: Global, value: &Value) -> Result<IndexMap<K, V>, ParsingError> {
+        match plain(value) {
+            Value::Nil => Ok(IndexMap::new(alloc)),
+            value => convert_pairs_ref(alloc, value),
         }
     }
 
@@ -40,25 +47,32 @@ impl<K: FieldName, V: FromRedisValue> FromRedisValue for IndexMap<K, V> {
     }
 }
 
-fn from_items<K: FieldName, V: FromRedisValue>(
+fn convert_pairs<K: FieldName, V: FromRedisValue>(
     alloc: Global,
-    items: Vec<Value>,
+    value: Value,
 ) -> Result<IndexMap<K, V>, ParsingError>
-    ensures { Answers (λ m. each (λ e. (K.meaning e.0, V.meaning e.1)) m.entries) (option_and_then (fields_of K.convert V.convert K.same) (paired (each view items.items))) result }
+    ensures { Answers (λ m. each (λ e. (K.meaning e.0, V.meaning e.1)) m.entries) (option_and_then (fields_of K.convert V.convert K.same) (pairs_in (view value))) result }
 {
-    from_pairs(alloc, two_by_two(alloc, items)?)
+    match value.into_map_iter() {
+        Ok(pairs) => collect(alloc, each_pair(alloc, pairs)?),
+        Err(_) => Err(ParsingError::fixed("a map, or an even number of items, was wanted")),
+    }
 }
 
-fn from_pairs<K: FieldName, V: FromRedisValue>(
+fn convert_pairs_ref<K: FieldName, V: FromRedisValue>(
     alloc: Global,
-    pairs: Vec<(Value, Value)>,
+    value: &Value,
 ) -> Result<IndexMap<K, V>, ParsingError>
-    ensures { Answers (λ m. each (λ e. (K.meaning e.0, V.meaning e.1)) m.entries) (fields_of K.convert V.convert K.same (each pair_view pairs.items)) result }
+    ensures { Answers (λ m. each (λ e. (K.meaning e.0, V.meaning e.1)) m.entries) (option_and_then (fields_of K.convert V.convert K.same) (pairs_in (view value.now))) result }
 {
-    collected(alloc, each_pair(alloc, pairs)?)
+    match value.as_map_iter() {
+        Some(pairs) => collect(alloc, each_pair_ref(alloc, pairs)?),
+        None => Err(ParsingError::fixed("a map, or an even number of items, was wanted")),
+    }
 }
 
-fn collected<K: FieldName, V: FromRedisValue>(
+// A repeated name keeps its first place and its last value.
+fn collect<K: FieldName, V: FromRedisValue>(
     alloc: Global,
     pairs: Vec<(K, V)>,
 ) -> Result<IndexMap<K, V>, ParsingError>
@@ -74,11 +88,11 @@ fn collected<K: FieldName, V: FromRedisValue>(
 
 fn each_pair<K: FromRedisValue, V: FromRedisValue>(
     alloc: Global,
-    pairs: Vec<(Value, Value)>,
+    pairs: OwnedMapIter,
 ) -> Result<Vec<(K, V)>, ParsingError>
-    ensures { Answers (λ v. each (λ e. (K.meaning e.0, V.meaning e.1)) v.items) (traverse (part_by_part K.convert V.convert) (each pair_view pairs.items)) result }
+    ensures { Answers (λ v. each (λ e. (K.meaning e.0, V.meaning e.1)) v.items) (traverse (part_by_part K.convert V.convert) (owned_left pairs)) result }
 {
-    let mut list = Vec::with_capacity(alloc, pairs.len())?;
+    let mut list = Vec::new(alloc);
     for pair in pairs {
         list.push(convert_both::<K, V>(alloc, pair)?)?;
     }
@@ -98,22 +112,27 @@ fn convert_both<K: FromRedisValue, V: FromRedisValue>(
     ))
 }
 
-fn two_by_two(alloc: Global, items: Vec<Value>) -> Result<Vec<(Value, Value)>, ParsingError>
-    ensures { Answers (λ v. each pair_view v.items) (paired (each view items.items)) result }
+fn each_pair_ref<K: FromRedisValue, V: FromRedisValue>(
+    alloc: Global,
+    pairs: MapIter<'_>,
+) -> Result<Vec<(K, V)>, ParsingError>
+    ensures { Answers (λ v. each (λ e. (K.meaning e.0, V.meaning e.1)) v.items) (traverse (part_by_part K.convert V.convert) (pairs_left pairs.entry)) result }
 {
-    let mut pairs = Vec::new(alloc);
-    let mut first = None;
-    for item in items {
-        first = match first {
-            None => Some(item),
-            Some(key) => {
-                pairs.push((key, item))?;
-                None
-            }
-        };
+    let mut list = Vec::new(alloc);
+    for pair in pairs {
+        list.push(convert_both_ref::<K, V>(alloc, pair)?)?;
     }
-    match first {
-        None => Ok(pairs),
-        Some(_) => Err(ParsingError::fixed("a map, or an even number of items, was wanted")),
-    }
+    Ok(list)
+}
+
+fn convert_both_ref<K: FromRedisValue, V: FromRedisValue>(
+    alloc: Global,
+    pair: (&Value, &Value),
+) -> Result<(K, V), ParsingError>
+    ensures { Answers (λ e. (K.meaning e.0, V.meaning e.1)) (part_by_part K.convert V.convert (view pair.entry.0.now, view pair.entry.1.now)) result }
+{
+    Ok((
+        K::from_redis_value_ref(alloc, pair.0)?,
+        V::from_redis_value_ref(alloc, pair.1)?,
+    ))
 }

@@ -1,9 +1,9 @@
 //! Replies as integers.
 ghost use Rattle.std.specs.Ordering.{int_eq};
-ghost use Rattle.std.specs.Prelude.{◌≡◌, ℕ, ℤ, pos, List, Some, Option, option_map, option_and_then, map as each};
+ghost use Rattle.std.specs.Prelude.{◌≡◌, ℕ, ℤ, pos, List, Some, Option, option_map, option_and_then, None};
 ghost use Rattle.resp_core.specs.View.{view};
 ghost use Rattle.resp_args.specs.Numbers.{unsigned_text, unsigned_number, signed_text, signed_number};
-ghost use Rattle.resp_args.specs.Convert.{plain, alone, count, unsigned_count, utf8, Answers};
+ghost use Rattle.resp_args.specs.Convert.{plain, count, unsigned_count, utf8, Answers};
 
 use crate::from::plain::plain;
 use crate::from::{FromRedisValue, one};
@@ -71,7 +71,7 @@ impl<N: Count> FromRedisValue for N {
 
     ghost convert = { λ t. count N.fitting N.reading (plain t) };
 
-    ghost convert_bytes = { λ b. alone (λ t. count N.fitting N.reading (plain t)) b };
+    ghost byte_item = { None };
 
     fn from_redis_value(_alloc: Global, value: Value) -> Result<N, ParsingError> {
         count_of(&value)
@@ -97,7 +97,7 @@ impl FromRedisValue for u8 {
 
     ghost convert = { λ t. unsigned_count 8 (plain t) };
 
-    ghost convert_bytes = { λ b. Some (each pos b) };
+    ghost byte_item = { Some pos };
 
     fn from_redis_value(_alloc: Global, value: Value) -> Result<u8, ParsingError> {
         count_of(&value)

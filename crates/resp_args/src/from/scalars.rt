@@ -1,10 +1,10 @@
 //! Replies as truth values, texts, whole replies and nothing.
-ghost use Rattle.std.specs.Prelude.{Bool, false, List, ℕ, Some, string_bytes};
+ghost use Rattle.std.specs.Prelude.{Bool, false, List, ℕ, Some, string_bytes, None};
 ghost use Rattle.std.specs.Str.{bytes_eq};
 ghost use Rattle.std.specs.Bool.{beq};
 ghost use Rattle.resp_core.specs.Trees.{Tree};
 ghost use Rattle.resp_core.specs.View.{view};
-ghost use Rattle.resp_args.specs.Convert.{plain, truth, text, utf8, alone, Answers, truth_of_text as spec_truth_of_text};
+ghost use Rattle.resp_args.specs.Convert.{plain, truth, text, utf8, Answers, truth_of_text as spec_truth_of_text};
 
 use crate::from::plain::{into_plain, plain};
 use crate::from::{FromRedisValue, one};
@@ -20,7 +20,7 @@ impl FromRedisValue for bool {
 
     ghost convert = { λ t. truth (plain t) };
 
-    ghost convert_bytes = { λ b. alone (λ t. truth (plain t)) b };
+    ghost byte_item = { None };
 
     fn from_redis_value(alloc: Global, value: Value) -> Result<bool, ParsingError> {
         bool::from_redis_value_ref(alloc, &value)
@@ -64,7 +64,7 @@ impl FromRedisValue for Value {
 
     ghost convert = { λ t. Some t };
 
-    ghost convert_bytes = { λ b. alone (λ t. Some t) b };
+    ghost byte_item = { None };
 
     fn from_redis_value(_alloc: Global, value: Value) -> Result<Value, ParsingError> {
         Ok(value)
@@ -85,7 +85,7 @@ impl FromRedisValue for () {
 
     ghost convert = { λ _. Some tt };
 
-    ghost convert_bytes = { λ b. alone (λ _. Some tt) b };
+    ghost byte_item = { None };
 
     fn from_redis_value(_alloc: Global, _value: Value) -> Result<(), ParsingError> {
         Ok(())
@@ -109,7 +109,7 @@ impl FromRedisValue for String {
 
     ghost convert = { λ t. text (plain t) };
 
-    ghost convert_bytes = { λ b. alone (λ t. text (plain t)) b };
+    ghost byte_item = { None };
 
     fn from_redis_value(alloc: Global, value: Value) -> Result<String, ParsingError> {
         match into_plain(value) {
@@ -119,6 +119,15 @@ impl FromRedisValue for String {
             Value::Okay => Ok(String::from_str(alloc, "OK")?),
             Value::Int(n) => Ok(format!(in alloc; "{n}")?),
             _ => Err(ParsingError::fixed("a text was wanted")),
+        }
+    }
+
+    fn from_redis_value_ref(alloc: Global, value: &Value) -> Result<String, ParsingError> {
+        match plain(value) {
+            Value::BulkString(bytes) => text_of_bytes(Vec::from_slice(alloc, bytes)?),
+            Value::SimpleString(text) => Ok(text.clone()?),
+            Value::VerbatimString { format: _, text } => Ok(text.clone()?),
+            _ => String::from_redis_value(alloc, value.clone()?),
         }
     }
 

@@ -1,11 +1,11 @@
 //! Replies as tuples, without looking through attributes.
 #![tactic(auto, using(crate::proofs::Answering::answering))]
 
-ghost use Rattle.std.specs.Prelude.{false, map as each};
+ghost use Rattle.std.specs.Prelude.{false, map as each, None};
 ghost use Rattle.resp_core.specs.View.{view, pair_view};
-ghost use Rattle.resp_args.specs.Convert.{tuple2, tuple3, tuple4, alone, pair_of, lone_pair, triple_of, quadruple_of, Answers};
+ghost use Rattle.resp_args.specs.Convert.{tuple2, tuple3, tuple4, pair_of, lone_pair, triple_of, quadruple_of, Answers};
 
-use crate::from::{FromRedisValue, one};
+use crate::from::FromRedisValue;
 use resp_core::{ParsingError, Value};
 use std::alloc::Global;
 
@@ -19,7 +19,7 @@ impl<A: FromRedisValue, B: FromRedisValue> FromRedisValue for (A, B) {
 
     ghost convert = { tuple2 A.convert B.convert };
 
-    ghost convert_bytes = { alone (tuple2 A.convert B.convert) };
+    ghost byte_item = { None };
 
     fn from_redis_value(alloc: Global, value: Value) -> Result<(A, B), ParsingError> {
         match value {
@@ -80,7 +80,7 @@ impl<A: FromRedisValue, B: FromRedisValue, C: FromRedisValue> FromRedisValue for
 
     ghost convert = { tuple3 A.convert B.convert C.convert };
 
-    ghost convert_bytes = { alone (tuple3 A.convert B.convert C.convert) };
+    ghost byte_item = { None };
 
     fn from_redis_value(alloc: Global, value: Value) -> Result<(A, B, C), ParsingError> {
         match value {
@@ -124,7 +124,7 @@ impl<A: FromRedisValue, B: FromRedisValue, C: FromRedisValue, D: FromRedisValue>
 
     ghost convert = { tuple4 A.convert B.convert C.convert D.convert };
 
-    ghost convert_bytes = { alone (tuple4 A.convert B.convert C.convert D.convert) };
+    ghost byte_item = { None };
 
     fn from_redis_value(alloc: Global, value: Value) -> Result<(A, B, C, D), ParsingError> {
         match value {

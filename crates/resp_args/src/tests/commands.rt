@@ -24,13 +24,8 @@ fn scan(alloc: Global) -> Result<Cmd, AllocError> {
     Ok(command)
 }
 
-fn packs<R: Abort>(
-    rt: &R,
-    alloc: Global,
-    command: &Cmd,
-    expected: &[u8],
-) -> Result<(), AllocError> {
-    let packed = command.get_packed_command(alloc)?;
+fn packs<R: Abort>(rt: &R, command: &Cmd, expected: &[u8]) -> Result<(), AllocError> {
+    let packed = command.get_packed_command()?;
     assert_eq!(rt; packed.as_slice(), expected);
     Ok(())
 }
@@ -40,11 +35,22 @@ fn packs_gaps_as_the_number_set_last(rt: HostRuntime) -> Result<(), Fail> {
     assert!(rt; !cmd(rt.alloc(), "SSCAN")?.in_scan_mode());
     let mut command = scan(rt.alloc())?;
     assert!(rt; command.in_scan_mode());
-    packs(&rt, rt.alloc(), &command, SCAN)?;
+    packs(&rt, &command, SCAN)?;
     is_scan(&rt, &command);
     command.cursor_arg(7)?;
     let twice = b"*4\r\n$5\r\nSSCAN\r\n$1\r\na\r\n$1\r\n7\r\n$1\r\n7\r\n";
-    packs(&rt, rt.alloc(), &command, twice)?;
+    packs(&rt, &command, twice)?;
+    Ok(())
+}
+
+#[test]
+fn has_gaps_as_numbers_on_the_wire(rt: HostRuntime) -> Result<(), Fail> {
+    let args = scan(rt.alloc())?.wire_args()?;
+    assert_eq!(rt; args.len(), 3);
+    match args.last() {
+        Some(last) => assert_eq!(rt; last.as_slice(), b"42".as_slice()),
+        None => assert!(rt; false),
+    }
     Ok(())
 }
 
@@ -54,7 +60,7 @@ fn copies_a_command(rt: HostRuntime) -> Result<(), Fail> {
     let copy = command.clone()?;
     command.cursor_arg(7)?;
     is_scan(&rt, &copy);
-    packs(&rt, rt.alloc(), &copy, SCAN)?;
+    packs(&rt, &copy, SCAN)?;
     Ok(())
 }
 
@@ -106,6 +112,6 @@ fn clears_to_a_new_command(rt: HostRuntime) -> Result<(), Fail> {
     assert!(rt; !command.is_no_response());
     assert!(rt; command.args_iter().next().is_none());
     command.arg("PING")?;
-    packs(&rt, rt.alloc(), &command, b"*1\r\n$4\r\nPING\r\n")?;
+    packs(&rt, &command, b"*1\r\n$4\r\nPING\r\n")?;
     Ok(())
 }

@@ -8,14 +8,14 @@ use std::process::Abort;
 use std::test::Fail;
 
 // The reply that the bytes spell, if there is memory for it.
-pub(crate) fn parsed(alloc: Global, bytes: &[u8]) -> Option<Value> {
+pub(crate) fn parse(alloc: Global, bytes: &[u8]) -> Option<Value> {
     let mut parser = Parser::new(alloc);
     parser.feed(bytes).ok()?;
     parser.take_value().ok()?
 }
 
 pub(crate) fn reply(alloc: Global, bytes: &[u8]) -> Result<Value, Fail> {
-    Ok(parsed(alloc, bytes).ok_or("no whole value")?)
+    Ok(parse(alloc, bytes).ok_or("no whole value")?)
 }
 
 // The owned and the lent form both give the expected value.
@@ -212,6 +212,26 @@ fn lists(rt: HostRuntime) -> Result<(), Fail> {
     Ok(())
 }
 
+// A list of any type but `u8` has a bulk as its one item.
+#[test]
+fn bulks_alone(rt: HostRuntime) -> Result<(), Fail> {
+    let alloc = rt.alloc();
+    let bulk = b"$1\r\n1\r\n".as_slice();
+    gives(&rt, alloc, bulk, vec![in alloc; true]?)?;
+    gives(&rt, alloc, bulk, vec![in alloc; text(alloc, "1")?]?)?;
+    gives(&rt, alloc, bulk, vec![in alloc; Some(1u8)]?)?;
+    gives(&rt, alloc, bulk, vec![in alloc; ()]?)?;
+    gives(&rt, alloc, bulk, vec![in alloc; reply(alloc, bulk)?]?)?;
+    let bytes = Vec::from_slice(alloc, b"1")?;
+    gives(&rt, alloc, bulk, vec![in alloc; bytes]?)?;
+    refuses::<Vec<i64>, _>(&rt, alloc, b"$1\r\nx\r\n")?;
+    refuses::<Vec<Fields>, _>(&rt, alloc, bulk)?;
+    refuses::<Vec<(i64, i64)>, _>(&rt, alloc, bulk)?;
+    refuses::<Vec<(i64, i64, i64)>, _>(&rt, alloc, bulk)?;
+    refuses::<Vec<(i64, i64, i64, i64)>, _>(&rt, alloc, bulk)?;
+    Ok(())
+}
+
 fn is_read_as<R: Abort>(rt: &R, alloc: Global, value: &Value, bytes: &[u8]) -> Result<(), Fail> {
     let expected = reply(alloc, bytes)?;
     assert!(rt; *value == expected);
@@ -234,7 +254,7 @@ fn lists_of_the_pairs_of_a_map(rt: HostRuntime) -> Result<(), Fail> {
 type Fields = IndexMap<String, i64>;
 
 // The pairs, each as its name, an equals sign and its number.
-fn listed(alloc: Global, fields: &Fields) -> Result<String, AllocError> {
+fn write_pairs(alloc: Global, fields: &Fields) -> Result<String, AllocError> {
     let mut out = String::new(alloc);
     for (name, number) in fields.iter() {
         let pair = format!(in alloc; "{name}={number} ")?;
@@ -245,7 +265,7 @@ fn listed(alloc: Global, fields: &Fields) -> Result<String, AllocError> {
 
 fn pairs(alloc: Global, bytes: &[u8]) -> Result<String, Fail> {
     let fields: Fields = from_redis_value(alloc, reply(alloc, bytes)?)?;
-    Ok(listed(alloc, &fields)?)
+    Ok(write_pairs(alloc, &fields)?)
 }
 
 #[test]

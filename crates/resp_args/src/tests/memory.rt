@@ -2,7 +2,7 @@
 //!
 //! A test prints a line `refused CALL` where a call is refused, sees what then stands, and goes on;
 //! no further call may be refused.
-use crate::tests::conversions::parsed;
+use crate::tests::conversions::parse;
 use crate::{Arg, Cmd, from_redis_value, from_redis_value_ref};
 use indexmap::IndexMap;
 use resp_core::{RedisError, Value};
@@ -106,16 +106,16 @@ fn is_nested<R: Abort>(rt: &R, fields: &Nested) {
 }
 
 fn nested_reply<R: Print>(rt: &R, alloc: Global) -> Result<Value, Fail> {
-    match parsed(alloc, NESTED) {
+    match parse(alloc, NESTED) {
         Some(value) => Ok(value),
         None => {
             println!(rt; "refused reply")?;
-            Ok(parsed(alloc, NESTED).ok_or("no whole value")?)
+            Ok(parse(alloc, NESTED).ok_or("no whole value")?)
         }
     }
 }
 
-fn copied<R: Print>(rt: &R, value: &Value) -> Result<Value, Fail> {
+fn copy<R: Print>(rt: &R, value: &Value) -> Result<Value, Fail> {
     match value.clone() {
         Ok(copy) => Ok(copy),
         Err(_) => {
@@ -126,7 +126,7 @@ fn copied<R: Print>(rt: &R, value: &Value) -> Result<Value, Fail> {
 }
 
 fn converts_owned<R: Abort + Print>(rt: &R, alloc: Global, value: &Value) -> Result<(), Fail> {
-    match from_redis_value::<Nested>(alloc, copied(rt, value)?) {
+    match from_redis_value::<Nested>(alloc, copy(rt, value)?) {
         Ok(fields) => is_nested(rt, &fields),
         Err(e) => {
             println!(rt; "refused from_redis_value")?;

@@ -1,5 +1,5 @@
 //! Truth values and integers as arguments.
-ghost use Rattle.std.specs.Prelude.{ℕ, [], ◌∷◌, Some, codes, decimal, if◌then◌else◌, refl};
+ghost use Rattle.std.specs.Prelude.{◌≡◌, ℕ, [], ◌∷◌, Some, codes, decimal, if◌then◌else◌, refl};
 ghost use Rattle.std.specs.Fmt.{signed_decimal};
 ghost use Rattle.resp_args.specs.Writing.{Writes};
 
@@ -29,7 +29,8 @@ impl ToSingleRedisArg for bool {
 
 // An integer as one argument, in decimal.
 fn write_number<N: Integer, W: RedisWrite>(number: N, out: &mut W) -> Result<(), AllocError>
-    ensures { Writes result (W.written out.old) (N.text number ∷ []) (W.written out.new) }
+    ensures writes { Writes result (W.written out.old) (N.text number ∷ []) (W.written out.new) }
+    ensures keeps { W.beside out.new ≡ W.beside out.old }
 {
     out.write_arg(Buffer::new().format(number).as_bytes())
 }

@@ -1,7 +1,7 @@
 //! Tuples as arguments: those of each part in turn.
 #![tactic(auto, using(crate::proofs::Writings::writing))]
 
-ghost use Rattle.std.specs.Prelude.{◌++◌};
+ghost use Rattle.std.specs.Prelude.{◌≡◌, ◌++◌};
 ghost use Rattle.resp_args.specs.Writing.{Writes};
 
 use crate::to_args::ToRedisArgs;
@@ -50,7 +50,8 @@ pub(crate) fn write_two<A: ToRedisArgs, B: ToRedisArgs, W: RedisWrite>(
     second: &B,
     out: &mut W,
 ) -> Result<(), AllocError>
-    ensures { Writes result (W.written out.old) (A.args first.now ++ B.args second.now) (W.written out.new) }
+    ensures writes { Writes result (W.written out.old) (A.args first.now ++ B.args second.now) (W.written out.new) }
+    ensures keeps { W.beside out.new ≡ W.beside out.old }
 {
     first.write_redis_args(out)?;
     second.write_redis_args(out)
@@ -62,7 +63,8 @@ fn write_three<A: ToRedisArgs, B: ToRedisArgs, C: ToRedisArgs, W: RedisWrite>(
     third: &C,
     out: &mut W,
 ) -> Result<(), AllocError>
-    ensures { Writes result (W.written out.old) (A.args first.now ++ B.args second.now ++ C.args third.now) (W.written out.new) }
+    ensures writes { Writes result (W.written out.old) (A.args first.now ++ B.args second.now ++ C.args third.now) (W.written out.new) }
+    ensures keeps { W.beside out.new ≡ W.beside out.old }
 {
     write_two(first, second, out)?;
     third.write_redis_args(out)

@@ -14,8 +14,8 @@ impl Parser {
     ghost use Rattle.std.specs.Prelude.{◌≡◌, ◌+◌, ◌^◌, true, false, List, ℕ, [], ◌∷◌, ◌⊎◌, ◌↔◌, IfOk, IfErr, OnOk, OnErr, IsErrOf, ◌++◌};
     ghost use Rattle.resp_core.specs.View.{view};
     ghost use Rattle.resp_core.specs.Errors.{by_cause};
-    ghost use Rattle.resp_core.specs.Standing.{Stands, has_fault, is_starved, waiting, BeginsUnfinished};
-    ghost use Rattle.resp_core.specs.Incoming.{reading, Reads, Stops, Meets};
+    ghost use Rattle.resp_core.specs.Standing.{Stands, has_fault, is_starved, waiting, is_resting, BeginsUnfinished};
+    ghost use Rattle.resp_core.specs.Incoming.{reading, Reads, Seeks, Stops, Meets};
     ghost use Rattle.resp_core.specs.declared.errors.redis_error.Cause.TheVariants.{Io, Parse, Memory};
 
     /// Takes the next value, reading from `reader` while none is whole.
@@ -34,6 +34,9 @@ impl Parser {
         ensures meets { IsErrOf result (by_cause Parse) → (held : List ℕ) → Stands self.old held → (allowed : ℕ) × (rest : List ℕ)
             × Meets (reading R.left R.counts reader.old held (2 ^ 32)) (reading R.left R.counts reader.new rest allowed) []
             × Stands self.new rest }
+        // Want of memory takes no value, and what was read is lost.
+        ensures starves { IsErrOf result (by_cause Memory) → (held : List ℕ) → Stands self.old held → (allowed : ℕ) × (rest : List ℕ)
+            × Seeks (reading R.left R.counts reader.old held (2 ^ 32)) (reading R.left R.counts reader.new rest allowed) [] }
         ensures causes { IfErr result (λ e. (e ≡ by_cause Io) ⊎ (e ≡ by_cause Parse) ⊎ (e ≡ by_cause Memory)) }
         // A fault and a want of memory are told for good.
         ensures has_fault { IsErrOf result (by_cause Parse) ↔ (has_fault self.new ≡ true) }
@@ -62,7 +65,11 @@ impl Parser {
         ensures meets { IsErrOf result (by_cause Parse) → (held : List ℕ) → Stands self.old held → (rest : List ℕ)
             × Meets (reading R.left R.counts reader.old held allowed.old) (reading R.left R.counts reader.new rest allowed.new) []
             × Stands self.new rest }
+        ensures starves { IsErrOf result (by_cause Memory) → (held : List ℕ) → Stands self.old held → (rest : List ℕ)
+            × Seeks (reading R.left R.counts reader.old held allowed.old) (reading R.left R.counts reader.new rest allowed.new) [] }
         ensures causes { IfErr result (λ e. (e ≡ by_cause Io) ⊎ (e ≡ by_cause Parse) ⊎ (e ≡ by_cause Memory)) }
+        // After a value none is half read.
+        ensures rests { IfOk result (λ _. is_resting self.new ≡ true) }
         // A fault and a want of memory are told for good.
         ensures has_fault { IsErrOf result (by_cause Parse) ↔ (has_fault self.new ≡ true) }
         ensures is_starved { IsErrOf result (by_cause Memory) ↔ (is_starved self.new ≡ true) }
@@ -85,9 +92,11 @@ impl Parser {
     ) -> Result<(), RedisError>
         requires whole { has_fault self.old ≡ false }
         requires fed { is_starved self.old ≡ false }
-        ensures more { OnOk result ((held : List ℕ) → Stands self.old held → (rest : List ℕ)
-            × Reads (reading R.left R.counts reader.old held allowed.old) (reading R.left R.counts reader.new rest allowed.new) []
+        ensures more { OnOk result ((held : List ℕ) → BeginsUnfinished 100 held → Stands self.old held → (rest : List ℕ)
+            × Seeks (reading R.left R.counts reader.old held allowed.old) (reading R.left R.counts reader.new rest allowed.new) []
             × Stands self.new rest) }
+        ensures starves { IsErrOf result (by_cause Memory) → (held : List ℕ) → BeginsUnfinished 100 held → Stands self.old held → (rest : List ℕ)
+            × Seeks (reading R.left R.counts reader.old held allowed.old) (reading R.left R.counts reader.new rest allowed.new) [] }
         ensures stops { IsErrOf result (by_cause Io) → (held : List ℕ) → BeginsUnfinished 100 held → Stands self.old held
             → Stops (reading R.left R.counts reader.old held allowed.old) (reading R.left R.counts reader.new held allowed.new) []
             × Stands self.new held }

@@ -1,8 +1,8 @@
 use Rattle.std.specs.Prelude.{is_some}
 use Rattle.std.proofs.Common.{◌∙◌, sym, ap}
 use Rattle.cluster_routing.specs.Seen.{address}
-use Rattle.cluster_client.specs.World.{nodes}
-use Rattle.cluster_client.proofs.LinkPlaces.{placed}
+use Rattle.cluster_client.specs.Links.World.{nodes}
+use Rattle.cluster_client.proofs.LinkLaws.LinkPlaces.{placed}
 use Rattle.cluster_client.proofs.links.is_among.Goals as goal
 
 pub returns : goal.returns

@@ -1,6 +1,6 @@
 use Rattle.std.proofs.Common.{◌∙◌, ap, ◌^◌}
-use Rattle.cluster_routing.specs.Numbers.{number_below}
-use Rattle.cluster_routing.proofs.Addresses.{parsed, not_text}
+use Rattle.resp_core.specs.Numbers.{number_below}
+use Rattle.resp_core.proofs.TextNumbers.{parsed, not_text}
 use Rattle.cluster_routing.proofs.routing.number.Goals as goal
 
 pub returns-in-Ok : goal.returns-in-Ok

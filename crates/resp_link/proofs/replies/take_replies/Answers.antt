@@ -3,13 +3,13 @@ use Rattle.std.proofs.lemmas.Grind.{common_steps}
 use Rattle.std.proofs.lemmas.List.{map-append}
 use Rattle.std.proofs.lemmas.Result.{err_from_is_err_and}
 use Rattle.resp_core.specs.View.{view}
-use Rattle.resp_link.proofs.Taking.{ReadsReplies-none, ReadsReplies-append, lacks, lacks_starved}
+use Rattle.resp_link.proofs.Taking.{ReadsReplies-none, ReadsReplies-append, ReadsReplies-starved, lacks}
 use Rattle.resp_link.proofs.replies.take_replies.Goals as goal
 
 pub taking-init : goal.taking-init
 taking-init g c =
     let none : c.new-replies.result.items ≡ [] = search rules in
-    record { reads = rw none (ReadsReplies-none _ _); count = ap length none; stands = c.requires }
+    record { reads = rw none (ReadsReplies-none _ _); count = ap length none; rests = c.requires }
 
 pub returns-in_err-reply-clause-refused : goal.returns-in_err-reply-clause-refused
 returns-in_err-reply-clause-refused g c =
@@ -21,7 +21,9 @@ returns-in_err-reply-clause-refused g c =
 pub returns-in_err-push-clause-refused : goal.returns-in_err-push-clause-refused
 returns-in_err-push-clause-refused g c =
     let p = err_from_is_err_and c.from_residual-in_err-push.result c.from_residual-in_err-push.ensures.1 in
-    rw (p.1, p.2) (lacks_starved _ _ _ (ReadsReplies-append c.taking.invariant.reads c.in_ok-reply.ensures.reply) refl)
+    let fewer : length (map view c.taking.replies.items) < c.args.count = grind (arith, common_steps, c.taking.invariant.count) in
+    let ends = ReadsReplies-starved _ _ c.in_ok-reply.ensures.reply refl in
+    rw (p.1, p.2) (lacks g.R.LinkRead.left g.R.LinkRead.counts c.next_reply.new.reader c.next_reply.new.allowed ends.0 _ c.taking.invariant.reads ends.1 fewer)
 
 pub taking-preserved : goal.taking-preserved
 taking-preserved g c =
@@ -29,5 +31,5 @@ taking-preserved g c =
     record {
       reads = rw (pushed, map-append) (ReadsReplies-append c.taking.invariant.reads c.in_ok-reply.ensures.reply);
       count = omega (arith, c.taking.invariant.count, ap length pushed, length-append c.taking.replies.items (c.in_ok-reply.reply ∷ []));
-      stands = c.in_ok-reply.ensures.stands;
+      rests = c.in_ok-reply.ensures.rests;
     }

@@ -1,35 +1,48 @@
-use Rattle.std.proofs.Common.{◌≡◌, ◌≢◌, ◌∙◌, refl, sym, ap, subst, Vec, Global, Err}
+use Rattle.std.proofs.Common.{◌≡◌, ◌≢◌, ◌∙◌, refl, sym, ap, subst, Err, Ok, [], Vec, Global, ℕ, List}
 use Rattle.std.proofs.lemmas.Result.{err_from_is_err_and}
-use Rattle.resp_core.specs.Errors.{by_cause}
-use Rattle.resp_core.specs.declared.errors.redis_error.Cause.TheVariants.{Memory}
-use Rattle.cluster_routing.specs.Info.{texts}
-use Rattle.cluster_routing.specs.Seen.{addresses}
-use Rattle.cluster_client.specs.World.{nodes, open_links, viewed}
 use Rattle.resp_core.specs.View.{view}
-use Rattle.cluster_routing.specs.declared.address.NodeAddress.{NodeAddress}
-use Rattle.cluster_client.specs.Answer.{told}
-use Rattle.cluster_client.specs.Played.{CallMade}
-use Rattle.cluster_client.specs.Whole.{whole}
-use Rattle.cluster_client.specs.Plan.{Query, first_node}
-use Rattle.cluster_client.proofs.OneCall.{both, query_unplanned, from_begun}
+use Rattle.cluster_routing.specs.Info.{texts}
+use Rattle.cluster_routing.specs.Seen.{address, addresses}
+use Rattle.cluster_routing.specs.Split.{has_split_word}
+use Rattle.cluster_client.specs.Calls.Parts.{Part, parts_of}
+use Rattle.cluster_client.specs.Calls.Plan.{first_of}
+use Rattle.cluster_client.specs.Links.Chains.{ChainMade}
+use Rattle.cluster_client.specs.Links.FirstPlaces.{part_of, target_of, node_with_link}
+use Rattle.cluster_client.specs.Links.Run.{with_log}
+use Rattle.cluster_client.specs.Links.Turns.{hop_to}
+use Rattle.cluster_client.specs.Links.Whole.{whole}
+use Rattle.cluster_client.specs.Links.World.{nodes, open_links, tree_result}
+use Rattle.cluster_client.proofs.LinkLaws.OneCommand.{command_made, part_refused, place_refused, relogged, same_refusal}
 use Rattle.cluster_client.proofs.client.ClusterClient.reply_to.Goals as goal
 
-pub returns-in_err-place-clause-played : goal.returns-in_err-place-clause-played
-returns-in_err-place-clause-played g c = λ m.
+pub returns-in_err-part-clause-made : goal.returns-in_err-part-clause-made
+returns-in_err-part-clause-made g c unsplit =
     let p = err_from_is_err_and c.from_residual.result c.from_residual.ensures.1 in
-    let had : c.in_err-place.field-0.0 ≢ by_cause Memory = λ k. m (p.1 ∙ ap Err (p.2 ∙ k)) in
-    let shut : first_node (open_links (nodes g.L.ConnectionLike.seen c.args.self.now.links.items)) c.args.self.now.slots (texts c.args.self.now.read_only.items) c.args.cmd.now (addresses c.first_place.new.picked.items) ≡ Err c.in_err-place.field-0.0 =
-    rw (← c.deref.ensures.value, ← c.deref-2.ensures.value) (sym (c.in_err-place.ensures.node (λ k. had (cc k)))) in
-    rw (p.1, p.2) (both _ _ _ _ (query_unplanned _ _ _ _ _ shut refl c.new.ensures.items refl refl refl))
+    rw (p.1, p.2) (part_refused _ _ _ _ _ _ (record { nodes = refl; log = c.new.ensures.items; entries = refl; settings = refl; flag = refl }) (ap addresses c.new-2.ensures.items)
+    (λ m. sym (rw c.deref.ensures.value at (c.in_err-part.ensures.part (λ k. m (cc k)) unsplit))))
 
-pub returns-in_err-place-clause-picks : goal.returns-in_err-place-clause-picks
-returns-in_err-place-clause-picks g c = λ m.
-    let p = err_from_is_err_and c.from_residual.result c.from_residual.ensures.1 in
-    let had : c.in_err-place.field-0.0 ≢ by_cause Memory = λ k. m (p.1 ∙ ap Err (p.2 ∙ k)) in
-    rw c.deref-2.ensures.value at (c.in_err-place.ensures.picks (λ k. had (cc k)))
+pub returns-in_err-part-clause-split : goal.returns-in_err-part-clause-split
+returns-in_err-part-clause-split g c split =
+    let p = err_from_is_err_and c.from_residual.result c.from_residual.ensures.1 in (
+      p.1 ∙ ap Err (p.2 ∙ same_refusal _ _ _ (c.in_err-part.ensures.split split)),
+      relogged (whole g.L.ConnectionLike.seen c.args.self.now) c.new.result.items (addresses c.new-2.result.items) c.new.ensures.items (ap addresses c.new-2.ensures.items),
+    )
 
-pub returns-clause-played : goal.returns-clause-played
-returns-clause-played g c = λ m.
-    let same : addresses c.first_place.new.picked.items ≡ addresses c.reply_from.new.self.picked.items = ap (λ (v : Vec NodeAddress Global). addresses v.items) (sym c.reply_from.ensures.picks) in
-    subst (λ ps. CallMade (whole g.L.ConnectionLike.seen c.args.self.now) (whole g.L.ConnectionLike.seen c.reply_from.new.self) (Query c.args.cmd.now ps) (told (viewed view c.reply_from.result))) same
-    (from_begun (whole g.L.ConnectionLike.seen c.args.self.now) _ _ _ _ _ (c.reply_from.ensures.played m))
+pub returns-in_err-place-clause-made : goal.returns-in_err-place-clause-made
+returns-in_err-place-clause-made g c unsplit =
+    let p = err_from_is_err_and c.from_residual-in_err-place.result c.from_residual-in_err-place.ensures.1 in
+    rw (p.1, p.2) (place_refused _ _ _ _ _ (part_of c.in_ok-part.part) _ (record { nodes = refl; log = c.new.ensures.items; entries = refl; settings = refl; flag = refl })
+    (sym (rw c.deref.ensures.value at (c.in_ok-part.ensures.part (λ k. cc k) unsplit)))
+    (λ m. (sym (c.in_err-place.ensures.node (λ k. m (cc k))), c.in_err-place.ensures.picks (λ k. m (cc k)))))
+
+pub returns-in_err-place-clause-split : goal.returns-in_err-place-clause-split
+returns-in_err-place-clause-split g c split = cc (c.in_ok-part.ensures.split split)
+
+pub returns-clause-made : goal.returns-clause-made
+returns-clause-made g c unsplit =
+    let parts = rw c.deref.ensures.value at (c.in_ok-part.ensures.part (λ k. cc k) unsplit) in
+    let chain = rw (c.new.ensures.items, c.deref-2.ensures.value) at c.follow.ensures in
+    command_made _ _ _ _ _ (part_of c.in_ok-part.part) (hop_to c.in_ok-place.place) _ _ unsplit (sym parts) (sym (c.in_ok-place.ensures.node (λ k. cc k))) c.in_ok-place.ensures.direct (c.in_ok-place.ensures.picks (λ k. cc k)) chain
+
+pub returns-clause-split : goal.returns-clause-split
+returns-clause-split g c split = cc (c.in_ok-part.ensures.split split)

@@ -1,0 +1,284 @@
+-- A call of one command that is not split, from its one part's chain.
+use Rattle.std.specs.Prelude.{filter, ◌||◌, MatchBool, MatchOption, ⊤}
+use Rattle.std.specs.List.{list_any, AllByRecursion}
+use Rattle.std.proofs.Common.{◌≡◌, ◌≢◌, ℕ, ◌-◌, Bool, true, false, cond, List, [], ◌∷◌, ◌++◌, map, Option, Some, None, option_and_then, refl, sym, ap, ◌∙◌, subst, append-nil, Result, Ok, Err}
+use Rattle.std.proofs.lemmas.Bool.{false≢true}
+use Rattle.resp_core.specs.Trees.{Tree, nil}
+use Rattle.resp_core.specs.Errors.{Refusal, by_cause}
+use Rattle.resp_core.specs.declared.errors.redis_error.Cause.TheVariants.{Memory, NoNode, NoLink}
+use Rattle.resp_args.specs.Command.{Command}
+use Rattle.resp_args.specs.Packed.{sent}
+use Rattle.cluster_routing.specs.Address.{Address}
+use Rattle.cluster_routing.specs.Choice.{Strategy}
+use Rattle.cluster_routing.specs.Combine.{PartReply}
+use Rattle.cluster_routing.specs.Policies.{or_bad_reply}
+use Rattle.cluster_routing.specs.Routing.{Destination, destination}
+use Rattle.cluster_routing.specs.Split.{Split, split_of, has_split_word}
+use Rattle.cluster_client.specs.Links.Request.{Request, requests_to}
+use Rattle.cluster_client.specs.Links.Log.{Exchange, requests, is_answered, behind_answers}
+use Rattle.cluster_client.specs.Links.World.{World, open_links, is_linked}
+use Rattle.cluster_client.specs.Links.Faults.{LinkFault}
+use Rattle.cluster_client.specs.Links.Events.{Event, Runs, log_of, exchanges_of, Agrees, lack_memory, answered_moved}
+use Rattle.cluster_client.specs.Links.Nodes.{link_calls}
+use Rattle.cluster_client.specs.Links.Happened.{client_of, is_refresh, BeginsLegal, Happened, Answered, LeavesMap, CallMade}
+use Rattle.cluster_client.specs.Links.Run.{with_log}
+use Rattle.cluster_client.specs.Links.Converted.{value_answer}
+use Rattle.cluster_client.specs.Links.Chains.{IsChain, IsChainResult, ChainAnswered, ChainMade}
+use Rattle.cluster_client.specs.Links.FirstPlaces.{ArePicksAt, node_with_link}
+use Rattle.cluster_client.specs.Calls.Call.{Call, Refresh, Query, Ordered, Pipeline, FanOut, OnStreams}
+use Rattle.cluster_client.specs.Calls.Task.{Task, slot_map_of, one_command, pipeline_of, several_nodes, task_of}
+use Rattle.cluster_client.specs.Calls.Parts.{Part, parts_of, only_part, if_ordered, result_then}
+use Rattle.cluster_client.specs.Calls.Plan.{Client, Dispatch, First, first_of, target_candidates, dispatch_one, dispatches, in_order, unless_refused, call_parts, plan}
+use Rattle.cluster_client.specs.Calls.Picks.{IsPick, ArePartPicks, ArePicks}
+use Rattle.cluster_client.specs.Calls.Redirects.{Hop, Next, Stays, Lost, Goes, MatchNext, next_of, FollowsRedirects}
+use Rattle.cluster_client.specs.Calls.Legal.{PartByPart, IsLegalCall}
+use Rattle.cluster_client.specs.Calls.Replies.{exchange_slot, reply_or_nil, part_replies, reply_by_split, reply_of_parts}
+use Rattle.cluster_client.specs.Calls.Refusals.{part_refusal}
+use Rattle.cluster_client.specs.Calls.Answer.{Answer, Value, answer_of, call_answer, unless}
+use Rattle.cluster_client.proofs.LinkLaws.LinkCalls.{AreLinkCalls, link_calls_made}
+use Rattle.cluster_client.proofs.LinkLaws.MovedLaws.{answered_plain}
+use Rattle.cluster_client.proofs.LinkLaws.Played.{call_made}
+use Rattle.cluster_client.proofs.LogLaws.Plans.{not_split}
+
+-- ---- nothing was sent
+
+-- the world stays, but for its log, which is empty, and its picks
+pub record Untouched (old new : World) : Type 0 where
+  pub nodes : new.nodes ≡ old.nodes
+  pub log : new.log ≡ []
+  pub entries : new.entries ≡ old.entries
+  pub settings : new.settings ≡ old.settings
+  pub flag : new.needs_refresh ≡ old.needs_refresh
+
+pub or_none : (b : Bool) → (b || false) ≡ b
+or_none true = refl
+or_none false = refl
+
+pub no_link_calls : (task : Task) → [] ≡ link_calls task []
+no_link_calls (slot_map_of node) = refl
+no_link_calls (one_command command number order) = refl
+no_link_calls (pipeline_of entries) = refl
+no_link_calls (several_nodes command) = refl
+
+abbrev pub nothing_happened : (strategy : Option Strategy) (old new : World) (call : Call) → Untouched old new → Happened strategy old new call
+nothing_happened strategy old new call u = record {
+  events = [];
+  runs = u.nodes;
+  unsent = [];
+  logged = u.log;
+  calls = λ node. no_link_calls (task_of call);
+  picks = λ some. absurd (some u.log);
+  begins = λ some place. absurd (some u.log);
+  settings = u.settings;
+  map_stays = λ n. u.entries;
+  flag = λ n. u.flag ∙ sym (or_none old.needs_refresh);
+}
+
+-- memory was refused before anything was sent
+pub not_begun : (strategy : Option Strategy) (old new : World) (call : Call) → Untouched old new → CallMade strategy old new call (Err (by_cause Memory))
+not_begun strategy old new call u = call_made strategy old new call (Err (by_cause Memory)) (nothing_happened strategy old new call u) (λ m. absurd (m refl)) (λ e r. record { entries = u.entries; flag = u.flag })
+
+abbrev pub refused_by : Refusal → Result Answer Refusal
+refused_by e = Err e
+
+-- a check before sending was not met, or memory was refused before anything was sent
+pub not_sent : (strategy : Option Strategy) (old new : World) (call : Call) (refusal : Refusal) → is_refresh call ≡ false → Untouched old new
+    → (refused_by refusal ≢ Err (by_cause Memory) → (plan (client_of old) new.picked call ≡ Err refusal) × ArePicks strategy (client_of old) call new.picked) → CallMade strategy old new call (Err refusal)
+not_sent strategy old new call refusal n u why =
+    let h = nothing_happened strategy old new call u in
+    call_made strategy old new call (Err refusal) h
+    (λ m. let told = why m in
+    answered_plain strategy old new call (Err refusal) h n (no_calls (task_of call)) refl u.log told.1 (λ place. rw told.0 refl) (λ faults agrees place. rw told.0 refl))
+    (λ e r. absurd (false≢true (sym n ∙ r)))
+  where
+    no_calls : (task : Task) → AreLinkCalls task []
+    no_calls (slot_map_of node) = tt
+    no_calls (one_command command number order) = tt
+    no_calls (pipeline_of entries) = tt
+    no_calls (several_nodes command) = tt
+
+-- ---- the plan of one part
+
+dispatched : (links : List Address) (part : Part) (f : Option First) (node : Address) → node_with_link links f ≡ Ok node → dispatch_one links part f (λ left. Ok []) ≡ Ok (record { node = node; args = part.args } ∷ [])
+dispatched links part None node e = cc
+dispatched links part (Some first) node e = by (is_linked links first.node) refl e
+  where
+    by : (b : Bool) → is_linked links first.node ≡ b → cond b (Ok first.node) (Err (by_cause NoLink)) ≡ Ok node → dispatch_one links part (Some first) (λ left. Ok []) ≡ Ok (record { node = node; args = part.args } ∷ [])
+    by true t k = let same : first.node ≡ node = cc in rw (t, same) refl
+    by false t k = cc
+
+not_dispatched : (links : List Address) (part : Part) (f : Option First) (refusal : Refusal) → node_with_link links f ≡ Err refusal → dispatch_one links part f (λ left. Ok []) ≡ Err refusal
+not_dispatched links part None refusal e = let same : by_cause NoNode ≡ refusal = cc in ap (λ k. Err k) same
+not_dispatched links part (Some first) refusal e = by (is_linked links first.node) refl e
+  where
+    by : (b : Bool) → is_linked links first.node ≡ b → cond b (Ok first.node) (Err (by_cause NoLink)) ≡ Err refusal → dispatch_one links part (Some first) (λ left. Ok []) ≡ Err refusal
+    by true t k = cc
+    by false t k = let same : by_cause NoLink ≡ refusal = cc in rw (t, same) refl
+
+picked_so : (admits : Strategy) (client : Client) (part : Part) (picks : List Address) → ArePicksAt (Some admits) client.entries part.target picks → ArePartPicks admits client (part ∷ []) picks
+picked_so admits client part picks a = (a.0, by (first_of client.entries picks part.target) a.1)
+  where
+    by : (f : Option First) → MatchOption f (picks ≡ []) (λ (first : First). first.picks ≡ [])
+        → MatchOption f (picks ≡ []) (λ (first : First). MatchBool (is_linked client.links first.node) (ArePartPicks admits client [] first.picks) (first.picks ≡ []))
+    by None h = h
+    by (Some first) h = both (is_linked client.links first.node) h
+      where
+        both : (b : Bool) → first.picks ≡ [] → MatchBool b (ArePartPicks admits client [] first.picks) (first.picks ≡ [])
+        both true k = k
+        both false k = k
+
+module _ (strategy : Option Strategy) (client : Client) (command : Command) (number : ℕ) (part : Part) (picks : List Address) (parts : parts_of client.settings.read_only command number ≡ Ok (part ∷ [])) where
+  call_parts_are : call_parts client (Query command number) ≡ Ok (part ∷ [])
+  call_parts_are = ap (λ r. result_then r (if_ordered None)) parts
+
+  pub planned_one : (node : Address) → node_with_link client.links (first_of client.entries picks part.target) ≡ Ok node → plan client picks (Query command number) ≡ Ok (record { node = node; args = part.args } ∷ [])
+  planned_one node at =
+      ap (λ r. result_then r (λ ps. result_then (dispatches client picks ps) (λ ds. Ok (in_order None ds)))) call_parts_are
+      ∙ ap (λ r. result_then r (λ ds. Ok (in_order None ds))) (dispatched client.links part (first_of client.entries picks part.target) node at)
+
+  pub not_placed : (refusal : Refusal) → node_with_link client.links (first_of client.entries picks part.target) ≡ Err refusal → plan client picks (Query command number) ≡ Err refusal
+  not_placed refusal at =
+      ap (λ r. result_then r (λ ps. result_then (dispatches client picks ps) (λ ds. Ok (in_order None ds)))) call_parts_are
+      ∙ ap (λ r. result_then r (λ ds. Ok (in_order None ds))) (not_dispatched client.links part (first_of client.entries picks part.target) refusal at)
+
+  pub picks_are : ArePicksAt strategy client.entries part.target picks → ArePicks strategy client (Query command number) picks
+  picks_are a = by strategy a
+    where
+      by : (s : Option Strategy) → ArePicksAt s client.entries part.target picks → ArePicks s client (Query command number) picks
+      by None h = h
+      by (Some admits) h = rw call_parts_are (picked_so admits client part picks h)
+
+-- without a part there are no picks, and the call is refused as its part is
+pub unparted : (client : Client) (picks : List Address) (command : Command) (number : ℕ) (refusal : Refusal) → parts_of client.settings.read_only command number ≡ Err refusal → plan client picks (Query command number) ≡ Err refusal
+unparted client picks command number refusal parts =
+    ap (λ r. result_then (result_then r (if_ordered None)) (λ ps. result_then (dispatches client picks ps) (λ ds. Ok (in_order None ds)))) parts
+
+pub unparted_picks : (strategy : Option Strategy) (client : Client) (command : Command) (number : ℕ) (refusal : Refusal) → parts_of client.settings.read_only command number ≡ Err refusal → ArePicks strategy client (Query command number) []
+unparted_picks None client command number refusal parts = refl
+unparted_picks (Some admits) client command number refusal parts =
+    let are : call_parts client (Query command number) ≡ Err refusal = ap (λ r. result_then r (if_ordered None)) parts in
+    rw are refl
+
+-- the command has no part, or memory was refused before it was known
+pub part_refused : (strategy : Option Strategy) (old new : World) (command : Command) (number : ℕ) (refusal : Refusal) → Untouched old new → new.picked ≡ []
+    → (refused_by refusal ≢ Err (by_cause Memory) → parts_of old.settings.read_only command number ≡ Err refusal) → CallMade strategy old new (Query command number) (Err refusal)
+part_refused strategy old new command number refusal u picks why =
+    not_sent strategy old new (Query command number) refusal refl u
+    (λ m. (unparted (client_of old) new.picked command number refusal (why m), subst (λ ps. ArePicks strategy (client_of old) (Query command number) ps) (sym picks) (unparted_picks strategy (client_of old) command number refusal (why m))))
+
+-- no open link leads to the node of its one part, or memory was refused before it was known
+pub place_refused : (strategy : Option Strategy) (old new : World) (command : Command) (number : ℕ) (part : Part) (refusal : Refusal) → Untouched old new → parts_of old.settings.read_only command number ≡ Ok (part ∷ [])
+    → (refused_by refusal ≢ Err (by_cause Memory) → (node_with_link (open_links old.nodes) (first_of old.entries new.picked part.target) ≡ Err refusal) × ArePicksAt strategy old.entries part.target new.picked)
+    → CallMade strategy old new (Query command number) (Err refusal)
+place_refused strategy old new command number part refusal u parts why =
+    not_sent strategy old new (Query command number) refusal refl u
+    (λ m. (not_placed strategy (client_of old) command number part new.picked parts refusal (why m).0, picks_are strategy (client_of old) command number part new.picked parts (why m).1))
+
+-- ---- its chain is the log
+
+behind_either : (b : Bool) (xs : List Exchange) → xs ≡ [] → MatchBool b (xs ≡ []) (xs ≡ [])
+behind_either true xs k = k
+behind_either false xs k = k
+
+-- where a reply stops its chain, and where it goes on
+follows_by : (x : Exchange) (xs : List Exchange) (F G : Hop → Type 0) (n : Next) → ((hop : Hop) → F hop → G hop) → MatchNext n (xs ≡ []) F → MatchNext n (MatchBool (is_answered x) (xs ≡ []) (xs ≡ [])) G
+follows_by x xs F G Stays f h = behind_either (is_answered x) xs h
+follows_by x xs F G Lost f h = behind_either (is_answered x) xs h
+follows_by x xs F G (Goes next) f h = f next h
+
+chain_follows : (links : List Address) (left : ℕ) (hop : Hop) (args : List (List ℕ)) (xs : List Exchange) → FollowsRedirects links left hop args (λ last behind. behind ≡ []) xs
+    → FollowsRedirects links left hop args (λ x behind. MatchBool (is_answered x) (behind ≡ []) (behind ≡ [])) xs
+chain_follows links left hop args [] f = f
+chain_follows links left hop args (x ∷ xs) f = (f.0, follows_by x xs _ _ (next_of links left x.reply) (λ next h. chain_follows links (left - 1) next args xs h) f.1)
+
+-- ---- its answer
+
+none_behind : (xs : List Exchange) → list_any is_answered xs ≡ false → behind_answers xs ≡ xs
+none_behind [] e = refl
+none_behind (x ∷ xs) e = ap (λ b. cond b (behind_answers xs) (x ∷ xs)) e
+
+only_reply : (ys : List Exchange) (tree : Tree) → map reply_or_nil ys ≡ tree ∷ [] → reply_by_split None (map (λ x. record { slot = exchange_slot x; tree = reply_or_nil x }) ys) ≡ Some tree
+only_reply [] tree e = cc
+only_reply (y ∷ []) tree e = let same : reply_or_nil y ≡ tree = cc in ap Some same
+only_reply (y ∷ z ∷ ys) tree e = cc
+
+-- a command with a part goes somewhere
+goes_somewhere : (args : List (List ℕ)) (number : ℕ) (o : Option Destination) (ps : List Part) → only_part args number o ≡ Ok ps → (d : Destination) × (o ≡ Some d)
+goes_somewhere args number None ps e = cc
+goes_somewhere args number (Some d) ps e = (d, refl)
+
+whole_unsplit : (read_only : List (List ℕ)) (command : Command) (number : ℕ) (ps : List Part) → has_split_word command.args ≡ false → parts_of read_only command number ≡ Ok ps → split_of (sent command) ≡ None
+whole_unsplit read_only command number ps n e = by command.no_response refl e
+  where
+    by : (b : Bool) → command.no_response ≡ b → parts_of read_only command number ≡ Ok ps → split_of (sent command) ≡ None
+    by true t k = cc (ap (λ c. c) (rw (t) at k))
+    by false t k =
+        let only : only_part (sent command) number (destination command.args read_only) ≡ Ok ps = rw (t, n) at k in
+        let d = goes_somewhere (sent command) number (destination command.args read_only) ps only in
+        not_split command.args _ read_only d.0 n d.1
+
+answer_is : (command : Command) (number : ℕ) (client : Client) (faults : Address → LinkFault) (xs : List Exchange) (r : Result Tree Refusal) → split_of (sent command) ≡ None → IsChainResult client faults xs r
+    → value_answer r ≡ unless (part_refusal client faults (behind_answers xs)) (or_bad_reply (call_answer faults (Query command number) xs))
+answer_is command number client faults xs (Ok tree) whole (none, is) =
+    let reply : reply_of_parts (sent command) (part_replies xs) ≡ Some tree = ap (λ s. reply_by_split s (part_replies xs)) whole ∙ only_reply (filter is_answered xs) tree is in
+    rw (none, reply) refl
+answer_is command number client faults xs (Err refusal) whole (none, is) = rw (none_behind xs none, is) refl
+
+-- ---- the call
+
+module _ (strategy : Option Strategy) (old new : World) (command : Command) (number : ℕ) (part : Part) (hop : Hop) (picks : List Address) (r : Result Tree Refusal)
+    (unsplit : has_split_word command.args ≡ false) (parts : parts_of old.settings.read_only command number ≡ Ok (part ∷ []))
+    (at : node_with_link (open_links old.nodes) (first_of old.entries picks part.target) ≡ Ok hop.node) (direct' : hop.asking ≡ false)
+    (picked : ArePicksAt strategy old.entries part.target picks) (m : ChainMade (with_log old [] picks) new hop part.args r) where
+  abbrev call : Call
+  call = Query command number
+
+  plans : plan (client_of old) new.picked call ≡ Ok (record { node = hop.node; args = part.args } ∷ [])
+  plans = subst (λ ps. plan (client_of old) ps call ≡ Ok (record { node = hop.node; args = part.args } ∷ [])) (sym m.picked) (planned_one strategy (client_of old) command number part picks parts hop.node at)
+
+  are : ArePicks strategy (client_of old) call new.picked
+  are = subst (λ ps. ArePicks strategy (client_of old) call ps) (sym m.picked) (picks_are strategy (client_of old) command number part picks parts picked)
+
+  legal : (xs : List Exchange) → IsChain (client_of old) hop part.args xs → IsLegalCall (client_of old) new.picked call xs
+  legal xs c =
+      let first : hop ≡ record { node = hop.node; asking = false } = let a = direct' in λ i. record { node = hop.node; asking = a i } in
+      rw plans (subst (λ h. FollowsRedirects (open_links old.nodes) old.settings.budget h part.args (λ x behind. MatchBool (is_answered x) (behind ≡ []) (behind ≡ [])) xs) first
+      (chain_follows (open_links old.nodes) old.settings.budget hop part.args xs c))
+
+  abbrev happened : Happened strategy old new call
+  happened = record {
+    events = m.events;
+    runs = m.runs;
+    unsent = [];
+    logged = m.logged ∙ sym (append-nil (log_of m.events));
+    calls = λ node. link_calls_made old.nodes new.nodes m.events (task_of call) m.runs m.single node;
+    picks = λ some. are;
+    begins = λ some place. record { later = (m.begins place).0; more = requests (m.begins place).0; unsent_first = refl; legal = legal (exchanges_of place m.events ++ (m.begins place).0) (m.begins place).1 };
+    settings = m.settings;
+    map_stays = λ n. m.entries;
+    flag = λ n. m.flag;
+  }
+
+  pub command_made : CallMade strategy old new call (value_answer r)
+  command_made =
+      call_made strategy old new call (value_answer r) happened
+      (λ had. let a = m.answered (λ e. had (ap value_answer e)) in
+      answered_plain strategy old new call (value_answer r) happened refl m.single a.memory m.logged are
+      (λ place. legal (exchanges_of place m.events) (a.chain place))
+      (λ faults agrees place. rw plans (answer_is command number (client_of old) faults (exchanges_of place m.events) r (whole_unsplit old.settings.read_only command number (part ∷ []) unsplit parts) (a.tells faults agrees place))))
+      (λ e n. absurd (false≢true n))
+
+-- the world with another empty log and picks that are none
+pub relogged : (old : World) (log : List Request) (picked : List Address) → log ≡ [] → picked ≡ [] → with_log old log picked ≡ with_log old [] []
+relogged old log picked e f = λ i. with_log old (e i) (f i)
+
+abbrev pub failed : (A : Type 0) → Refusal → Result A Refusal
+failed A refusal = Err refusal
+
+abbrev pub refusal_or : {A : Type 0} → Refusal → Result A Refusal → Refusal
+refusal_or other (Ok a) = other
+refusal_or other (Err refusal) = refusal
+
+-- equal refusals of one type are equal
+pub same_refusal : (A : Type 0) (e f : Refusal) → failed A e ≡ failed A f → e ≡ f
+same_refusal A e f same = ap (refusal_or e) same

@@ -1,0 +1,13 @@
+pub mod Plans
+pub mod Planned
+pub mod PipePlans
+pub mod Bounds
+pub mod Repeats
+pub mod AnsweredOnce
+pub mod SentOnce
+pub mod SameLogs
+pub mod Gaps
+pub mod Order
+pub mod Routed
+pub mod Alike
+pub mod RespelledRuns

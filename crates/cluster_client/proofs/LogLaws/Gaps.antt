@@ -1,0 +1,187 @@
+-- A command with a gap routes as the arguments that it is sent as.
+use Rattle.std.proofs.Common.{◌≡◌, ℕ, zero, suc, ◌+◌, ◌<◌, ◌^◌, ◌&&◌, ◌||◌, Bool, true, false, not, cond, List, [], ◌∷◌, map, length, Option, Some, None, option_map, refl, sym, ap, ◌∙◌, arith, codes, nat_lt, ltb-true, decimal}
+use Rattle.std.specs.Prelude.{option_and_then, slice_get, unwrap_or}
+use Rattle.std.specs.List.{list_any, list_all, position_or_len, prefix_len}
+use Rattle.std.specs.Str.{str_eq_ignore_ascii_case, str_to_ascii_lowercase, bytes_eq}
+use Rattle.std.specs.Fmt.{digits}
+use Rattle.std.proofs.lemmas.Bool.{false≢true, and_parts}
+use Rattle.std.proofs.lemmas.Slice.Eq.{bytes_eq-Decides}
+use Rattle.std.proofs.lemmas.Fmt.{decimal-digits_of}
+use Rattle.std.specs.Int.Digits.{AllBelowBase, digits_of}
+use Rattle.std.proofs.lemmas.Int.Digits.{all_below_base_digits_of}
+use Rattle.resp_args.specs.Command.{Command}
+use Rattle.resp_args.specs.Packed.{sent, wire}
+use Rattle.resp_args.specs.declared.cmd.Arg.TheVariants.{Simple, Cursor}
+use Rattle.cluster_routing.specs.Command.{Args, bytes_of, all_bytes, is_one_of, name_by, place_of, is_word, if_counted}
+use Rattle.cluster_routing.specs.HashSlot.{hash_slot}
+use Rattle.resp_core.specs.Numbers.{number_below}
+use Rattle.cluster_routing.specs.Table.{Row, Rule, split, key_after_streams, counted_key_or_random, counted_key, key_at, random, all_masters, all_nodes, nowhere, table, families, is_family, rule_in, rule_of}
+use Rattle.cluster_routing.specs.Routing.{Destination, to_any_node, to_route, to_key, to_key_by_count, to_counted_key, to_key_behind, to_split, role_of, destination_by, destination}
+use Rattle.cluster_routing.specs.declared.route.Route.{Route}
+use Rattle.cluster_routing.specs.declared.route.SlotAddr.{SlotAddr}
+
+-- ---- the name of a family alone goes nowhere
+
+no_row : (rows : List Row) (w : List ℕ) (other : Rule) → list_all (λ (r : Row). not (is_one_of r.names w)) rows ≡ true → rule_in rows w other ≡ other
+no_row [] w other h = refl
+no_row (r ∷ rows) w other h = by (is_one_of r.names w) h (λ g. no_row rows w other g)
+  where
+    by : (b : Bool) → (not b && list_all (λ (r : Row). not (is_one_of r.names w)) rows) ≡ true → (list_all (λ (r : Row). not (is_one_of r.names w)) rows ≡ true → rule_in rows w other ≡ other) → cond b r.rule (rule_in rows w other) ≡ other
+    by true g ih = absurd (false≢true g)
+    by false g ih = ih g
+
+family_among : (fs : List (List ℕ)) (w : List ℕ) → list_all (λ f. list_all (λ (r : Row). not (is_one_of r.names f)) table) fs ≡ true → list_any (λ f. str_eq_ignore_ascii_case f w) fs ≡ true
+    → list_all (λ (r : Row). not (is_one_of r.names w)) table ≡ true
+family_among [] w a h = absurd (false≢true h)
+family_among (f ∷ fs) w a h = by (str_eq_ignore_ascii_case f w) refl h (λ g. family_among fs w both.1 g)
+  where
+    both : (list_all (λ (r : Row). not (is_one_of r.names f)) table ≡ true) × (list_all (λ g. list_all (λ (r : Row). not (is_one_of r.names g)) table) fs ≡ true)
+    both = and_parts (list_all (λ (r : Row). not (is_one_of r.names f)) table) (list_all (λ g. list_all (λ (r : Row). not (is_one_of r.names g)) table) fs) a
+
+    by : (b : Bool) → str_eq_ignore_ascii_case f w ≡ b → (b || list_any (λ g. str_eq_ignore_ascii_case g w) fs) ≡ true → (list_any (λ g. str_eq_ignore_ascii_case g w) fs ≡ true → list_all (λ (r : Row). not (is_one_of r.names w)) table ≡ true) → list_all (λ (r : Row). not (is_one_of r.names w)) table ≡ true
+    by true e g ih =
+        let same : str_to_ascii_lowercase f ≡ str_to_ascii_lowercase w = (bytes_eq-Decides (str_to_ascii_lowercase f) (str_to_ascii_lowercase w)).0 e in
+        ap (λ l. list_all (λ (r : Row). not (list_any (λ word. bytes_eq (str_to_ascii_lowercase word) l) r.names)) table) (sym same) ∙ both.0
+    by false e g ih = ih g
+
+families_apart : list_all (λ f. list_all (λ (r : Row). not (is_one_of r.names f)) table) families ≡ true
+unfolding table
+families_apart = refl
+
+pub family_nowhere : (w : List ℕ) → is_family w ≡ true → rule_of w true ≡ nowhere
+unfolding rule_of
+family_nowhere w h = no_row table w nowhere (family_among families w families_apart h)
+
+-- ---- arguments as they are sent
+
+abbrev pub as_sent : ℕ → Args → Args
+as_sent c args = map (λ bytes. Simple bytes) (wire c args)
+
+bytes_stay : (c : ℕ) (args : Args) (i : ℕ) (b : List ℕ) → bytes_of (slice_get args i) ≡ Some b → bytes_of (slice_get (as_sent c args) i) ≡ Some b
+bytes_stay c [] i b e = cc
+bytes_stay c (Simple x ∷ args) zero b e = e
+bytes_stay c (Cursor ∷ args) zero b e = cc
+bytes_stay c (a ∷ args) (suc i) b e = bytes_stay c args i b e
+
+all_stay : (c : ℕ) (args : Args) (bs : List (List ℕ)) → all_bytes args ≡ Some bs → all_bytes (as_sent c args) ≡ Some bs
+all_stay c [] bs e = e
+all_stay c (Cursor ∷ args) bs e = cc
+all_stay c (Simple x ∷ args) bs e = by (all_bytes args) refl e (λ r f. all_stay c args r f)
+  where
+    by : (o : Option (List (List ℕ))) → all_bytes args ≡ o → option_map (λ rest. x ∷ rest) o ≡ Some bs → ((r : List (List ℕ)) → all_bytes args ≡ Some r → all_bytes (as_sent c args) ≡ Some r) → option_map (λ rest. x ∷ rest) (all_bytes (as_sent c args)) ≡ Some bs
+    by None f g ih = cc
+    by (Some r) f g ih = ap (option_map (λ rest. x ∷ rest)) (ih r f) ∙ g
+
+key_stays : (c : ℕ) (role : SlotAddr) (args : Args) (i : ℕ) (d : Destination) → to_key role (slice_get args i) ≡ Some d → to_key role (slice_get (as_sent c args) i) ≡ Some d
+key_stays c role args i d e = by (bytes_of (slice_get args i)) refl e
+  where
+    by : (o : Option (List ℕ)) → bytes_of (slice_get args i) ≡ o → option_map (λ bytes. to_route (record { slot = hash_slot bytes; slot_addr = role })) o ≡ Some d → to_key role (slice_get (as_sent c args) i) ≡ Some d
+    by None h g = cc
+    by (Some b) h g = ap (λ o. option_map (λ bytes. to_route (record { slot = hash_slot bytes; slot_addr = role })) o) (bytes_stay c args i b h) ∙ g
+
+counted_stays : (c : ℕ) (role : SlotAddr) (elsewhere : Option Destination) (args : Args) (i : ℕ) (route : Route) → (elsewhere ≡ Some (to_route route) → ⊥)
+    → to_counted_key role elsewhere (slice_get args i) (slice_get args (i + 1)) ≡ Some (to_route route) → to_counted_key role elsewhere (slice_get (as_sent c args) i) (slice_get (as_sent c args) (i + 1)) ≡ Some (to_route route)
+counted_stays c role elsewhere args i route apart e = by (bytes_of (slice_get args i)) refl e
+  where
+    by_number : (n : Option ℕ) → to_key_by_count role elsewhere (slice_get args (i + 1)) n ≡ Some (to_route route) → to_key_by_count role elsewhere (slice_get (as_sent c args) (i + 1)) n ≡ Some (to_route route)
+    by_number None g = cc
+    by_number (Some zero) g = absurd (apart g)
+    by_number (Some (suc n)) g = key_stays c role args (i + 1) (to_route route) g
+
+    by : (o : Option (List ℕ)) → bytes_of (slice_get args i) ≡ o → to_key_by_count role elsewhere (slice_get args (i + 1)) (option_and_then (number_below (2 ^ 64)) o) ≡ Some (to_route route)
+        → to_counted_key role elsewhere (slice_get (as_sent c args) i) (slice_get (as_sent c args) (i + 1)) ≡ Some (to_route route)
+    by None h g = cc
+    by (Some b) h g =
+        ap (λ o. to_key_by_count role elsewhere (slice_get (as_sent c args) (i + 1)) (option_and_then (number_below (2 ^ 64)) o)) (bytes_stay c args i b h) ∙ by_number (number_below (2 ^ 64) b) g
+
+-- ---- a number is not the word behind which the keys stand
+
+prefix_stays : (c : ℕ) (word : List ℕ) → str_eq_ignore_ascii_case word (decimal c) ≡ false → (args : Args) → prefix_len (λ x. not (is_word word x)) (as_sent c args) ≡ prefix_len (λ x. not (is_word word x)) args
+prefix_stays c word apart [] = refl
+prefix_stays c word apart (Simple x ∷ args) = ap (λ n. cond (not (str_eq_ignore_ascii_case word x)) (1 + n) 0) (prefix_stays c word apart args)
+prefix_stays c word apart (Cursor ∷ args) = ap (λ b. cond (not b) (1 + (prefix_len (λ x. not (is_word word x)) (as_sent c args))) 0) apart ∙ ap (λ n. 1 + n) (prefix_stays c word apart args)
+
+length_stays : (c : ℕ) (args : Args) → length (as_sent c args) ≡ length args
+length_stays c [] = refl
+length_stays c (a ∷ args) = ap suc (length_stays c args)
+
+place_stays : (c : ℕ) (word : List ℕ) → str_eq_ignore_ascii_case word (decimal c) ≡ false → (args : Args) → place_of word (as_sent c args) ≡ place_of word args
+place_stays c word apart args =
+    ap (λ n. option_and_then if_counted (cond (nat_lt n (length (as_sent c args))) (Some n) None)) (prefix_stays c word apart args)
+    ∙ ap (λ l. option_and_then if_counted (cond (nat_lt (position_or_len (is_word word) args) l) (Some (position_or_len (is_word word) args)) None)) (length_stays c args)
+
+-- ---- the rules
+
+module _ (c : ℕ) (streams_apart : str_eq_ignore_ascii_case (codes "STREAMS") (decimal c) ≡ false) where
+  rule_stays : (role : SlotAddr) (args : Args) (rule : Rule) (route : Route) → destination_by role args rule ≡ Some (to_route route) → destination_by role (as_sent c args) rule ≡ Some (to_route route)
+  rule_stays role args (split pattern policy) route e = by (all_bytes args) refl e
+    where
+      by : (o : Option (List (List ℕ))) → all_bytes args ≡ o → option_and_then (to_split role pattern policy) o ≡ Some (to_route route) → option_and_then (to_split role pattern policy) (all_bytes (as_sent c args)) ≡ Some (to_route route)
+      by None f g = cc
+      by (Some bs) f g = ap (option_and_then (to_split role pattern policy)) (all_stay c args bs f) ∙ g
+  rule_stays role args key_after_streams route e = ap (to_key_behind role (as_sent c args)) (place_stays c (codes "STREAMS") streams_apart args) ∙ by (place_of (codes "STREAMS") args) e
+    where
+      by : (o : Option ℕ) → to_key_behind role args o ≡ Some (to_route route) → to_key_behind role (as_sent c args) o ≡ Some (to_route route)
+      by None g = cc
+      by (Some place) g = key_stays c role args (place + 1) (to_route route) g
+  rule_stays role args (counted_key_or_random i) route e = counted_stays c role (Some to_any_node) args i route (λ h. cc) e
+  rule_stays role args (counted_key i) route e = counted_stays c role None args i route (λ h. cc) e
+  rule_stays role args (key_at i) route e = key_stays c role args i (to_route route) e
+  rule_stays role args random route e = cc
+  rule_stays role args (all_masters policy) route e = cc
+  rule_stays role args (all_nodes policy) route e = cc
+  rule_stays role args nowhere route e = cc
+
+  abbrev by_name : List (List ℕ) → Args → List ℕ → Bool → Option Destination
+  by_name read_only args name family = destination_by (role_of name read_only) args (rule_of name family)
+
+  pub destination_stays : (args : Args) (read_only : List (List ℕ)) (route : Route) → destination args read_only ≡ Some (to_route route) → destination (as_sent c args) read_only ≡ Some (to_route route)
+  unfolding destination
+  destination_stays [] read_only route e = cc
+  destination_stays (Cursor ∷ args) read_only route e = cc
+  destination_stays (Simple word ∷ args) read_only route e = by (is_family word) refl e
+    where
+      whole : Args
+      whole = Simple word ∷ args
+
+      second : (o : Option (List ℕ)) → is_family word ≡ true → bytes_of (slice_get whole 1) ≡ o → by_name read_only whole (name_by word true o) true ≡ Some (to_route route)
+          → by_name read_only (as_sent c whole) (name_by word true (bytes_of (slice_get (as_sent c whole) 1))) true ≡ Some (to_route route)
+      second None f h g = let n : None ≡ Some (to_route route) = sym (ap (destination_by (role_of word read_only) whole) (family_nowhere word f)) ∙ g in cc
+      second (Some b) f h g =
+          ap (λ o. by_name read_only (as_sent c whole) (name_by word true o) true) (bytes_stay c whole 1 b h)
+          ∙ rule_stays (role_of (name_by word true (Some b)) read_only) whole (rule_of (name_by word true (Some b)) true) route g
+
+      by : (b : Bool) → is_family word ≡ b → by_name read_only whole (name_by word b (bytes_of (slice_get whole 1))) b ≡ Some (to_route route)
+          → by_name read_only (as_sent c whole) (name_by word b (bytes_of (slice_get (as_sent c whole) 1))) b ≡ Some (to_route route)
+      by true f g = second (bytes_of (slice_get whole 1)) f refl g
+      by false f g = rule_stays (role_of word read_only) whole (rule_of word false) route g
+
+-- ---- the law
+
+digit_apart : (d : ℕ) (ds : List ℕ) → d < 10 → str_eq_ignore_ascii_case (codes "STREAMS") ((48 + d) ∷ ds) ≡ false
+digit_apart zero ds h = refl
+digit_apart (suc zero) ds h = refl
+digit_apart (suc (suc zero)) ds h = refl
+digit_apart (suc (suc (suc zero))) ds h = refl
+digit_apart (suc (suc (suc (suc zero)))) ds h = refl
+digit_apart (suc (suc (suc (suc (suc zero))))) ds h = refl
+digit_apart (suc (suc (suc (suc (suc (suc zero)))))) ds h = refl
+digit_apart (suc (suc (suc (suc (suc (suc (suc zero))))))) ds h = refl
+digit_apart (suc (suc (suc (suc (suc (suc (suc (suc zero)))))))) ds h = refl
+digit_apart (suc (suc (suc (suc (suc (suc (suc (suc (suc zero))))))))) ds h = refl
+digit_apart (suc (suc (suc (suc (suc (suc (suc (suc (suc (suc d)))))))))) ds h = absurd (let f : ⊥ = omega (arith, h) in f)
+
+digits_apart : (ds : List ℕ) → AllBelowBase 10 ds → str_eq_ignore_ascii_case (codes "STREAMS") (map (λ d. 48 + d) ds) ≡ false
+digits_apart [] h = refl
+digits_apart (d ∷ ds) h = digit_apart d (map (λ e. 48 + e) ds) h.0
+
+number_apart : (c : ℕ) → c < 2 ^ 64 → str_eq_ignore_ascii_case (codes "STREAMS") (decimal c) ≡ false
+unfolding digits
+number_apart zero h = refl
+number_apart (suc n) h =
+    ap (str_eq_ignore_ascii_case (codes "STREAMS")) (decimal-digits_of (suc n) (omega arith) h) ∙ digits_apart (digits_of 10 (suc n)) (all_below_base_digits_of 10 (suc n) (omega arith))
+
+pub gaps_name_no_key : (command : Command) (read_only : List (List ℕ)) (route : Route) → nat_lt (unwrap_or command.cursor 0) (2 ^ 64) ≡ true
+    → destination command.args read_only ≡ Some (to_route route) → destination (map (λ bytes. Simple bytes) (sent command)) read_only ≡ Some (to_route route)
+gaps_name_no_key command read_only route small e =
+    destination_stays (unwrap_or command.cursor 0) (number_apart (unwrap_or command.cursor 0) (ltb-true (unwrap_or command.cursor 0) (2 ^ 64) small)) command.args read_only route e

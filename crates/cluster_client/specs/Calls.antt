@@ -1,0 +1,13 @@
+-- What a client is asked, what it sends for it, and what it answers: from the call to its parts, their first nodes, the redirects
+-- behind them, and the answer or the refusal that the replies make.
+pub mod Call
+pub mod Task
+pub mod Parts
+pub mod Plan
+pub mod Picks
+pub mod Redirects
+pub mod Legal
+pub mod Replies
+pub mod Refusals
+pub mod Answer
+pub mod After

@@ -1,0 +1,9 @@
+-- The claim that a cluster answers like one server: keyspaces, what commands mean on one server, honest nodes, and the laws.
+pub mod Keyspace
+pub mod Meaning
+pub mod Honest
+pub mod Commands
+pub mod Headline
+pub mod OneCall
+pub mod Laws
+pub mod Respelling

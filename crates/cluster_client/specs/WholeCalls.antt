@@ -1,0 +1,9 @@
+-- Whole calls, computed: their logs, their legality, their answers and refusals.
+pub mod Base
+pub mod Splits
+pub mod SlotParts
+pub mod RedirectedCalls
+pub mod Pipelines
+pub mod SeveralNodes
+pub mod Checks
+pub mod WrongRules

@@ -1,0 +1,154 @@
+//! How a parser takes its bytes up.
+use super::{LEVELS, Parser};
+use crate::parser::Head;
+use crate::parser::announced::announced_by;
+use crate::parser::counted::bytes_behind;
+use crate::parser::line::{LineEnd, line_end};
+use crate::parser::looked::seen;
+use crate::parser::marker::{Marker, marker_at};
+use crate::parser::stack::{Progress, enter, settle};
+use crate::parser::stop::Stop;
+use crate::value::Value;
+
+impl Parser {
+    ghost use Rattle.std.specs.Prelude.{◌≡◌};
+    ghost use Rattle.resp_core.specs.declared.parser.Head.TheVariants.{Fresh, Line, Bytes};
+    ghost use Rattle.resp_core.specs.Standing.{Looks};
+    ghost use Rattle.resp_core.specs.Advancing.{Advances, Reaches, Keeps};
+
+    /// Forgets what was handed out, once it is half of the buffer or more.
+    #[tactic(auto, using(crate::proofs::Fronts::front_dropped))]
+    pub(super) fn drop_front(&mut self)
+        ensures { Keeps self.old self.new }
+    {
+        let left = self.buffer.len() - self.front;
+        if self.front >= left {
+            self.buffer.copy_within(self.front.., 0);
+            self.buffer.truncate(left);
+            self.scanned -= self.front;
+            self.front = 0;
+        }
+    }
+
+    /// The next value.
+    pub(super) fn next_value(&mut self) -> Result<Value, Stop>
+        ensures reaches { Reaches result self.old self.new }
+        ensures looks { Looks self.old self.new }
+        ensures condition { self.new.condition ≡ self.old.condition }
+    {
+        loop {
+            if let Some(value) = self.advance()? {
+                return Ok(value);
+            }
+        }
+    }
+
+    // A type byte, a line, or counted bytes. It answers the value that is then whole, if one is.
+    fn advance(&mut self) -> Result<Option<Value>, Stop>
+        ensures advances { Advances result self.old self.new }
+        ensures looks { Looks self.old self.new }
+        ensures condition { self.new.condition ≡ self.old.condition }
+    {
+        match self.head {
+            Head::Fresh => self.begin(),
+            Head::Line(marker) => self.end_line(marker),
+            Head::Bytes(marker, count) => self.end_bytes(marker, count),
+        }
+    }
+
+    // The type byte.
+    fn begin(&mut self) -> Result<Option<Value>, Stop>
+        requires { self.old.head ≡ Fresh }
+        ensures advances { Advances result self.old self.new }
+        ensures looks { Looks self.old self.new }
+        ensures condition { self.new.condition ≡ self.old.condition }
+    {
+        let start = self.front;
+        if start == self.buffer.len() {
+            return Err(Stop::Short);
+        }
+        let byte = self.buffer[start];
+        self.looked = seen(self.looked, 1);
+        self.scanned = start + 1;
+        self.front = start + 1;
+        if self.frames.len() == LEVELS as usize {
+            return Err(Stop::Fault);
+        }
+        let Some(marker) = marker_at(byte) else {
+            return Err(Stop::Fault);
+        };
+        self.head = Head::Line(marker);
+        self.after_return = false;
+        Ok(None)
+    }
+
+    // The line, once its end is there.
+    fn end_line(&mut self, marker: Marker) -> Result<Option<Value>, Stop>
+        requires { self.old.head ≡ Line marker }
+        ensures advances { Advances result self.old self.new }
+        ensures looks { Looks self.old self.new }
+        ensures condition { self.new.condition ≡ self.old.condition }
+    {
+        let start = self.front;
+        let searched = self.scanned - start;
+        let length = match line_end(&self.buffer[start..], searched, self.after_return) {
+            LineEnd::At(length) => length,
+            LineEnd::GoesOn(after_return) => {
+                let all = self.buffer.len();
+                self.looked = seen(self.looked, all - self.scanned);
+                self.scanned = all;
+                self.after_return = after_return;
+                return Err(Stop::Short);
+            }
+        };
+        let end = start + length + 2;
+        self.looked = seen(self.looked, end - self.scanned);
+        self.scanned = end;
+        self.front = end;
+        self.head = Head::Fresh;
+        let alloc = *self.buffer.allocator();
+        let announced = announced_by(alloc, marker, &self.buffer[start..start + length])?;
+        match enter(alloc, &mut self.frames, marker, announced)? {
+            Progress::Whole(value) => Ok(Some(value)),
+            Progress::On(head) => {
+                self.head = head;
+                Ok(None)
+            }
+        }
+    }
+
+    // The counted bytes and their CR LF, once they are there.
+    fn end_bytes(&mut self, marker: Marker, count: u64) -> Result<Option<Value>, Stop>
+        requires { self.old.head ≡ Bytes marker count }
+        ensures advances { Advances result self.old self.new }
+        ensures looks { Looks self.old self.new }
+        ensures condition { self.new.condition ≡ self.old.condition }
+    {
+        let alloc = *self.buffer.allocator();
+        let all = self.buffer.len();
+        let taken = self.scanned - self.front;
+        match bytes_behind(alloc, marker, count, &self.buffer[self.front..], taken) {
+            Ok((value, rest)) => {
+                let end = all - rest.len();
+                self.looked = seen(self.looked, end - self.scanned);
+                self.scanned = end;
+                self.front = end;
+                self.head = Head::Fresh;
+                match settle(alloc, &mut self.frames, value)? {
+                    Progress::Whole(value) => Ok(Some(value)),
+                    Progress::On(head) => {
+                        self.head = head;
+                        Ok(None)
+                    }
+                }
+            }
+            Err(Stop::Short) => {
+                self.looked = seen(self.looked, all - self.scanned);
+                self.scanned = all;
+                Err(Stop::Short)
+            }
+            Err(Stop::Fault) => Err(Stop::Fault),
+            Err(Stop::Memory) => Err(Stop::Memory),
+        }
+    }
+}

@@ -1,0 +1,47 @@
+-- The records of the code as plain data.
+use Rattle.std.specs.Prelude.{pos, Bool, List, String, option_map, string_bytes, map as each}
+use Rattle.std.specs.Global.{Global}
+use Rattle.std.specs.declared.hash.FoldHasher.{FoldHasher}
+use Rattle.std.specs.declared.hash.BuildHasherDefault.{BuildHasherDefault}
+use Rattle.indexmap.specs.IndexMap.{IndexMap}
+use Rattle.resp_core.specs.declared.value.Value.{Value}
+use Rattle.resp_core.specs.View.{view}
+use Rattle.stream_commands.specs.Entries.{Entry, Fields}
+use Rattle.stream_commands.specs.ReadReply.{Row}
+use Rattle.stream_commands.specs.AutoClaim.{Claimed, AutoClaim}
+use Rattle.stream_commands.specs.declared.records.autoclaim.StreamAutoClaimReply.{StreamAutoClaimReply}
+use Rattle.stream_commands.specs.declared.records.entries.StreamId.{StreamId}
+use Rattle.stream_commands.specs.declared.records.read.StreamKey.{StreamKey}
+
+abbrev pub Map : Type 0 → Type 0
+Map V = IndexMap (String Global) V (BuildHasherDefault FoldHasher)
+
+abbrev pub fields_view : Map Value → Fields
+fields_view m = each (λ f. (string_bytes f.0, view f.1)) m.entries
+
+abbrev pub entry_view : StreamId → Entry
+entry_view s = record {
+  id = string_bytes s.id;
+  fields = fields_view s.map;
+  milliseconds = option_map pos s.milliseconds_elapsed_from_delivery;
+  deliveries = option_map pos s.delivered_count;
+}
+
+abbrev pub entries_view : List StreamId → List Entry
+entries_view ids = each entry_view ids
+
+abbrev pub row_view : StreamKey → Row
+row_view k = record { key = string_bytes k.key; entries = entries_view k.ids.items }
+
+abbrev pub rows_view : List StreamKey → List Row
+rows_view keys = each row_view keys
+
+abbrev pub claimed_view : List StreamId → Bool → Claimed
+claimed_view ids invalid = record { entries = entries_view ids; some_invalid = invalid }
+
+abbrev pub autoclaim_view : StreamAutoClaimReply → AutoClaim
+autoclaim_view r = record {
+  next = string_bytes r.next_stream_id;
+  claimed = claimed_view r.claimed.items r.invalid_entries;
+  deleted = each string_bytes r.deleted_ids.items;
+}

@@ -1,0 +1,252 @@
+//! Entries of streams.
+ghost use Rattle.std.specs.Prelude.{◌≡◌, ◌++◌, false, List, pos, string_bytes, option_map, map as each, MatchResult, None};
+ghost use Rattle.std.specs.List.{flat_map};
+ghost use Rattle.resp_core.specs.Errors.{no_memory};
+ghost use Rattle.stream_commands.specs.Entries.{Entry, without_times, with_times, entries, claimed_entries};
+ghost use Rattle.stream_commands.specs.RecordViews.{entry_view, entries_view, fields_view};
+
+use crate::records::fields::{Fields, copy_fields};
+use crate::records::one;
+use indexmap::IndexMap;
+use resp_args::FromRedisValue;
+use resp_core::{ParsingError, RedisError, Value};
+use std::alloc::{AllocError, Global};
+
+/// An entry of a stream.
+#[derive(Drop, Debug)]
+pub struct StreamId {
+    /// Its id.
+    pub id: String,
+    /// Its fields in order of arrival.
+    pub map: IndexMap<String, Value>,
+    /// For how many milliseconds it has been delivered, where the reply tells it.
+    pub milliseconds_elapsed_from_delivery: Option<usize>,
+    /// How often it was delivered, where the reply tells it.
+    pub delivered_count: Option<usize>,
+}
+
+impl StreamId {
+    ghost use Rattle.std.specs.Prelude.{length, is_some, nat_eq, option_and_then};
+    ghost use Rattle.resp_core.specs.Errors.{unread};
+    ghost use Rattle.stream_commands.specs.StreamInfo.{no_entry};
+    ghost use Rattle.stream_commands.specs.UnderNames.{under};
+
+    /// An entry of which nothing is known.
+    pub fn empty(alloc: Global) -> StreamId
+        ensures { entry_view result ≡ no_entry }
+    {
+        StreamId {
+            id: String::new(alloc),
+            map: IndexMap::new(alloc),
+            milliseconds_elapsed_from_delivery: None,
+            delivered_count: None,
+        }
+    }
+
+    /// The value of a field, read as a `T`: none where there is no such field, or where its value
+    /// is read as no `T`.
+    pub fn get<T: FromRedisValue>(&self, key: &str) -> Result<Option<T>, RedisError>
+        ensures { MatchResult result (λ o. option_map T.meaning o ≡ option_and_then T.convert (under key.now (fields_view self.now.map))) (λ e. e ≡ unread no_memory) }
+    {
+        match self.map.get(key) {
+            None => Ok(None),
+            Some(value) => match T::from_redis_value_ref(*self.id.allocator(), value) {
+                Ok(read) => Ok(Some(read)),
+                Err(e) => {
+                    if e.is_memory() {
+                        Err(RedisError::from(e))
+                    } else {
+                        Ok(None)
+                    }
+                }
+            },
+        }
+    }
+
+    /// Whether there is a field of this name. It takes no memory.
+    pub fn contains_key(&self, key: &str) -> bool
+        ensures { result ≡ is_some (under key.now (fields_view self.now.map)) }
+    {
+        self.map.contains_key(key)
+    }
+
+    /// How many fields there are. It takes no memory.
+    pub fn len(&self) -> usize
+        ensures { result ≡ length (fields_view self.now.map) }
+    {
+        self.map.len()
+    }
+
+    /// Whether there is no field. It takes no memory.
+    pub fn is_empty(&self) -> bool
+        ensures { result ≡ nat_eq (length (fields_view self.now.map)) 0 }
+    {
+        self.map.len() == 0
+    }
+}
+
+/// A copy with equal fields in the same order. It is refused for want of memory alone.
+impl Clone for StreamId {
+    ghost is_clone = { λ entry copy. entry_view copy ≡ entry_view entry };
+
+    fn clone(&self) -> Result<StreamId, AllocError> {
+        let id = self.id.clone()?;
+        let map = copy_fields(*self.id.allocator(), &self.map)?;
+        Ok(StreamId {
+            id,
+            map,
+            milliseconds_elapsed_from_delivery: self.milliseconds_elapsed_from_delivery,
+            delivered_count: self.delivered_count,
+        })
+    }
+}
+
+/// A form in which a reply lists entries.
+pub(crate) trait EntryForm: Drop {
+    /// The entries that it lists.
+    ghost lists: { Self → List Entry };
+
+    /// The entries in order. It takes no memory.
+    fn into_ids(self) -> Vec<StreamId>
+        ensures { entries_view result.items ≡ lists self };
+}
+
+/// Entries in standard form: each an id with fields.
+#[derive(Drop)]
+pub(crate) struct Entries {
+    pub(crate) ids: Vec<StreamId>,
+}
+
+impl FromRedisValue for Entries {
+    ghost Meaning = { List Entry };
+
+    ghost meaning = { λ e. entries_view e.ids.items };
+
+    ghost same = { λ _ _. false };
+
+    ghost convert = { entries };
+
+    ghost byte_item = { None };
+
+    fn from_redis_value(alloc: Global, value: Value) -> Result<Entries, ParsingError> {
+        let maps = Vec::<IndexMap<String, Fields>>::from_redis_value(alloc, value)?;
+        Ok(Entries {
+            ids: list_entries(alloc, maps)?,
+        })
+    }
+
+    fn from_redis_value_ref(alloc: Global, value: &Value) -> Result<Entries, ParsingError> {
+        let maps = Vec::<IndexMap<String, Fields>>::from_redis_value_ref(alloc, value)?;
+        Ok(Entries {
+            ids: list_entries(alloc, maps)?,
+        })
+    }
+
+    fn from_byte_vec(alloc: Global, bytes: Vec<u8>) -> Result<Vec<Entries>, ParsingError> {
+        let value = Entries::from_redis_value(alloc, Value::BulkString(bytes))?;
+        one(alloc, value)
+    }
+}
+
+impl EntryForm for Entries {
+    ghost lists = { λ e. entries_view e.ids.items };
+
+    fn into_ids(self) -> Vec<StreamId> {
+        let Entries { ids } = self;
+        ids
+    }
+}
+
+fn list_entries(
+    alloc: Global,
+    maps: Vec<IndexMap<String, Fields>>,
+) -> Result<Vec<StreamId>, ParsingError>
+    ensures { MatchResult result (λ v. entries_view v.items ≡ flat_map (λ m. each (λ e. without_times (string_bytes e.0, fields_view e.1)) m.entries) maps.items) (λ e. e ≡ no_memory) }
+{
+    let mut ids = Vec::new(alloc);
+    for map in maps {
+        add_entries(&mut ids, map)?;
+    }
+    Ok(ids)
+}
+
+fn add_entries(
+    ids: &mut Vec<StreamId>,
+    entries: IndexMap<String, Fields>,
+) -> Result<(), ParsingError>
+    ensures { MatchResult result (λ _. entries_view ids.new.items ≡ entries_view ids.old.items ++ each (λ e. without_times (string_bytes e.0, fields_view e.1)) entries.entries) (λ e. e ≡ no_memory) }
+{
+    for (id, map) in entries {
+        ids.push(StreamId {
+            id,
+            map,
+            milliseconds_elapsed_from_delivery: None,
+            delivered_count: None,
+        })?;
+    }
+    Ok(())
+}
+
+type Claimed = (String, Fields, Option<usize>, Option<usize>);
+
+/// Entries in claim form: each an id, fields, and when and how often it was delivered.
+#[derive(Drop)]
+pub(crate) struct ClaimedEntries {
+    pub(crate) ids: Vec<StreamId>,
+}
+
+impl FromRedisValue for ClaimedEntries {
+    ghost Meaning = { List Entry };
+
+    ghost meaning = { λ e. entries_view e.ids.items };
+
+    ghost same = { λ _ _. false };
+
+    ghost convert = { claimed_entries };
+
+    ghost byte_item = { None };
+
+    fn from_redis_value(alloc: Global, value: Value) -> Result<ClaimedEntries, ParsingError> {
+        let claimed = Vec::<Claimed>::from_redis_value(alloc, value)?;
+        Ok(ClaimedEntries {
+            ids: list_claimed(alloc, claimed)?,
+        })
+    }
+
+    fn from_redis_value_ref(alloc: Global, value: &Value) -> Result<ClaimedEntries, ParsingError> {
+        let claimed = Vec::<Claimed>::from_redis_value_ref(alloc, value)?;
+        Ok(ClaimedEntries {
+            ids: list_claimed(alloc, claimed)?,
+        })
+    }
+
+    fn from_byte_vec(alloc: Global, bytes: Vec<u8>) -> Result<Vec<ClaimedEntries>, ParsingError> {
+        let value = ClaimedEntries::from_redis_value(alloc, Value::BulkString(bytes))?;
+        one(alloc, value)
+    }
+}
+
+impl EntryForm for ClaimedEntries {
+    ghost lists = { λ e. entries_view e.ids.items };
+
+    fn into_ids(self) -> Vec<StreamId> {
+        let ClaimedEntries { ids } = self;
+        ids
+    }
+}
+
+fn list_claimed(alloc: Global, claimed: Vec<Claimed>) -> Result<Vec<StreamId>, ParsingError>
+    ensures { MatchResult result (λ v. entries_view v.items ≡ each (λ e. with_times (string_bytes e.0, fields_view e.1, option_map pos e.2, option_map pos e.3)) claimed.items) (λ e. e ≡ no_memory) }
+{
+    let mut ids = Vec::with_capacity(alloc, claimed.len())?;
+    for entry in claimed {
+        let (id, map, milliseconds, count) = entry;
+        ids.push(StreamId {
+            id,
+            map,
+            milliseconds_elapsed_from_delivery: milliseconds,
+            delivered_count: count,
+        })?;
+    }
+    Ok(ids)
+}

@@ -1,0 +1,132 @@
+//! Replies to XREAD and XREADGROUP.
+ghost use Rattle.std.specs.Prelude.{◌≡◌, [], ◌++◌, false, List, string_bytes, map as each, MatchResult, None};
+ghost use Rattle.std.specs.List.{flat_map};
+ghost use Rattle.resp_core.specs.Errors.{no_memory};
+ghost use Rattle.resp_core.specs.View.{view};
+ghost use Rattle.resp_args.specs.Convert.{Answers};
+ghost use Rattle.stream_commands.specs.Entries.{entries, claimed_entries};
+ghost use Rattle.stream_commands.specs.ReadReply.{Row, row, rows, read_reply};
+ghost use Rattle.stream_commands.specs.RecordViews.{row_view, rows_view};
+
+use crate::records::entries::{ClaimedEntries, Entries, EntryForm, StreamId};
+use crate::records::one;
+use indexmap::IndexMap;
+use resp_args::FromRedisValue;
+use resp_core::{ParsingError, Value};
+use std::alloc::Global;
+
+/// A stream's key, and entries of the stream.
+#[derive(Clone, Drop, Debug)]
+pub struct StreamKey {
+    /// The key.
+    pub key: String,
+    /// The entries in order.
+    pub ids: Vec<StreamId>,
+}
+
+/// The entries that were read of each stream.
+#[derive(Clone, Drop, Debug)]
+pub struct StreamReadReply {
+    /// The streams in order of arrival.
+    pub keys: Vec<StreamKey>,
+}
+
+impl StreamKey {
+    /// An empty key without entries.
+    pub fn empty(alloc: Global) -> StreamKey
+        ensures { row_view result ≡ row ([], []) }
+    {
+        StreamKey {
+            key: String::new(alloc),
+            ids: Vec::new(alloc),
+        }
+    }
+}
+
+impl StreamReadReply {
+    /// A reply of no stream.
+    pub fn empty(alloc: Global) -> StreamReadReply
+        ensures { rows_view result.keys.items ≡ [] }
+    {
+        StreamReadReply {
+            keys: Vec::new(alloc),
+        }
+    }
+}
+
+/// Rows in standard form, and only where that is refused rows in claim form.
+impl FromRedisValue for StreamReadReply {
+    ghost Meaning = { List Row };
+
+    ghost meaning = { λ r. rows_view r.keys.items };
+
+    ghost same = { λ _ _. false };
+
+    ghost convert = { read_reply };
+
+    ghost byte_item = { None };
+
+    fn from_redis_value(alloc: Global, value: Value) -> Result<StreamReadReply, ParsingError> {
+        StreamReadReply::from_redis_value_ref(alloc, &value)
+    }
+
+    fn from_redis_value_ref(alloc: Global, value: &Value) -> Result<StreamReadReply, ParsingError> {
+        match standard_rows(alloc, value) {
+            Ok(keys) => Ok(StreamReadReply { keys }),
+            Err(e) => {
+                if e.is_memory() {
+                    return Err(e);
+                }
+                Ok(StreamReadReply {
+                    keys: claimed_rows(alloc, value)?,
+                })
+            }
+        }
+    }
+
+    fn from_byte_vec(alloc: Global, bytes: Vec<u8>) -> Result<Vec<StreamReadReply>, ParsingError> {
+        let value = StreamReadReply::from_redis_value(alloc, Value::BulkString(bytes))?;
+        one(alloc, value)
+    }
+}
+
+fn standard_rows(alloc: Global, value: &Value) -> Result<Vec<StreamKey>, ParsingError>
+    ensures { Answers (λ v. rows_view v.items) (rows entries (view value.now)) result }
+{
+    let maps = Vec::<IndexMap<String, Entries>>::from_redis_value_ref(alloc, value)?;
+    all_rows(alloc, maps)
+}
+
+fn claimed_rows(alloc: Global, value: &Value) -> Result<Vec<StreamKey>, ParsingError>
+    ensures { Answers (λ v. rows_view v.items) (rows claimed_entries (view value.now)) result }
+{
+    let maps = Vec::<IndexMap<String, ClaimedEntries>>::from_redis_value_ref(alloc, value)?;
+    all_rows(alloc, maps)
+}
+
+// The rows of all maps in order.
+fn all_rows<F: EntryForm>(
+    alloc: Global,
+    maps: Vec<IndexMap<String, F>>,
+) -> Result<Vec<StreamKey>, ParsingError>
+    ensures { MatchResult result (λ v. rows_view v.items ≡ flat_map (λ m. each (λ e. row (string_bytes e.0, F.lists e.1)) m.entries) maps.items) (λ e. e ≡ no_memory) }
+{
+    let mut keys = Vec::new(alloc);
+    for map in maps {
+        add_rows(&mut keys, map)?;
+    }
+    Ok(keys)
+}
+
+fn add_rows<F: EntryForm>(
+    keys: &mut Vec<StreamKey>,
+    rows: IndexMap<String, F>,
+) -> Result<(), ParsingError>
+    ensures { MatchResult result (λ _. rows_view keys.new.items ≡ rows_view keys.old.items ++ each (λ e. row (string_bytes e.0, F.lists e.1)) rows.entries) (λ e. e ≡ no_memory) }
+{
+    for (key, entries) in rows {
+        let ids = entries.into_ids();
+        keys.push(StreamKey { key, ids })?;
+    }
+    Ok(())
+}
