@@ -1,6 +1,6 @@
 //! What a session uses of the client, each call in one place.
 use crate::session::lines::LineError;
-use crate::session::script::Incoming;
+use crate::session::script::Node;
 use cluster_client::{Asked, ByteLink, ClusterClient, MemoryReader, MemoryWriter, NodeAddress};
 use resp_args::Cmd;
 use resp_core::{ErrorKind, RedisError, Value};
@@ -23,19 +23,20 @@ pub(super) fn address(alloc: Global, word: &str) -> Result<NodeAddress, LineErro
     }
 }
 
-/// A link from which these bytes come.
-pub(super) fn link(alloc: Global, incoming: Incoming) -> Link {
-    let reader = MemoryReader::new(incoming.bytes, incoming.piece, 0);
-    ByteLink::new(alloc, reader, MemoryWriter::new(alloc, 0))
+/// A link to a node as it is set up.
+pub(super) fn link(alloc: Global, node: Node) -> Link {
+    let reader = MemoryReader::new(node.bytes, node.piece, node.failing_read);
+    ByteLink::new(alloc, reader, MemoryWriter::new(alloc, node.failing_write))
 }
 
 /// A client over these links that follows at most `budget` redirects for a request.
 pub(super) fn client(
     alloc: Global,
     links: Vec<(NodeAddress, Link)>,
+    read_only: Vec<Vec<u8>>,
     budget: u16,
 ) -> Result<Client, RedisError> {
-    ClusterClient::new(alloc, links, Vec::new(alloc), budget)
+    ClusterClient::new(alloc, links, read_only, budget)
 }
 
 /// The command of these arguments.

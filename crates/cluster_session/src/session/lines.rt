@@ -1,6 +1,6 @@
 //! A line of a session: its words and what they say.
 use crate::session::calls;
-use crate::session::script::{Call, Incoming, Line};
+use crate::session::script::{Access, Call, Line, Node};
 use hex::FromHexError;
 use std::alloc::{AllocError, AllocFailed, Global};
 
@@ -44,7 +44,7 @@ pub(super) fn read_line(alloc: Global, line: &[u8]) -> Result<Option<Line>, Line
         return Ok(None);
     }
     match str::from_utf8(line) {
-        Ok(text) => Ok(Some(read_words(alloc, text)?)),
+        Ok(text) => Ok(Some(read_text(alloc, text)?)),
         Err(_) => Err(LineError::Bad),
     }
 }
@@ -54,15 +54,37 @@ fn is_skipped(line: &[u8]) -> bool {
     matches!(line, [] | [b'#', ..])
 }
 
+fn read_text(alloc: Global, text: &str) -> Result<Line, LineError> {
+    match text.strip_prefix("readonly ") {
+        Some(name) => Ok(Line::ReadOnly(name_of(alloc, name)?)),
+        None => read_words(alloc, text),
+    }
+}
+
+/// The name that is the rest of a line.
+fn name_of(alloc: Global, rest: &str) -> Result<Vec<u8>, LineError> {
+    if rest.is_empty() {
+        return Err(LineError::Bad);
+    }
+    Ok(Vec::from_slice(alloc, rest.as_bytes())?)
+}
+
 fn read_words(alloc: Global, text: &str) -> Result<Line, LineError> {
     let words: Vec<&str> = text.split(' ').collect(alloc)?;
     match words.as_slice() {
         ["node", address, piece, bytes] => Ok(Line::Node(
             calls::address(alloc, address)?,
-            Incoming {
+            Node {
                 piece: piece_of(piece)?,
                 bytes: bytes_of(alloc, bytes)?,
+                failing_read: 0,
+                failing_write: 0,
             },
+        )),
+        ["fault", address, access, number] => Ok(Line::Fault(
+            calls::address(alloc, address)?,
+            access_of(access)?,
+            count_of(number)?,
         )),
         ["budget", budget] => Ok(Line::Budget(budget_of(budget)?)),
         ["refresh", address] => Ok(Line::Call(Call::Refresh(calls::address(alloc, address)?))),
@@ -76,6 +98,22 @@ fn read_words(alloc: Global, text: &str) -> Result<Line, LineError> {
 
 fn number_of(word: &str) -> Result<u64, LineError> {
     word.parse::<u64>().map_err(|_| LineError::Bad)
+}
+
+/// A number from 1.
+fn count_of(word: &str) -> Result<u64, LineError> {
+    match number_of(word)? {
+        0 => Err(LineError::Bad),
+        number => Ok(number),
+    }
+}
+
+fn access_of(word: &str) -> Result<Access, LineError> {
+    match word {
+        "read" => Ok(Access::Read),
+        "write" => Ok(Access::Write),
+        _ => Err(LineError::Bad),
+    }
 }
 
 fn piece_of(word: &str) -> Result<usize, LineError> {

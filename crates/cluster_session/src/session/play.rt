@@ -3,7 +3,7 @@ ghost use Rattle.std.specs.Prelude.{◌≡◌, IfOk, string_bytes};
 ghost use Rattle.cluster_session.specs.Output.{GoesWith, fault_line};
 
 use crate::session::calls::{Client, Link};
-use crate::session::script::{Call, Incoming, Script, ScriptError};
+use crate::session::script::{Call, Node, Script, ScriptError};
 use crate::session::{calls, print};
 use cluster_client::NodeAddress;
 use resp_core::{Cause, RedisError};
@@ -45,11 +45,12 @@ fn play_script(alloc: Global, script: Script) -> Result<Played, RedisError>
 {
     let Script {
         nodes,
+        read_only,
         budget,
         calls,
     } = script;
     let links = links(alloc, nodes)?;
-    let mut client = calls::client(alloc, links, budget.unwrap_or(BUDGET))?;
+    let mut client = calls::client(alloc, links, read_only, budget.unwrap_or(BUDGET))?;
     let mut output = String::new(alloc);
     play_calls(&mut output, alloc, &mut client, calls.as_slice())?;
     print_sent(&mut output, calls::links(&client))?;
@@ -59,11 +60,11 @@ fn play_script(alloc: Global, script: Script) -> Result<Played, RedisError>
 /// A link for each node, in the ascending order of the addresses.
 fn links(
     alloc: Global,
-    nodes: BTreeMap<NodeAddress, Incoming>,
+    nodes: BTreeMap<NodeAddress, Node>,
 ) -> Result<Vec<(NodeAddress, Link)>, AllocError> {
     let mut links = Vec::with_capacity(alloc, nodes.len())?;
-    for (address, incoming) in nodes {
-        links.push((address, calls::link(alloc, incoming)))?;
+    for (address, node) in nodes {
+        links.push((address, calls::link(alloc, node)))?;
     }
     Ok(links)
 }

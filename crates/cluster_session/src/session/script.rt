@@ -4,11 +4,36 @@ use cluster_client::NodeAddress;
 use std::alloc::{AllocFailed, Global};
 use std::collections::BTreeMap;
 
-/// The bytes that come from a node, at most `piece` a read.
+/// What is set up for a node: the bytes that come from it, at most `piece` a read, and the numbers
+/// of the read and of the write that fail, counted from 1; 0 where none does.
 #[derive(Drop)]
-pub(super) struct Incoming {
+pub(super) struct Node {
     pub piece: usize,
     pub bytes: Vec<u8>,
+    pub failing_read: u64,
+    pub failing_write: u64,
+}
+
+/// What a client does with a node's device.
+#[derive(Clone, Copy, Debug, PartialEq, Eq)]
+pub(super) enum Access {
+    Read,
+    Write,
+}
+
+impl Node {
+    // Refused where an access of this kind fails already.
+    fn set_fault(&mut self, access: Access, number: u64) -> Result<(), LineError> {
+        let failing = match access {
+            Access::Read => &mut self.failing_read,
+            Access::Write => &mut self.failing_write,
+        };
+        if *failing != 0 {
+            return Err(LineError::Bad);
+        }
+        *failing = number;
+        Ok(())
+    }
 }
 
 /// A call that a session makes.
@@ -21,7 +46,9 @@ pub(super) enum Call {
 /// What a line says.
 #[derive(Drop)]
 pub(super) enum Line {
-    Node(NodeAddress, Incoming),
+    Node(NodeAddress, Node),
+    Fault(NodeAddress, Access, u64),
+    ReadOnly(Vec<u8>),
     Budget(u16),
     Call(Call),
 }
@@ -35,11 +62,12 @@ pub(super) enum ScriptError {
     Memory,
 }
 
-/// A session: what comes from each node, a budget of redirects where a line sets it, and the calls
-/// in order.
+/// A session: what is set up for each node, the names of commands that only read, a budget of
+/// redirects where a line sets it, and the calls in order.
 #[derive(Drop)]
 pub(super) struct Script {
-    pub nodes: BTreeMap<NodeAddress, Incoming>,
+    pub nodes: BTreeMap<NodeAddress, Node>,
+    pub read_only: Vec<Vec<u8>>,
     pub budget: Option<u16>,
     pub calls: Vec<Call>,
 }
@@ -51,6 +79,7 @@ impl Script {
     fn empty(alloc: Global) -> Script {
         Script {
             nodes: BTreeMap::new(alloc),
+            read_only: Vec::new(alloc),
             budget: None,
             calls: Vec::new(alloc),
         }
@@ -74,18 +103,45 @@ impl Script {
     fn add_line(&mut self, alloc: Global, line: &[u8]) -> Result<(), LineError> {
         match read_line(alloc, line)? {
             None => Ok(()),
-            Some(Line::Node(address, incoming)) => self.add_node(address, incoming),
+            Some(Line::Node(address, node)) => self.add_node(address, node),
+            Some(Line::Fault(address, access, number)) => self.add_fault(&address, access, number),
+            Some(Line::ReadOnly(name)) => self.add_read_only(name),
             Some(Line::Budget(budget)) => self.set_budget(budget),
             Some(Line::Call(call)) => self.add_call(call),
         }
     }
 
     // Refused behind a call, and where the address has a node already.
-    fn add_node(&mut self, address: NodeAddress, incoming: Incoming) -> Result<(), LineError> {
+    fn add_node(&mut self, address: NodeAddress, node: Node) -> Result<(), LineError> {
         if !self.calls.is_empty() || self.nodes.contains_key(&address) {
             return Err(LineError::Bad);
         }
-        self.nodes.insert(address, incoming)?;
+        self.nodes.insert(address, node)?;
+        Ok(())
+    }
+
+    // Refused behind a call, and where no line above sets up the node.
+    fn add_fault(
+        &mut self,
+        address: &NodeAddress,
+        access: Access,
+        number: u64,
+    ) -> Result<(), LineError> {
+        if !self.calls.is_empty() {
+            return Err(LineError::Bad);
+        }
+        match self.nodes.get_mut(address) {
+            None => Err(LineError::Bad),
+            Some(node) => node.set_fault(access, number),
+        }
+    }
+
+    // Refused behind a call.
+    fn add_read_only(&mut self, name: Vec<u8>) -> Result<(), LineError> {
+        if !self.calls.is_empty() {
+            return Err(LineError::Bad);
+        }
+        self.read_only.push(name)?;
         Ok(())
     }
 
