@@ -5,9 +5,9 @@ pub mod Reply
 pub mod Log
 pub mod World
 pub mod Places
-pub mod Leaves
 pub mod Faults
 pub mod Events
+pub mod Leaves
 pub mod Nodes
 pub mod Happened
 pub mod Run

@@ -1,9 +1,15 @@
 //! Laws of every call of a cluster client, over plain data.
 ghost use Rattle.cluster_routing.specs.CombineLaws.{OrderOfParts, OrderOfReplies, PartsAreRouted, SubsRouteToTheirSlot};
+ghost use Rattle.cluster_client.specs.Links.Leaves.{UnaskedNodesStay};
 ghost use Rattle.cluster_client.specs.OneServer.Headline.{AnswersAndKeyspace, Refusals};
 ghost use Rattle.cluster_client.specs.OneServer.Laws.{ChainsAreBySlot, EachPartIsAnsweredOnce, GapsNameNoKey, NodesKeepChains, NodesOnceAscending, OneServerIsDetermined, OnlyRedirectsRepeat, PartsKeepChains, RequestsAreBounded, RunsAgree};
 ghost use Rattle.cluster_client.specs.OneServer.OneCall.{OneCallAsOnOneServer, RepliesDetermineLogs};
 ghost use Rattle.cluster_client.specs.OneServer.Respelling.{RespelledRuns};
+
+/// A call leaves the links of all nodes that its log does not name, also where memory is refused.
+pub fn unasked_nodes_stay()
+    ensures { UnaskedNodesStay }
+{}
 
 /// A list of steps is a chain exactly if it is one at each slot.
 pub fn chains_are_by_slot()
