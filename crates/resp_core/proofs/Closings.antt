@@ -1,10 +1,9 @@
 -- Rows within rows: what they make of a value that is whole.
-use Rattle.std.proofs.Common.{◌≡◌, ℕ, zero, suc, ◌+◌, ◌-◌, ◌<◌, ◌≤◌, List, [], ◌∷◌, ◌++◌, length, Option, Some, None, Result, Ok, Err, refl, sym, ap, subst, ◌∙◌, arith, length-append, get_or, set, take, drop, take-append-drop, drop-cons, drop_of_length-le, ap₂}
+use Rattle.std.proofs.Common.{◌≡◌, ℕ, zero, suc, ◌+◌, ◌-◌, ◌<◌, ◌≤◌, List, [], ◌∷◌, ◌++◌, length, Ok, Err, refl, sym, ap, subst, ◌∙◌, arith, length-append, get_or, set, take, drop, take-append-drop, drop-cons, drop_of_length-le, ap₂}
 use Rattle.std.proofs.lemmas.List.{take-set, drop-set}
 use Rattle.resp_core.specs.declared.parser.frame.Frame.{Frame}
 use Rattle.resp_core.specs.declared.parser.stop.Stop.{Stop}
 use Rattle.resp_core.specs.declared.parser.stop.Stop.TheVariants as kinds
-use Rattle.resp_core.specs.declared.parser.stack.Progress.{Progress}
 use Rattle.resp_core.specs.declared.parser.stack.Progress.TheVariants as progress
 use Rattle.resp_core.specs.declared.parser.Head.TheVariants.{Fresh}
 use Rattle.resp_core.specs.declared.value.Value.{Value}
