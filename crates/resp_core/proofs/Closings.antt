@@ -1,10 +1,9 @@
 -- Rows within rows: what they make of a value that is whole.
-use Rattle.std.proofs.Common.{◌≡◌, ℕ, zero, suc, ◌+◌, ◌-◌, ◌<◌, ◌≤◌, List, [], ◌∷◌, ◌++◌, length, Option, Some, None, Result, Ok, Err, refl, sym, ap, subst, ◌∙◌, arith, length-append, get_or, set, take, drop, take-append-drop, drop-cons, drop_of_length-le, ap₂}
+use Rattle.std.proofs.Common.{◌≡◌, ℕ, zero, suc, ◌+◌, ◌-◌, ◌<◌, ◌≤◌, List, [], ◌∷◌, ◌++◌, length, Ok, Err, refl, sym, ap, subst, ◌∙◌, arith, length-append, get_or, set, take, drop, take-append-drop, drop-cons, drop_of_length-le, ap₂}
 use Rattle.std.proofs.lemmas.List.{take-set, drop-set}
 use Rattle.resp_core.specs.declared.parser.frame.Frame.{Frame}
 use Rattle.resp_core.specs.declared.parser.stop.Stop.{Stop}
 use Rattle.resp_core.specs.declared.parser.stop.Stop.TheVariants as kinds
-use Rattle.resp_core.specs.declared.parser.stack.Progress.{Progress}
 use Rattle.resp_core.specs.declared.parser.stack.Progress.TheVariants as progress
 use Rattle.resp_core.specs.declared.parser.Head.TheVariants.{Fresh}
 use Rattle.resp_core.specs.declared.value.Value.{Value}
@@ -27,22 +26,12 @@ refuses_outward l fs kinds.Memory r h = tt
 refuses_outward l fs kinds.Short r h = h
 refuses_outward l fs kinds.Fault r h = ap (closing l fs) h ∙ closing_err l fs fault
 
--- another way to the same reading
-pub settles_from : (l : ℕ) (r : Result Progress Stop) (first second : List ℕ → Read Tree) (before old new : List Frame)
-    → ((bs : List ℕ) → closing l before (first bs) ≡ closing l old (second bs)) → Settles l r second old new → Settles l r first before new
-settles_from l (Ok (progress.Whole v)) first second before old new same h = (h.0, λ bs. same bs ∙ h.1 bs)
-settles_from l (Ok (progress.On d)) first second before old new same h = (h.0, λ bs. same bs ∙ h.1 bs)
-settles_from l (Err e) first second before old new same h = λ bs. subst (λ (r : Read Tree). Refuses e r) (sym (same bs)) (h bs)
-
 -- a row is open behind others
 pub settles_open : (l k : ℕ) (read : List ℕ → Read Tree) (f : Frame) (inner new : List Frame) → new ≡ inner ++ f ∷ [] → k ≡ l - length inner - 1
     → ((bs : List ℕ) → read bs ≡ (value_at k bs >>= λ x. rest_of k f x)) → Settles l (Ok (progress.On Fresh)) read inner new
-settles_open l k read f inner new is e next = (
-  refl,
-  λ bs.
-      let levels : l - length new ≡ k = omega (arith, ap length is, length-append inner (f ∷ [])) in
-      ap (closing l inner) (next bs) ∙ sym (closing_inner l inner f (value_at k bs) k e) ∙ ap (λ (fs : List Frame). closing l fs (value_at k bs)) (sym is) ∙ ap (λ (j : ℕ). closing l new (value_at j bs)) (sym levels),
-)
+settles_open l k read f inner new is e next bs =
+    let levels : l - length new ≡ k = omega (arith, ap length is, length-append inner (f ∷ [])) in
+    ap (closing l inner) (next bs) ∙ sym (closing_inner l inner f (value_at k bs) k e) ∙ ap (λ (fs : List Frame). closing l fs (value_at k bs)) (sym is) ∙ ap (λ (j : ℕ). closing l new (value_at j bs)) (sym levels)
 
 -- the innermost row
 pub innermost : (fs : List Frame) (n : ℕ) (f : Frame) → n ≡ length fs - 1 → 0 < length fs → f ≡ get_or fs n f → fs ≡ take n fs ++ f ∷ []

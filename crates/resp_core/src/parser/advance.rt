@@ -1,5 +1,5 @@
 //! How a parser takes its bytes up.
-use super::{LEVELS, Parser};
+use super::Parser;
 use crate::parser::Head;
 use crate::parser::announced::announced_by;
 use crate::parser::counted::bytes_behind;
@@ -11,7 +11,7 @@ use crate::parser::stop::Stop;
 use crate::value::Value;
 
 impl Parser {
-    ghost use Rattle.std.specs.Prelude.{◌≡◌};
+    ghost use Rattle.std.specs.Prelude.{◌≡◌, ◌≤◌, ℕ};
     ghost use Rattle.resp_core.specs.declared.parser.Head.TheVariants.{Fresh, Line, Bytes};
     ghost use Rattle.resp_core.specs.Standing.{Looks};
     ghost use Rattle.resp_core.specs.Advancing.{Advances, Reaches, Keeps};
@@ -30,36 +30,39 @@ impl Parser {
         }
     }
 
-    /// The next value.
-    pub(super) fn next_value(&mut self) -> Result<Value, Stop>
-        ensures reaches { Reaches result self.old self.new }
+    /// The next value, which may nest so many levels deep.
+    pub(super) fn next_value(&mut self, levels: u16) -> Result<Value, Stop>
+        requires levels { levels ≤ 100 }
+        ensures reaches { Reaches levels result self.old self.new }
         ensures looks { Looks self.old self.new }
         ensures condition { self.new.condition ≡ self.old.condition }
     {
         loop {
-            if let Some(value) = self.advance()? {
+            if let Some(value) = self.advance(levels)? {
                 return Ok(value);
             }
         }
     }
 
     // A type byte, a line, or counted bytes. It answers the value that is then whole, if one is.
-    fn advance(&mut self) -> Result<Option<Value>, Stop>
-        ensures advances { Advances result self.old self.new }
+    fn advance(&mut self, levels: u16) -> Result<Option<Value>, Stop>
+        requires levels { levels ≤ 100 }
+        ensures advances { Advances levels result self.old self.new }
         ensures looks { Looks self.old self.new }
         ensures condition { self.new.condition ≡ self.old.condition }
     {
         match self.head {
-            Head::Fresh => self.begin(),
+            Head::Fresh => self.begin(levels),
             Head::Line(marker) => self.end_line(marker),
             Head::Bytes(marker, count) => self.end_bytes(marker, count),
         }
     }
 
-    // The type byte.
-    fn begin(&mut self) -> Result<Option<Value>, Stop>
-        requires { self.old.head ≡ Fresh }
-        ensures advances { Advances result self.old self.new }
+    // The type byte; the outermost value may nest so many levels deep.
+    fn begin(&mut self, levels: u16) -> Result<Option<Value>, Stop>
+        requires fresh { self.old.head ≡ Fresh }
+        requires levels { levels ≤ 100 }
+        ensures advances { Advances levels result self.old self.new }
         ensures looks { Looks self.old self.new }
         ensures condition { self.new.condition ≡ self.old.condition }
     {
@@ -71,7 +74,7 @@ impl Parser {
         self.looked = seen(self.looked, 1);
         self.scanned = start + 1;
         self.front = start + 1;
-        if self.frames.len() == LEVELS as usize {
+        if self.frames.len() >= levels as usize {
             return Err(Stop::Fault);
         }
         let Some(marker) = marker_at(byte) else {
@@ -85,7 +88,7 @@ impl Parser {
     // The line, once its end is there.
     fn end_line(&mut self, marker: Marker) -> Result<Option<Value>, Stop>
         requires { self.old.head ≡ Line marker }
-        ensures advances { Advances result self.old self.new }
+        ensures advances { (levels : ℕ) → Advances levels result self.old self.new }
         ensures looks { Looks self.old self.new }
         ensures condition { self.new.condition ≡ self.old.condition }
     {
@@ -120,7 +123,7 @@ impl Parser {
     // The counted bytes and their CR LF, once they are there.
     fn end_bytes(&mut self, marker: Marker, count: u64) -> Result<Option<Value>, Stop>
         requires { self.old.head ≡ Bytes marker count }
-        ensures advances { Advances result self.old self.new }
+        ensures advances { (levels : ℕ) → Advances levels result self.old self.new }
         ensures looks { Looks self.old self.new }
         ensures condition { self.new.condition ≡ self.old.condition }
     {

@@ -1,10 +1,10 @@
 //! Rows within rows.
-ghost use Rattle.std.specs.Prelude.{◌≡◌, ◌<◌, ◌≤◌, ◌-◌, Some, Ok, length};
+ghost use Rattle.std.specs.Prelude.{◌≡◌, ◌≤◌, ◌+◌, ◌-◌, ℕ, Some, Ok, length};
 ghost use Rattle.resp_core.specs.Announced.{next_view};
 ghost use Rattle.resp_core.specs.Reading.{follow, value_at};
 ghost use Rattle.resp_core.specs.Table.{next};
 ghost use Rattle.resp_core.specs.View.{view};
-ghost use Rattle.resp_core.specs.Placing.{Settles, SplitsIn};
+ghost use Rattle.resp_core.specs.Placing.{Settles, LeavesLine, SplitsIn};
 
 use crate::parser::Head;
 use crate::parser::announced::Announced;
@@ -25,7 +25,8 @@ pub(crate) enum Progress {
 
 /// Puts a whole value into the innermost row, and what is whole by that into the next one, and so on.
 pub(crate) fn settle(alloc: Global, frames: &mut Vec<Frame>, value: Value) -> Result<Progress, Stop>
-    ensures settles { Settles 100 result (λ bs. Ok (view value, bs)) frames.old.items frames.new.items }
+    ensures settles { (levels : ℕ) → Settles levels result (λ bs. Ok (view value, bs)) frames.old.items frames.new.items }
+    ensures leaves_line { LeavesLine result }
     ensures levels { length frames.new.items ≤ length frames.old.items }
 {
     let mut value = value;
@@ -47,10 +48,10 @@ pub(crate) fn enter(
     marker: Marker,
     announced: Announced,
 ) -> Result<Progress, Stop>
-    requires level { length frames.old.items < 100 }
-    requires splits { SplitsIn marker announced }
-    ensures settles { Settles 100 result (follow (value_at (99 - length frames.old.items)) marker (Some (next_view announced))) frames.old.items frames.new.items }
-    ensures levels { length frames.new.items ≤ 100 }
+    requires { SplitsIn marker announced }
+    ensures settles { (levels : ℕ) → Settles levels result (follow (value_at (levels - length frames.old.items - 1)) marker (Some (next_view announced))) frames.old.items frames.new.items }
+    ensures leaves_line { LeavesLine result }
+    ensures levels { length frames.new.items ≤ length frames.old.items + 1 }
 {
     match announced {
         Announced::Whole(value) => settle(alloc, frames, value),

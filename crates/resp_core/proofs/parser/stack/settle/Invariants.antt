@@ -5,7 +5,7 @@ use Rattle.resp_core.proofs.parser.stack.settle.Given as goal
 
 abbrev pub invariant-frames : goal.invariant-frames
 invariant-frames l = record {
-  same : (bs : List ℕ) → closing 100 l.initial.frames.items (Ok (view l.initial.value, bs)) ≡ closing 100 l.frames.items (Ok (view l.value, bs));
+  same : (levels : ℕ) (bs : List ℕ) → closing levels l.initial.frames.items (Ok (view l.initial.value, bs)) ≡ closing levels l.frames.items (Ok (view l.value, bs));
   levels : length l.frames.items ≤ length l.initial.frames.items;
 }
 
