@@ -1,0 +1,128 @@
+//! The parts of a split command, and the command of each.
+
+ghost use Rattle.std.specs.Prelude.{◌≡◌, ◌++◌, map, flat_map, option_map, option_and_then, IfOk};
+ghost use Rattle.resp_args.specs.Command.{new_command};
+ghost use Rattle.resp_args.specs.declared.cmd.Arg.TheVariants.{Simple};
+ghost use Rattle.cluster_routing.specs.Command.{all_bytes};
+ghost use Rattle.cluster_routing.specs.Info.{lent, shown_parts, shown_split, shown_splitting, texts};
+ghost use Rattle.cluster_routing.specs.Routing.{role_of};
+ghost use Rattle.cluster_routing.specs.Split.{parted_by, parted_of, some_parted, splitting_of, sub_at};
+
+use crate::parts::routes_of;
+use crate::policy::{MultiSlotArgPattern, ResponsePolicy};
+use crate::routable::Routable;
+use crate::route::{Route, SlotAddr};
+use crate::routing::role_of;
+use crate::table::{Rule, is_family, rule_for};
+use std::alloc::{AllocError, Global};
+
+/// The parts of a split command.
+#[derive(Debug, PartialEq, Drop)]
+pub struct SplitParts {
+    /// The route of each part, in the order in which their slots first appear, with the places of
+    /// its arguments: 0 is the first argument behind the word, places ascend, and the last argument
+    /// is not among them where all parts share it.
+    pub routes: Vec<(Route, Vec<usize>)>,
+    /// How its arguments fall into tuples.
+    pub pattern: MultiSlotArgPattern,
+    /// How the replies of the parts become one.
+    pub policy: ResponsePolicy,
+}
+
+impl SplitParts {
+    /// The parts of a split command, also where all of its keys have one slot; `None` where its word
+    /// is no split word, an argument is a gap, its last tuple is broken, or it has none.
+    ///
+    /// `read_only` are the names of the commands that may be served by a replica: the routes of such
+    /// a word are `ReplicaOptional`, every other `Master`. Names are compared without the case of
+    /// ASCII letters. (Documentation of the crate `redis`, `cluster_routing`.)
+    ///
+    /// # Errors
+    /// `AllocError` where memory is refused.
+    pub fn for_routable<R: Routable>(
+        alloc: Global,
+        r: &R,
+        read_only: &[Vec<u8>],
+    ) -> Result<Option<SplitParts>, AllocError>
+        ensures { IfOk result (λ o. option_map shown_split o ≡ parted_of (R.args r.now) (texts read_only.now)) }
+    {
+        match r.arg_idx(0) {
+            None => Ok(None),
+            Some(word) => parts_by_word(alloc, r, word, read_only),
+        }
+    }
+}
+
+fn parts_by_word<R: Routable>(
+    alloc: Global,
+    r: &R,
+    word: &[u8],
+    read_only: &[Vec<u8>],
+) -> Result<Option<SplitParts>, AllocError>
+    ensures { IfOk result (λ o. option_map shown_split o ≡ option_and_then (λ s. option_and_then (parted_by (role_of word.now (texts read_only.now)) s) (all_bytes (R.args r.now))) (splitting_of word.now)) }
+{
+    match splitting_of(word) {
+        None => Ok(None),
+        Some((pattern, policy)) => {
+            parts_by_tuples(alloc, r, role_of(word, read_only), pattern, policy)
+        }
+    }
+}
+
+/// How the commands of a word are split.
+fn splitting_of(word: &[u8]) -> Option<(MultiSlotArgPattern, ResponsePolicy)>
+    ensures { option_map shown_splitting result ≡ splitting_of word.now }
+{
+    match rule_for(word, is_family(word)) {
+        Rule::Split(pattern, policy) => Some((pattern, policy)),
+        _ => None,
+    }
+}
+
+fn parts_by_tuples<R: Routable>(
+    alloc: Global,
+    r: &R,
+    role: SlotAddr,
+    pattern: MultiSlotArgPattern,
+    policy: ResponsePolicy,
+) -> Result<Option<SplitParts>, AllocError>
+    ensures { IfOk result (λ o. option_map shown_split o ≡ option_and_then (parted_by role (shown_splitting (pattern, policy))) (all_bytes (R.args r.now))) }
+{
+    match r.arguments(alloc)? {
+        None => Ok(None),
+        Some(args) => parts_of_bytes(alloc, &args, role, pattern, policy),
+    }
+}
+
+fn parts_of_bytes(
+    alloc: Global,
+    args: &[&[u8]],
+    role: SlotAddr,
+    pattern: MultiSlotArgPattern,
+    policy: ResponsePolicy,
+) -> Result<Option<SplitParts>, AllocError>
+    ensures { IfOk result (λ o. option_map shown_split o ≡ parted_by role (shown_splitting (pattern, policy)) (lent args.now)) }
+{
+    match routes_of(alloc, args, role, pattern)? {
+        None => Ok(None),
+        Some(routes) => Ok(some_parts(routes, pattern, policy)),
+    }
+}
+
+/// No part is none.
+fn some_parts(
+    routes: Vec<(Route, Vec<usize>)>,
+    pattern: MultiSlotArgPattern,
+    policy: ResponsePolicy,
+) -> Option<SplitParts>
+    ensures { option_map shown_split result ≡ some_parted (shown_splitting (pattern, policy)) (shown_parts routes.items) }
+{
+    match routes.as_slice() {
+        [] => None,
+        _ => Some(SplitParts {
+            routes,
+            pattern,
+            policy,
+        }),
+    }
+}
