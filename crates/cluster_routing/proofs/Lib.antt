@@ -19,4 +19,5 @@ pub mod Places
 pub mod Gathered
 pub mod Recut
 pub mod SplitWords
+pub mod PartPlaces
 pub mod WireRoutes

@@ -33,7 +33,7 @@ pub use routing::{MultipleNodeRoutingInfo, Redirect, RoutingInfo, SingleNodeRout
 pub use slot::Slot;
 pub use slot_map::SlotMap;
 pub use slots_reply::{parse_slots, slot_cmd};
-pub use split::SplitParts;
+pub use split::{SplitParts, command_for_multi_slot_indices};
 pub use strategy::ReadRoutingStrategy;
 pub use topology::{ClusterTopology, Shard};
 

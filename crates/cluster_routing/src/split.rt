@@ -1,19 +1,19 @@
 //! The parts of a split command, and the command of each.
 
-ghost use Rattle.std.specs.Prelude.{◌≡◌, ◌++◌, map, flat_map, option_map, option_and_then, IfOk};
+ghost use Rattle.std.specs.Prelude.{◌≡◌, ◌++◌, map, flat_map, option_map, option_and_then, IfOk, Some};
 ghost use Rattle.resp_args.specs.Command.{new_command};
-ghost use Rattle.resp_args.specs.declared.cmd.Arg.TheVariants.{Simple};
 ghost use Rattle.cluster_routing.specs.Command.{all_bytes};
-ghost use Rattle.cluster_routing.specs.Info.{lent, shown_parts, shown_split, shown_splitting, texts};
+ghost use Rattle.cluster_routing.specs.Info.{lent, lent_texts, shown_parts, shown_split, shown_splitting, texts};
 ghost use Rattle.cluster_routing.specs.Routing.{role_of};
-ghost use Rattle.cluster_routing.specs.Split.{parted_by, parted_of, some_parted, splitting_of, sub_at};
+ghost use Rattle.cluster_routing.specs.Split.{listed, parted_by, parted_of, shared_text, some_parted, splitting_of, sub_at, sub_of, text_at, with_texts};
 
-use crate::parts::routes_of;
+use crate::parts::{len_in_tuples, routes_of};
 use crate::policy::{MultiSlotArgPattern, ResponsePolicy};
 use crate::routable::Routable;
 use crate::route::{Route, SlotAddr};
 use crate::routing::role_of;
 use crate::table::{Rule, is_family, rule_for};
+use resp_args::Cmd;
 use std::alloc::{AllocError, Global};
 
 /// The parts of a split command.
@@ -124,5 +124,97 @@ fn some_parts(
             pattern,
             policy,
         }),
+    }
+}
+
+/// The command of one part: the word as given, then the arguments at these places behind it, of
+/// which the first is at 0, then the last argument where all parts of such a word share it. A gap,
+/// and a place behind the last argument, writes nothing. (Documentation of the crate `redis`,
+/// `cluster_routing`.)
+///
+/// It takes as long as the command and the places are, in whatever order these stand.
+///
+/// # Errors
+/// `AllocError` where memory is refused.
+pub fn command_for_multi_slot_indices<R: Routable>(
+    alloc: Global,
+    original: &R,
+    indices: &[usize],
+) -> Result<Cmd, AllocError>
+    ensures { IfOk result (λ c. c ≡ with_texts new_command (sub_at (R.args original.now) indices.now)) }
+{
+    let args = original.each_argument(alloc)?;
+    command_at(alloc, &args, indices)
+}
+
+fn command_at(
+    alloc: Global,
+    args: &[Option<&[u8]>],
+    places: &[usize],
+) -> Result<Cmd, AllocError>
+    ensures { IfOk result (λ c. c ≡ with_texts new_command (sub_of (lent_texts args.now) places.now)) }
+{
+    let mut cmd = Cmd::new(alloc);
+    if let [word, behind @ ..] = args {
+        write(&mut cmd, *word)?;
+        write_all_at(&mut cmd, behind, places)?;
+        write_shared(&mut cmd, *word, behind)?;
+    }
+    Ok(cmd)
+}
+
+/// Writes an argument, if it is no gap.
+fn write(cmd: &mut Cmd, arg: Option<&[u8]>) -> Result<(), AllocError>
+    ensures { IfOk result (λ _. cmd.new ≡ with_texts cmd.old (listed (Some (option_map (λ a. a.now) arg.entry)))) }
+{
+    match arg {
+        Some(bytes) => cmd.arg(bytes),
+        None => Ok(()),
+    }
+}
+
+/// Writes the argument at a place, if it is there and no gap.
+fn write_at(cmd: &mut Cmd, args: &[Option<&[u8]>], place: usize) -> Result<(), AllocError>
+    ensures { IfOk result (λ _. cmd.new ≡ with_texts cmd.old (text_at (lent_texts args.now) place)) }
+{
+    match args.get(place) {
+        Some(arg) => write(cmd, *arg),
+        None => Ok(()),
+    }
+}
+
+fn write_all_at(
+    cmd: &mut Cmd,
+    args: &[Option<&[u8]>],
+    places: &[usize],
+) -> Result<(), AllocError>
+    ensures { IfOk result (λ _. cmd.new ≡ with_texts cmd.old (flat_map (text_at (lent_texts args.now)) places.now)) }
+{
+    'places: for place in places {
+        write_at(cmd, args, *place)?;
+    }
+    Ok(())
+}
+
+/// Writes the argument that all parts share, where they share one.
+fn write_shared(
+    cmd: &mut Cmd,
+    word: Option<&[u8]>,
+    behind: &[Option<&[u8]>],
+) -> Result<(), AllocError>
+    ensures { IfOk result (λ _. cmd.new ≡ with_texts cmd.old (shared_text (option_and_then splitting_of (option_map (λ a. a.now) word.entry)) (lent_texts behind.now))) }
+{
+    match splitting_in(word) {
+        None => Ok(()),
+        Some((pattern, _)) => write_at(cmd, behind, len_in_tuples(pattern, behind.len())),
+    }
+}
+
+fn splitting_in(word: Option<&[u8]>) -> Option<(MultiSlotArgPattern, ResponsePolicy)>
+    ensures { option_map shown_splitting result ≡ option_and_then splitting_of (option_map (λ a. a.now) word.entry) }
+{
+    match word {
+        None => None,
+        Some(word) => splitting_of(word),
     }
 }
