@@ -163,10 +163,7 @@ fn all_in<'a>(alloc: Global, args: ArgsIter<'a>) -> Result<Option<Vec<&'a [u8]>>
     Ok(Some(all))
 }
 
-fn each_in<'a>(
-    alloc: Global,
-    args: ArgsIter<'a>,
-) -> Result<Vec<Option<&'a [u8]>>, AllocError>
+fn each_in<'a>(alloc: Global, args: ArgsIter<'a>) -> Result<Vec<Option<&'a [u8]>>, AllocError>
     ensures { IfOk result (λ v. lent_texts v.items ≡ texts_in args.entry) }
 {
     let mut each = Vec::new(alloc);

@@ -147,11 +147,7 @@ pub fn command_for_multi_slot_indices<R: Routable>(
     command_at(alloc, &args, indices)
 }
 
-fn command_at(
-    alloc: Global,
-    args: &[Option<&[u8]>],
-    places: &[usize],
-) -> Result<Cmd, AllocError>
+fn command_at(alloc: Global, args: &[Option<&[u8]>], places: &[usize]) -> Result<Cmd, AllocError>
     ensures { IfOk result (λ c. c ≡ with_texts new_command (sub_of (lent_texts args.now) places.now)) }
 {
     let mut cmd = Cmd::new(alloc);
@@ -183,11 +179,7 @@ fn write_at(cmd: &mut Cmd, args: &[Option<&[u8]>], place: usize) -> Result<(), A
     }
 }
 
-fn write_all_at(
-    cmd: &mut Cmd,
-    args: &[Option<&[u8]>],
-    places: &[usize],
-) -> Result<(), AllocError>
+fn write_all_at(cmd: &mut Cmd, args: &[Option<&[u8]>], places: &[usize]) -> Result<(), AllocError>
     ensures { IfOk result (λ _. cmd.new ≡ with_texts cmd.old (flat_map (text_at (lent_texts args.now)) places.now)) }
 {
     'places: for place in places {

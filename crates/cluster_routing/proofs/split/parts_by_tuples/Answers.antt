@@ -11,8 +11,8 @@ returns-in-Some g c =
     let P : Option Parted → Type 0 = λ d. IfOk c.parts_of_bytes.result (λ o. option_map shown_split o ≡ d) in
     let p : Splitting = shown_splitting (c.args.pattern, c.args.policy) in
     subst P
-        (
-          ap (λ (xs : List (Bor (List ℕ))). parted_by c.args.role p (lent xs)) c.deref.ensures.value
-          ∙ ap (option_and_then (parted_by c.args.role p)) (sym (ap (option_map (λ (v : Vec (Bor (List ℕ)) Global). lent v.items)) c.in-Some.is) ∙ c.in_ok-arguments.ensures)
-        )
-        c.parts_of_bytes.ensures
+    (
+    ap (λ (xs : List (Bor (List ℕ))). parted_by c.args.role p (lent xs)) c.deref.ensures.value
+    ∙ ap (option_and_then (parted_by c.args.role p)) (sym (ap (option_map (λ (v : Vec (Bor (List ℕ)) Global). lent v.items)) c.in-Some.is) ∙ c.in_ok-arguments.ensures)
+    )
+    c.parts_of_bytes.ensures
