@@ -13,7 +13,7 @@ use Rattle.cluster_routing.specs.CombineLaws.{OneSlotIsTheWhole, SubsAreAtTheirP
 use Rattle.cluster_routing.specs.Info.{lent_texts}
 use Rattle.cluster_routing.specs.Lists.{among, concat, front}
 use Rattle.cluster_routing.specs.Parts.{Tuple, argument_slots, len_in_tuples, places_from, tuple_slot}
-use Rattle.cluster_routing.specs.Split.{Split, join_split, listed, part_places, part_tuples, shared_by, shared_text, sub_of, text_at, with_texts}
+use Rattle.cluster_routing.specs.Split.{join_split, listed, part_places, part_tuples, shared_by, shared_text, sub_of, text_at, with_texts}
 use Rattle.cluster_routing.specs.declared.policy.MultiSlotArgPattern.{MultiSlotArgPattern}
 use Rattle.cluster_routing.specs.declared.policy.MultiSlotArgPattern.TheVariants.{KeysOnly, KeyValuePairs, KeysAndLastArg, KeyWithTwoArgTriples}
 use Rattle.cluster_routing.proofs.Distinct.{nat_tells}

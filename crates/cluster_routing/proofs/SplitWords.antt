@@ -10,7 +10,7 @@ use Rattle.cluster_routing.specs.Command.{Args, all_bytes, bytes_of, is_one_of, 
 use Rattle.cluster_routing.specs.CombineLaws.{SplitWordsAreNames}
 use Rattle.cluster_routing.specs.Lists.{firsts}
 use Rattle.cluster_routing.specs.Parts.{Tuple, width_of, tuple_slot, argument_slots, group, places_from}
-use Rattle.cluster_routing.specs.Routing.{name_of, part_to, role_of, route_to}
+use Rattle.cluster_routing.specs.Routing.{part_to, role_of, route_to}
 use Rattle.cluster_routing.specs.Split.{Parted, Split, Splitting, splitting_by, splitting_of, split_of, cut, shared_by, with_tuples, part_slots, parted, parted_by, parted_of, some_parted, split_routes, tuple_routes}
 use Rattle.cluster_routing.specs.Table.{Row, Rule, split, key_after_streams, counted_key_or_random, counted_key, key_at, random, all_masters, all_nodes, nowhere, table, families, is_family, rule_in, rule_of}
 use Rattle.cluster_routing.specs.declared.route.Route.{Route}

@@ -51,6 +51,18 @@ impl SplitParts {
             Some(word) => parts_by_word(alloc, r, word, read_only),
         }
     }
+
+    /// The command of each part, in the order of the routes: for its places that of
+    /// `command_for_multi_slot_indices`. It takes as long as the command and all these commands are.
+    ///
+    /// # Errors
+    /// `AllocError` where memory is refused.
+    pub fn commands<R: Routable>(&self, alloc: Global, original: &R) -> Result<Vec<Cmd>, AllocError>
+        ensures { IfOk result (λ v. v.items ≡ map (λ p. with_texts new_command (sub_at (R.args original.now) p.1)) (shown_parts self.now.routes.items)) }
+    {
+        let args = original.each_argument(alloc)?;
+        commands_at(alloc, &args, &self.routes)
+    }
 }
 
 fn parts_by_word<R: Routable>(
@@ -145,6 +157,20 @@ pub fn command_for_multi_slot_indices<R: Routable>(
 {
     let args = original.each_argument(alloc)?;
     command_at(alloc, &args, indices)
+}
+
+fn commands_at(
+    alloc: Global,
+    args: &[Option<&[u8]>],
+    routes: &[(Route, Vec<usize>)],
+) -> Result<Vec<Cmd>, AllocError>
+    ensures { IfOk result (λ v. v.items ≡ map (λ p. with_texts new_command (sub_of (lent_texts args.now) p.1)) (shown_parts routes.now)) }
+{
+    let mut commands = Vec::new(alloc);
+    'routes: for part in routes {
+        commands.push(command_at(alloc, args, &part.1)?)?;
+    }
+    Ok(commands)
 }
 
 fn command_at(alloc: Global, args: &[Option<&[u8]>], places: &[usize]) -> Result<Cmd, AllocError>

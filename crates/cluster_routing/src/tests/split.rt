@@ -96,3 +96,14 @@ fn parts_tell_how_they_are_split(rt: HostRuntime) -> Result<(), Fail> {
     assert_eq!(rt; parts.policy, ResponsePolicy::CombineArrays);
     Ok(())
 }
+
+#[test]
+fn each_part_has_its_command(rt: HostRuntime) -> Result<(), Fail> {
+    let whole = cmd(rt.alloc(), &["MGET", "a", "b", "a"])?;
+    let parts = SplitParts::for_routable(rt.alloc(), &whole, &[])?.ok_or("no parts")?;
+    let commands = parts.commands(rt.alloc(), &whole)?;
+    assert_eq!(rt; commands.len(), 2);
+    let of_b = cmd(rt.alloc(), &["MGET", "b"])?;
+    assert!(rt; have_equal_bytes(&commands[1], &of_b)?);
+    Ok(())
+}

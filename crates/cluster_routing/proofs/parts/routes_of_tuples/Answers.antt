@@ -1,7 +1,4 @@
-use Rattle.std.proofs.Common.{◌≡◌, ◌∙◌, ap, sym, option_map}
-use Rattle.cluster_routing.specs.Parts.{tuples_of}
-use Rattle.cluster_routing.specs.Split.{tuple_routes}
-use Rattle.cluster_routing.proofs.Tuples.{no_tuples, some_tuples, count_fits}
+use Rattle.cluster_routing.proofs.Tuples.{count_fits}
 use Rattle.cluster_routing.proofs.parts.routes_of_tuples.Goals as goal
 
 pub slots_of-requires : goal.slots_of-requires
