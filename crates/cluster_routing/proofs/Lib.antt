@@ -17,4 +17,7 @@ pub mod ServingShards
 pub mod LawProofs
 pub mod Places
 pub mod Gathered
+pub mod Recut
+pub mod SplitWords
+pub mod PartPlaces
 pub mod WireRoutes

@@ -1,14 +1,11 @@
 -- Tuples taken off the front, one after another.
-use Rattle.std.proofs.Common.{◌≡◌, ℕ, zero, suc, ◌+◌, ◌-◌, ◌*◌, ◌/◌, ◌%◌, ◌<◌, ◌≤◌, Bool, true, false, ◌==◌, if◌then◌else◌, List, [], ◌∷◌, ◌++◌, length, take, drop, map, refl, sym, ap, ◌∙◌, arith, append_assoc, append-nil, add-one, Option, Some, None, option_map}
+use Rattle.std.proofs.Common.{◌≡◌, ℕ, zero, suc, ◌+◌, ◌-◌, ◌*◌, ◌/◌, ◌%◌, ◌<◌, ◌≤◌, Bool, true, false, ◌==◌, if◌then◌else◌, List, [], ◌∷◌, ◌++◌, length, take, drop, map, refl, sym, ap, ◌∙◌, arith, append_assoc, append-nil, add-one, Some, None}
 use Rattle.std.specs.Borrow.{Bor}
 use Rattle.std.proofs.Math.Nat.{div-mul-le_self, suc-mul}
 use Rattle.std.proofs.lemmas.List.{drop-drop, length-map, take-map, drop-map}
 use Rattle.cluster_routing.specs.declared.policy.MultiSlotArgPattern.{MultiSlotArgPattern}
-use Rattle.cluster_routing.specs.declared.policy.ResponsePolicy.{ResponsePolicy}
-use Rattle.cluster_routing.specs.declared.route.SlotAddr.{SlotAddr}
 use Rattle.cluster_routing.specs.Info.{lent}
-use Rattle.cluster_routing.specs.Parts.{argument_slots, groups, in_tuples, len_in_tuples, tuple_count, tuple_slot, tuples_from, tuples_of, width_of}
-use Rattle.cluster_routing.specs.Routing.{part_to, to_some_parts, to_tuples}
+use Rattle.cluster_routing.specs.Parts.{argument_slots, in_tuples, len_in_tuples, tuple_count, tuple_slot, tuples_from}
 
 -- so many of the tuples are passed: their slots, and the arguments that are left
 pub record Slotted (width : ℕ) (args : List (Bor (List ℕ))) (slots : List ℕ) (passed count start : ℕ) : Type 0 where
@@ -89,16 +86,3 @@ count_fits width len count h = by (len % width == 0) h
     by : (b : Bool) → Some count ≡ (if b then Some (len / width) else None) → count * width ≤ len
     by true e = let c : count ≡ len / width = cc in let k : count * width ≡ len / width * width = ap (λ n. n * width) c in omega (arith, k, div-mul-le_self len width)
     by false e = cc
-
-counted_by : (pattern : MultiSlotArgPattern) (args : List (Bor (List ℕ))) (width : ℕ) (o : Option ℕ) → width ≡ width_of pattern → o ≡ tuple_count width (length args) → tuples_of (width_of pattern) (lent args) ≡ option_map (λ n. tuples_from n width (lent args)) o
-counted_by pattern args width o w e =
-    ap (λ v. tuples_of v (lent args)) (sym w) ∙ ap (λ len. option_map (λ n. tuples_from n width (lent args)) (tuple_count width len)) (length-map args (λ (a : Bor (List ℕ)). a.now))
-    ∙ ap (option_map (λ n. tuples_from n width (lent args))) (sym e)
-
-pub no_tuples : (pattern : MultiSlotArgPattern) (args : List (Bor (List ℕ))) (width : ℕ) (role : SlotAddr) (policy : ResponsePolicy) → width ≡ width_of pattern → None ≡ tuple_count width (length args) → None ≡ to_tuples role pattern policy (tuples_of (width_of pattern) (lent args))
-no_tuples pattern args width role policy w e = ap (to_tuples role pattern policy) (sym (counted_by pattern args width None w e))
-
-pub some_tuples : (pattern : MultiSlotArgPattern) (args : List (Bor (List ℕ))) (width count : ℕ) (slots : List ℕ) (role : SlotAddr) (policy : ResponsePolicy) → width ≡ width_of pattern → Some count ≡ tuple_count width (length args)
-    → slots ≡ argument_slots (tuples_from count width (lent args)) → to_some_parts pattern policy (map (part_to role) (groups slots)) ≡ to_tuples role pattern policy (tuples_of (width_of pattern) (lent args))
-some_tuples pattern args width count slots role policy w e s =
-    ap (λ x. to_some_parts pattern policy (map (part_to role) (groups x))) s ∙ ap (to_tuples role pattern policy) (sym (counted_by pattern args width (Some count) w e))

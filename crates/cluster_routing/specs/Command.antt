@@ -38,6 +38,10 @@ all_bytes [] = Some []
 all_bytes (Simple bytes ∷ args) = option_map (λ rest. bytes ∷ rest) (all_bytes args)
 all_bytes (Cursor ∷ args) = None
 
+-- arguments by their bytes; a gap has none
+abbrev pub texts_in : Args → List (Option (List ℕ))
+texts_in args = map (λ (a : Arg (List ℕ)). bytes_of (Some a)) args
+
 -- a reply as a command: the items of an array, of which all but bulks are gaps
 abbrev pub arg_in : Tree → Arg (List ℕ)
 arg_in (bulk bytes) = Simple bytes

@@ -1,12 +1,15 @@
 -- What the code's answers on routes are.
-use Rattle.std.specs.Prelude.{ℕ, Bool, false, List, map, Option, Some, None, Vec}
+use Rattle.std.specs.Prelude.{ℕ, Bool, false, List, map, option_map, Option, Some, None, Vec}
 use Rattle.std.specs.Borrow.{Bor}
 use Rattle.std.specs.Global.{Global}
 use Rattle.cluster_routing.specs.Address.{Address, same_address}
 use Rattle.cluster_routing.specs.Seen.{address}
 use Rattle.cluster_routing.specs.Routing.{Destination, to_any_node, to_any_primary, to_route, to_address, to_all_nodes, to_all_primaries, to_parts}
+use Rattle.cluster_routing.specs.Split.{Parted, Splitting}
 use Rattle.cluster_routing.specs.declared.route.Route.{Route}
+use Rattle.cluster_routing.specs.declared.policy.MultiSlotArgPattern.{MultiSlotArgPattern}
 use Rattle.cluster_routing.specs.declared.policy.ResponsePolicy.{ResponsePolicy}
+use Rattle.cluster_routing.specs.declared.split.SplitParts.{SplitParts}
 use Rattle.cluster_routing.specs.declared.routing.RoutingInfo.{RoutingInfo}
 use Rattle.cluster_routing.specs.declared.routing.RoutingInfo.TheVariants.{SingleNode, MultiNode}
 use Rattle.cluster_routing.specs.declared.routing.SingleNodeRoutingInfo.{SingleNodeRoutingInfo}
@@ -25,6 +28,19 @@ lent args = map (λ (a : Bor (List ℕ)). a.now) args
 
 abbrev pub shown_part : Route × Vec ℕ Global → Route × List ℕ
 shown_part p = (p.0, p.1.items)
+
+abbrev pub shown_parts : List (Route × Vec ℕ Global) → List (Route × List ℕ)
+shown_parts parts = map shown_part parts
+
+abbrev pub shown_splitting : MultiSlotArgPattern × ResponsePolicy → Splitting
+shown_splitting p = record { pattern = p.0; policy = p.1 }
+
+abbrev pub shown_split : SplitParts → Parted
+shown_split p = record { routes = map shown_part p.routes.items; splitting = record { pattern = p.pattern; policy = p.policy } }
+
+-- lent arguments of which some are gaps
+abbrev pub lent_texts : List (Option (Bor (List ℕ))) → List (Option (List ℕ))
+lent_texts args = map (λ (a : Option (Bor (List ℕ))). option_map (λ (b : Bor (List ℕ)). b.now) a) args
 
 abbrev pub shown_single : SingleNodeRoutingInfo → Destination
 shown_single Random = to_any_node

@@ -3,6 +3,7 @@
 
 ghost use Rattle.std.specs.Prelude.{◌≡◌, fold, option_map, true, IfOk};
 ghost use Rattle.cluster_routing.specs.Address.{address_cmp, hashed_address, same_address};
+ghost use Rattle.cluster_routing.specs.CombineLaws.{OneSlotIsTheWhole, SplitWordsAreNames, SubsAreAtTheirPlaces};
 ghost use Rattle.cluster_routing.specs.Info.{same_redirection, shown_info, shown_redirect, texts};
 ghost use Rattle.cluster_routing.specs.Routing.{destination};
 ghost use Rattle.cluster_routing.specs.Laws.{CaseOfTheWord, EachAddressOnce, EachNameHasItsRow, EqualTags, OneRange, OrderAgrees, PartsShareThePlaces, RoundTrip, RoutesAsOnTheWire, TopologyServes};
@@ -125,4 +126,20 @@ pub fn the_topology_serves_as_the_map_does()
 /// no other, the places of a part ascend, and each slot has its part, and no more than one.
 pub fn parts_share_the_places()
     ensures { PartsShareThePlaces }
+{}
+
+/// The arguments at the places of a split command's part, between its word and the argument that all
+/// parts share, are the command of that part.
+pub fn the_places_of_a_part_make_its_command()
+    ensures { SubsAreAtTheirPlaces }
+{}
+
+/// The part of a split command whose keys all have one slot is the whole command.
+pub fn the_part_of_one_slot_is_the_whole()
+    ensures { OneSlotIsTheWhole }
+{}
+
+/// The name of a split command is its word alone, so that its role is that of its word.
+pub fn split_words_are_names()
+    ensures { SplitWordsAreNames }
 {}

@@ -17,6 +17,7 @@ mod shards;
 mod slot;
 mod slot_map;
 mod slots_reply;
+mod split;
 mod strategy;
 mod table;
 mod topology;
@@ -32,6 +33,7 @@ pub use routing::{MultipleNodeRoutingInfo, Redirect, RoutingInfo, SingleNodeRout
 pub use slot::Slot;
 pub use slot_map::SlotMap;
 pub use slots_reply::{parse_slots, slot_cmd};
+pub use split::{SplitParts, command_for_multi_slot_indices};
 pub use strategy::ReadRoutingStrategy;
 pub use topology::{ClusterTopology, Shard};
 

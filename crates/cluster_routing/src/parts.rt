@@ -1,9 +1,10 @@
 //! The parts of a split command.
 
 ghost use Rattle.std.specs.Prelude.{◌≡◌, ◌<◌, ◌≤◌, ◌+◌, ◌*◌, ◌^◌, ◌++◌, drop, length, map, take, option_map, IfOk};
-ghost use Rattle.cluster_routing.specs.Info.{lent, shown_info, shown_part};
+ghost use Rattle.cluster_routing.specs.Info.{lent, shown_info, shown_part, shown_parts};
 ghost use Rattle.cluster_routing.specs.Parts.{argument_slots, groups, in_tuples, len_in_tuples, tuple_count, tuple_slot, tuples_from, tuples_of, width_of};
-ghost use Rattle.cluster_routing.specs.Routing.{part_slots, part_to, put_place, to_some_parts, to_split, to_tuples};
+ghost use Rattle.cluster_routing.specs.Routing.{part_slots, part_to, put_place, to_some_parts, to_split};
+ghost use Rattle.cluster_routing.specs.Split.{cut, tuple_routes};
 
 use crate::policy::{MultiSlotArgPattern, ResponsePolicy};
 use crate::route::{Route, SlotAddr};
@@ -22,23 +23,38 @@ pub(crate) fn split(
 ) -> Result<Option<RoutingInfo>, AllocError>
     ensures { IfOk result (λ o. option_map shown_info o ≡ to_split role pattern policy (lent args.now)) }
 {
-    match args {
-        [_, behind @ ..] => info_behind(alloc, behind, role, pattern, policy),
-        [] => info_behind(alloc, args, role, pattern, policy),
+    match routes_of(alloc, args, role, pattern)? {
+        None => Ok(None),
+        Some(parts) => Ok(info_of(parts, pattern, policy)),
     }
 }
 
-/// Where a split command goes whose arguments behind the word are these.
-fn info_behind(
+/// The route of each slot of a split command whose arguments, with the word, are these bytes, with the
+/// places of its tuples; none where the last tuple is broken.
+pub(crate) fn routes_of(
     alloc: Global,
     args: &[&[u8]],
     role: SlotAddr,
     pattern: MultiSlotArgPattern,
-    policy: ResponsePolicy,
-) -> Result<Option<RoutingInfo>, AllocError>
-    ensures { IfOk result (λ o. option_map shown_info o ≡ to_tuples role pattern policy (tuples_of (width_of pattern) (in_tuples pattern (lent args.now)))) }
+) -> Result<Option<Vec<(Route, Vec<usize>)>>, AllocError>
+    ensures { IfOk result (λ o. option_map (λ v. shown_parts v.items) o ≡ option_map (tuple_routes role) (cut pattern (drop 1 (lent args.now)))) }
 {
-    info_of_tuples(alloc, in_tuples(pattern, args), role, pattern, policy)
+    match args {
+        [_, behind @ ..] => routes_behind(alloc, behind, role, pattern),
+        [] => routes_behind(alloc, args, role, pattern),
+    }
+}
+
+/// The same of the arguments behind the word.
+fn routes_behind(
+    alloc: Global,
+    args: &[&[u8]],
+    role: SlotAddr,
+    pattern: MultiSlotArgPattern,
+) -> Result<Option<Vec<(Route, Vec<usize>)>>, AllocError>
+    ensures { IfOk result (λ o. option_map (λ v. shown_parts v.items) o ≡ option_map (tuple_routes role) (cut pattern (lent args.now))) }
+{
+    routes_of_tuples(alloc, in_tuples(pattern, args), role, pattern)
 }
 
 /// The arguments that stand in tuples.
@@ -48,7 +64,7 @@ fn in_tuples<'a, 'b>(pattern: MultiSlotArgPattern, args: &'a [&'b [u8]]) -> &'a 
     &args[..len_in_tuples(pattern, args.len())]
 }
 
-fn len_in_tuples(pattern: MultiSlotArgPattern, len: usize) -> usize
+pub(crate) fn len_in_tuples(pattern: MultiSlotArgPattern, len: usize) -> usize
     ensures count { result ≡ len_in_tuples pattern len }
     ensures fits { result ≤ len }
 {
@@ -58,38 +74,23 @@ fn len_in_tuples(pattern: MultiSlotArgPattern, len: usize) -> usize
     }
 }
 
-/// Where a split command goes whose tuples are these arguments.
-fn info_of_tuples(
+/// The same of the arguments that stand in tuples.
+fn routes_of_tuples(
     alloc: Global,
     args: &[&[u8]],
     role: SlotAddr,
     pattern: MultiSlotArgPattern,
-    policy: ResponsePolicy,
-) -> Result<Option<RoutingInfo>, AllocError>
-    ensures { IfOk result (λ o. option_map shown_info o ≡ to_tuples role pattern policy (tuples_of (width_of pattern) (lent args.now))) }
+) -> Result<Option<Vec<(Route, Vec<usize>)>>, AllocError>
+    ensures { IfOk result (λ o. option_map (λ v. shown_parts v.items) o ≡ option_map (tuple_routes role) (tuples_of (width_of pattern) (lent args.now))) }
 {
     let width = width_of(pattern);
     match tuple_count(width, args.len()) {
         None => Ok(None),
         Some(count) => {
             let slots = slots_of(alloc, args, width, count)?;
-            info_of_slots(alloc, &slots, role, pattern, policy)
+            Ok(Some(parts_of(alloc, &slots, role)?))
         }
     }
-}
-
-/// Where a split command goes whose arguments have these slots.
-fn info_of_slots(
-    alloc: Global,
-    slots: &[u16],
-    role: SlotAddr,
-    pattern: MultiSlotArgPattern,
-    policy: ResponsePolicy,
-) -> Result<Option<RoutingInfo>, AllocError>
-    ensures { IfOk result (λ o. option_map shown_info o ≡ to_some_parts pattern policy (map (part_to role) (groups slots.now))) }
-{
-    let parts = parts_of(alloc, slots, role)?;
-    Ok(info_of(parts, pattern, policy))
 }
 
 /// How many tuples so many arguments are; none where the last one is broken.

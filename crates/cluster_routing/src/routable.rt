@@ -5,7 +5,8 @@ ghost use Rattle.std.specs.Option.{IfSome};
 ghost use Rattle.std.specs.Str.{str_to_ascii_uppercase};
 ghost use Rattle.resp_core.specs.View.{view};
 ghost use Rattle.resp_args.specs.Left.{shown};
-ghost use Rattle.cluster_routing.specs.Command.{all_bytes, arg_in, bytes_of, is_word, name_by, place_of};
+ghost use Rattle.cluster_routing.specs.Command.{all_bytes, arg_in, bytes_of, is_word, name_by, place_of, texts_in};
+ghost use Rattle.cluster_routing.specs.Info.{lent_texts};
 ghost use Rattle.cluster_routing.specs.Routing.{name_of};
 ghost use Rattle.cluster_routing.specs.Table.{is_family};
 
@@ -39,6 +40,13 @@ pub trait Routable {
     /// `AllocError` where memory is refused.
     fn arguments(&self, alloc: Global) -> Result<Option<Vec<&[u8]>>, AllocError>
         ensures { IfOk result (λ o. option_map (λ v. map (λ a. a.now) v.items) o ≡ all_bytes (args self.now)) };
+
+    /// All arguments in order: the bytes of each, `None` for a gap.
+    ///
+    /// # Errors
+    /// `AllocError` where memory is refused.
+    fn each_argument(&self, alloc: Global) -> Result<Vec<Option<&[u8]>>, AllocError>
+        ensures { IfOk result (λ v. lent_texts v.items ≡ texts_in (args self.now)) };
 
     /// The name of the command in upper case: its first argument, and for a family's word a space
     /// and the second argument behind it; `None` where the first is missing or a gap.
@@ -155,6 +163,16 @@ fn all_in<'a>(alloc: Global, args: ArgsIter<'a>) -> Result<Option<Vec<&'a [u8]>>
     Ok(Some(all))
 }
 
+fn each_in<'a>(alloc: Global, args: ArgsIter<'a>) -> Result<Vec<Option<&'a [u8]>>, AllocError>
+    ensures { IfOk result (λ v. lent_texts v.items ≡ texts_in args.entry) }
+{
+    let mut each = Vec::new(alloc);
+    for arg in args {
+        each.push(bytes_in(arg))?;
+    }
+    Ok(each)
+}
+
 impl Routable for Cmd {
     ghost args = { λ c. c.args };
 
@@ -168,6 +186,10 @@ impl Routable for Cmd {
 
     fn arguments(&self, alloc: Global) -> Result<Option<Vec<&[u8]>>, AllocError> {
         all_in(alloc, self.args_iter())
+    }
+
+    fn each_argument(&self, alloc: Global) -> Result<Vec<Option<&[u8]>>, AllocError> {
+        each_in(alloc, self.args_iter())
     }
 }
 
@@ -225,6 +247,16 @@ fn all_of(alloc: Global, items: &[Value]) -> Result<Option<Vec<&[u8]>>, AllocErr
     Ok(Some(all))
 }
 
+fn each_of(alloc: Global, items: &[Value]) -> Result<Vec<Option<&[u8]>>, AllocError>
+    ensures { IfOk result (λ v. lent_texts v.items ≡ texts_in (map arg_in (map view items.now))) }
+{
+    let mut each = Vec::new(alloc);
+    for item in items {
+        each.push(bytes_of(item))?;
+    }
+    Ok(each)
+}
+
 /// The items of an array are the arguments, of which all but bulks are gaps; any other value has
 /// no arguments.
 impl Routable for Value {
@@ -251,6 +283,13 @@ impl Routable for Value {
         match items_of(self) {
             Some(items) => all_of(alloc, items),
             None => Ok(Some(Vec::new(alloc))),
+        }
+    }
+
+    fn each_argument(&self, alloc: Global) -> Result<Vec<Option<&[u8]>>, AllocError> {
+        match items_of(self) {
+            Some(items) => each_of(alloc, items),
+            None => Ok(Vec::new(alloc)),
         }
     }
 }

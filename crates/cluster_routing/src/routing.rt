@@ -130,7 +130,7 @@ fn info_by_name<R: Routable>(
 }
 
 /// Any node may serve a name of the set.
-fn role_of(name: &[u8], read_only: &[Vec<u8>]) -> SlotAddr
+pub(crate) fn role_of(name: &[u8], read_only: &[Vec<u8>]) -> SlotAddr
     ensures { result ≡ role_of name.now (texts read_only.now) }
 {
     if is_among(name, read_only) {

@@ -6,4 +6,5 @@ mod memory;
 mod names;
 mod nodes;
 mod routes;
+mod split;
 mod topology;

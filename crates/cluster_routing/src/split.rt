@@ -1,0 +1,238 @@
+//! The parts of a split command, and the command of each.
+
+ghost use Rattle.std.specs.Prelude.{◌≡◌, ◌++◌, map, flat_map, option_map, option_and_then, IfOk, Some};
+ghost use Rattle.resp_args.specs.Command.{new_command};
+ghost use Rattle.cluster_routing.specs.Command.{all_bytes};
+ghost use Rattle.cluster_routing.specs.Info.{lent, lent_texts, shown_parts, shown_split, shown_splitting, texts};
+ghost use Rattle.cluster_routing.specs.Routing.{role_of};
+ghost use Rattle.cluster_routing.specs.Split.{listed, parted_by, parted_of, shared_text, some_parted, splitting_of, sub_at, sub_of, text_at, with_texts};
+
+use crate::parts::{len_in_tuples, routes_of};
+use crate::policy::{MultiSlotArgPattern, ResponsePolicy};
+use crate::routable::Routable;
+use crate::route::{Route, SlotAddr};
+use crate::routing::role_of;
+use crate::table::{Rule, is_family, rule_for};
+use resp_args::Cmd;
+use std::alloc::{AllocError, Global};
+
+/// The parts of a split command.
+#[derive(Debug, PartialEq, Drop)]
+pub struct SplitParts {
+    /// The route of each part, in the order in which their slots first appear, with the places of
+    /// its arguments: 0 is the first argument behind the word, places ascend, and the last argument
+    /// is not among them where all parts share it.
+    pub routes: Vec<(Route, Vec<usize>)>,
+    /// How its arguments fall into tuples.
+    pub pattern: MultiSlotArgPattern,
+    /// How the replies of the parts become one.
+    pub policy: ResponsePolicy,
+}
+
+impl SplitParts {
+    /// The parts of a split command, also where all of its keys have one slot; `None` where its word
+    /// is no split word, an argument is a gap, its last tuple is broken, or it has none.
+    ///
+    /// `read_only` are the names of the commands that may be served by a replica: the routes of such
+    /// a word are `ReplicaOptional`, every other `Master`. Names are compared without the case of
+    /// ASCII letters. (Documentation of the crate `redis`, `cluster_routing`.)
+    ///
+    /// # Errors
+    /// `AllocError` where memory is refused.
+    pub fn for_routable<R: Routable>(
+        alloc: Global,
+        r: &R,
+        read_only: &[Vec<u8>],
+    ) -> Result<Option<SplitParts>, AllocError>
+        ensures { IfOk result (λ o. option_map shown_split o ≡ parted_of (R.args r.now) (texts read_only.now)) }
+    {
+        match r.arg_idx(0) {
+            None => Ok(None),
+            Some(word) => parts_by_word(alloc, r, word, read_only),
+        }
+    }
+
+    /// The command of each part, in the order of the routes: for its places that of
+    /// `command_for_multi_slot_indices`. It takes as long as the command and all these commands are.
+    ///
+    /// # Errors
+    /// `AllocError` where memory is refused.
+    pub fn commands<R: Routable>(&self, alloc: Global, original: &R) -> Result<Vec<Cmd>, AllocError>
+        ensures { IfOk result (λ v. v.items ≡ map (λ p. with_texts new_command (sub_at (R.args original.now) p.1)) (shown_parts self.now.routes.items)) }
+    {
+        let args = original.each_argument(alloc)?;
+        commands_at(alloc, &args, &self.routes)
+    }
+}
+
+fn parts_by_word<R: Routable>(
+    alloc: Global,
+    r: &R,
+    word: &[u8],
+    read_only: &[Vec<u8>],
+) -> Result<Option<SplitParts>, AllocError>
+    ensures { IfOk result (λ o. option_map shown_split o ≡ option_and_then (λ s. option_and_then (parted_by (role_of word.now (texts read_only.now)) s) (all_bytes (R.args r.now))) (splitting_of word.now)) }
+{
+    match splitting_of(word) {
+        None => Ok(None),
+        Some((pattern, policy)) => {
+            parts_by_tuples(alloc, r, role_of(word, read_only), pattern, policy)
+        }
+    }
+}
+
+/// How the commands of a word are split.
+fn splitting_of(word: &[u8]) -> Option<(MultiSlotArgPattern, ResponsePolicy)>
+    ensures { option_map shown_splitting result ≡ splitting_of word.now }
+{
+    match rule_for(word, is_family(word)) {
+        Rule::Split(pattern, policy) => Some((pattern, policy)),
+        _ => None,
+    }
+}
+
+fn parts_by_tuples<R: Routable>(
+    alloc: Global,
+    r: &R,
+    role: SlotAddr,
+    pattern: MultiSlotArgPattern,
+    policy: ResponsePolicy,
+) -> Result<Option<SplitParts>, AllocError>
+    ensures { IfOk result (λ o. option_map shown_split o ≡ option_and_then (parted_by role (shown_splitting (pattern, policy))) (all_bytes (R.args r.now))) }
+{
+    match r.arguments(alloc)? {
+        None => Ok(None),
+        Some(args) => parts_of_bytes(alloc, &args, role, pattern, policy),
+    }
+}
+
+fn parts_of_bytes(
+    alloc: Global,
+    args: &[&[u8]],
+    role: SlotAddr,
+    pattern: MultiSlotArgPattern,
+    policy: ResponsePolicy,
+) -> Result<Option<SplitParts>, AllocError>
+    ensures { IfOk result (λ o. option_map shown_split o ≡ parted_by role (shown_splitting (pattern, policy)) (lent args.now)) }
+{
+    match routes_of(alloc, args, role, pattern)? {
+        None => Ok(None),
+        Some(routes) => Ok(some_parts(routes, pattern, policy)),
+    }
+}
+
+/// No part is none.
+fn some_parts(
+    routes: Vec<(Route, Vec<usize>)>,
+    pattern: MultiSlotArgPattern,
+    policy: ResponsePolicy,
+) -> Option<SplitParts>
+    ensures { option_map shown_split result ≡ some_parted (shown_splitting (pattern, policy)) (shown_parts routes.items) }
+{
+    match routes.as_slice() {
+        [] => None,
+        _ => Some(SplitParts {
+            routes,
+            pattern,
+            policy,
+        }),
+    }
+}
+
+/// The command of one part: the word as given, then the arguments at these places behind it, of
+/// which the first is at 0, then the last argument where all parts of such a word share it. A gap,
+/// and a place behind the last argument, writes nothing. (Documentation of the crate `redis`,
+/// `cluster_routing`.)
+///
+/// It takes as long as the command and the places are, in whatever order these stand.
+///
+/// # Errors
+/// `AllocError` where memory is refused.
+pub fn command_for_multi_slot_indices<R: Routable>(
+    alloc: Global,
+    original: &R,
+    indices: &[usize],
+) -> Result<Cmd, AllocError>
+    ensures { IfOk result (λ c. c ≡ with_texts new_command (sub_at (R.args original.now) indices.now)) }
+{
+    let args = original.each_argument(alloc)?;
+    command_at(alloc, &args, indices)
+}
+
+fn commands_at(
+    alloc: Global,
+    args: &[Option<&[u8]>],
+    routes: &[(Route, Vec<usize>)],
+) -> Result<Vec<Cmd>, AllocError>
+    ensures { IfOk result (λ v. v.items ≡ map (λ p. with_texts new_command (sub_of (lent_texts args.now) p.1)) (shown_parts routes.now)) }
+{
+    let mut commands = Vec::new(alloc);
+    'routes: for part in routes {
+        commands.push(command_at(alloc, args, &part.1)?)?;
+    }
+    Ok(commands)
+}
+
+fn command_at(alloc: Global, args: &[Option<&[u8]>], places: &[usize]) -> Result<Cmd, AllocError>
+    ensures { IfOk result (λ c. c ≡ with_texts new_command (sub_of (lent_texts args.now) places.now)) }
+{
+    let mut cmd = Cmd::new(alloc);
+    if let [word, behind @ ..] = args {
+        write(&mut cmd, *word)?;
+        write_all_at(&mut cmd, behind, places)?;
+        write_shared(&mut cmd, *word, behind)?;
+    }
+    Ok(cmd)
+}
+
+/// Writes an argument, if it is no gap.
+fn write(cmd: &mut Cmd, arg: Option<&[u8]>) -> Result<(), AllocError>
+    ensures { IfOk result (λ _. cmd.new ≡ with_texts cmd.old (listed (Some (option_map (λ a. a.now) arg.entry)))) }
+{
+    match arg {
+        Some(bytes) => cmd.arg(bytes),
+        None => Ok(()),
+    }
+}
+
+/// Writes the argument at a place, if it is there and no gap.
+fn write_at(cmd: &mut Cmd, args: &[Option<&[u8]>], place: usize) -> Result<(), AllocError>
+    ensures { IfOk result (λ _. cmd.new ≡ with_texts cmd.old (text_at (lent_texts args.now) place)) }
+{
+    match args.get(place) {
+        Some(arg) => write(cmd, *arg),
+        None => Ok(()),
+    }
+}
+
+fn write_all_at(cmd: &mut Cmd, args: &[Option<&[u8]>], places: &[usize]) -> Result<(), AllocError>
+    ensures { IfOk result (λ _. cmd.new ≡ with_texts cmd.old (flat_map (text_at (lent_texts args.now)) places.now)) }
+{
+    'places: for place in places {
+        write_at(cmd, args, *place)?;
+    }
+    Ok(())
+}
+
+/// Writes the argument that all parts share, where they share one.
+fn write_shared(
+    cmd: &mut Cmd,
+    word: Option<&[u8]>,
+    behind: &[Option<&[u8]>],
+) -> Result<(), AllocError>
+    ensures { IfOk result (λ _. cmd.new ≡ with_texts cmd.old (shared_text (option_and_then splitting_of (option_map (λ a. a.now) word.entry)) (lent_texts behind.now))) }
+{
+    match splitting_in(word) {
+        None => Ok(()),
+        Some((pattern, _)) => write_at(cmd, behind, len_in_tuples(pattern, behind.len())),
+    }
+}
+
+fn splitting_in(word: Option<&[u8]>) -> Option<(MultiSlotArgPattern, ResponsePolicy)>
+    ensures { option_map shown_splitting result ≡ option_and_then splitting_of (option_map (λ a. a.now) word.entry) }
+{
+    match word {
+        None => None,
+        Some(word) => splitting_of(word),
+    }
+}
