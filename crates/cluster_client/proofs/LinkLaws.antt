@@ -14,7 +14,9 @@ pub mod MovedLaws
 pub mod Played
 pub mod PlayedRuns
 pub mod ChainLoop
+pub mod PartLoop
 pub mod Nodes
+pub mod ManyParts
 pub mod OneCommand
 pub mod OneRequest
 pub mod Refreshing

@@ -14,6 +14,7 @@ pub mod Run
 pub mod Converted
 pub mod Accepted
 pub mod Chains
+pub mod PartRuns
 pub mod Exchanges
 pub mod FirstPlaces
 pub mod Turns

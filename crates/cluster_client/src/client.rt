@@ -1,4 +1,5 @@
 //! The client: it refreshes its slot map, and sends commands to the nodes that serve them.
+ghost use Rattle.std.specs.List.{AllByRecursion};
 ghost use Rattle.std.specs.Prelude.{◌≡◌, ◌≢◌, ◌↔◌, ◌<◌, ◌||◌, Err, None, [], true, false, vec_len, map, IfOk, IfErr, OnErr, if◌then◌else◌, option_map};
 ghost use Rattle.resp_core.specs.Errors.{by_cause};
 ghost use Rattle.resp_core.specs.View.{push_view, view};
@@ -15,13 +16,15 @@ ghost use Rattle.cluster_client.specs.Calls.Call.{Query, Refresh};
 ghost use Rattle.cluster_client.specs.Links.Chains.{ChainMade};
 ghost use Rattle.cluster_client.specs.Links.Converted.{ValueMade, refresh_answer, value_answer};
 ghost use Rattle.cluster_client.specs.Links.Happened.{CallMade, Happened};
+ghost use Rattle.cluster_client.specs.Links.PartRuns.{IsPlaced, PartsMade, dispatch_of};
 ghost use Rattle.cluster_client.specs.Links.Places.{IsOpenAt};
 ghost use Rattle.cluster_client.specs.Links.Turns.{hop_to};
 ghost use Rattle.cluster_client.specs.Links.Whole.{whole};
 ghost use Rattle.cluster_client.specs.Links.Run.{with_log};
-ghost use Rattle.cluster_client.specs.Links.World.{addresses_of, has_repeats, link_at, new_world, nodes, tree_result};
+ghost use Rattle.cluster_client.specs.Links.World.{addresses_of, has_repeats, link_at, new_world, nodes, tree_result, tree_results};
 
 use crate::asked::Asked;
+use crate::dispatch::Dispatch;
 use crate::exchange::exchange_one;
 use crate::links::Links;
 use crate::place::{Place, first_place};
@@ -167,6 +170,21 @@ impl<L: ConnectionLike + Drop> ClusterClient<L> {
             &mut self.picked,
         )?;
         self.follow(alloc, &part.args, place)
+    }
+
+    /// The replies to parts that are sent one after another, each behind its redirects, up to the first
+    /// that is refused.
+    fn follow_all(&mut self, alloc: Global, parts: Vec<Dispatch>) -> Result<Vec<Value>, RedisError>
+        requires { AllByRecursion (IsPlaced (nodes L.seen self.old.links.nodes.items)) parts.items }
+        ensures { PartsMade (whole L.seen self.old) (whole L.seen self.new) (map dispatch_of parts.items) (tree_results view result) }
+    {
+        let mut replies = Vec::new(alloc);
+        'parts: for part in parts {
+            let Dispatch { place, args } = part;
+            let reply = self.follow(alloc, &args, place)?;
+            replies.push(reply)?;
+        }
+        Ok(replies)
     }
 
     /// The reply to one part that goes to this place first, behind its redirects.

@@ -34,11 +34,11 @@ use Rattle.cluster_client.proofs.LinkLaws.OneRequest.{exchanged_one, reply_in, s
 
 -- ---- lists
 
-or_none : (b : Bool) → (b || false) ≡ b
+pub or_none : (b : Bool) → (b || false) ≡ b
 or_none true = refl
 or_none false = refl
 
-or_assoc : (a b c : Bool) → (a || (b || c)) ≡ ((a || b) || c)
+pub or_assoc : (a b c : Bool) → (a || (b || c)) ≡ ((a || b) || c)
 or_assoc true b c = refl
 or_assoc false b c = refl
 
@@ -114,7 +114,7 @@ same_cond : (b : Bool) (x : Next) → cond b x x ≡ x
 same_cond true x = refl
 same_cond false x = refl
 
-next_none : (links : List Address) (left : ℕ) → next_of links left None ≡ Stays
+pub next_none : (links : List Address) (left : ℕ) → next_of links left None ≡ Stays
 next_none links left = same_cond (left == 0) Stays
 
 -- some exchanges go on from a reply, whatever it is: one more without a reply where it is followed

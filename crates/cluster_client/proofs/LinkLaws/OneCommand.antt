@@ -16,28 +16,31 @@ use Rattle.cluster_routing.specs.Routing.{Destination, destination}
 use Rattle.cluster_routing.specs.Split.{Split, split_of, has_split_word}
 use Rattle.cluster_client.specs.Links.Request.{Request, requests_to}
 use Rattle.cluster_client.specs.Links.Log.{Exchange, requests, is_answered, behind_answers}
-use Rattle.cluster_client.specs.Links.World.{World, open_links, is_linked}
+use Rattle.cluster_client.specs.Links.World.{World, open_links, is_linked, one_reply}
 use Rattle.cluster_client.specs.Links.Faults.{LinkFault}
 use Rattle.cluster_client.specs.Links.Events.{Event, Runs, log_of, exchanges_of, Agrees, lack_memory, answered_moved}
 use Rattle.cluster_client.specs.Links.Nodes.{link_calls}
 use Rattle.cluster_client.specs.Links.Happened.{client_of, is_refresh, BeginsLegal, Happened, Answered, LeavesMap, CallMade}
 use Rattle.cluster_client.specs.Links.Run.{with_log}
 use Rattle.cluster_client.specs.Links.Converted.{value_answer}
-use Rattle.cluster_client.specs.Links.Chains.{IsChain, IsChainResult, ChainAnswered, ChainMade}
+use Rattle.cluster_client.specs.Links.Chains.{ChainMade}
+use Rattle.cluster_client.specs.Links.PartRuns.{IsMadeOfParts}
 use Rattle.cluster_client.specs.Links.FirstPlaces.{ArePicksAt, node_with_link}
 use Rattle.cluster_client.specs.Calls.Call.{Call, Refresh, Query, Ordered, Pipeline, FanOut, OnStreams}
 use Rattle.cluster_client.specs.Calls.Task.{Task, slot_map_of, one_command, pipeline_of, several_nodes, task_of}
 use Rattle.cluster_client.specs.Calls.Parts.{Part, parts_of, only_part, if_ordered, result_then}
-use Rattle.cluster_client.specs.Calls.Plan.{Client, Dispatch, First, first_of, target_candidates, dispatch_one, dispatches, in_order, unless_refused, call_parts, plan}
+use Rattle.cluster_client.specs.Calls.Plan.{Client, Dispatch, First, first_of, target_candidates, dispatch_one, dispatches, in_order, order_of, unless_refused, call_parts, plan}
 use Rattle.cluster_client.specs.Calls.Picks.{IsPick, ArePartPicks, ArePicks}
 use Rattle.cluster_client.specs.Calls.Redirects.{Hop, Next, Stays, Lost, Goes, MatchNext, next_of, FollowsRedirects}
 use Rattle.cluster_client.specs.Calls.Legal.{PartByPart, IsLegalCall}
-use Rattle.cluster_client.specs.Calls.Replies.{exchange_slot, reply_or_nil, part_replies, reply_by_split, reply_of_parts}
+use Rattle.cluster_client.specs.Calls.Replies.{args_slot, reply_by_split}
 use Rattle.cluster_client.specs.Calls.Refusals.{part_refusal}
 use Rattle.cluster_client.specs.Calls.Answer.{Answer, Value, answer_of, call_answer, unless}
 use Rattle.cluster_client.proofs.LinkLaws.LinkCalls.{AreLinkCalls, link_calls_made}
 use Rattle.cluster_client.proofs.LinkLaws.MovedLaws.{answered_plain}
 use Rattle.cluster_client.proofs.LinkLaws.Played.{call_made}
+use Rattle.cluster_client.proofs.LinkLaws.PartLoop.{from_place, part_alone}
+use Rattle.cluster_client.proofs.LinkLaws.ManyParts.{many_made}
 use Rattle.cluster_client.proofs.LogLaws.Plans.{not_split}
 
 -- ---- nothing was sent
@@ -97,6 +100,27 @@ not_sent strategy old new call refusal n u why =
     no_calls (pipeline_of entries) = tt
     no_calls (several_nodes command) = tt
 
+-- ---- plans
+
+-- the plan for these parts, or the refusal in their place
+abbrev pub plan_for : Client → List Address → Call → Result (List Part) Refusal → Result (List Dispatch) Refusal
+plan_for client picks call parts = result_then parts (λ ps. result_then (dispatches client picks ps) (λ ds. Ok (in_order (order_of (task_of call)) ds)))
+
+pub planned_by : (client : Client) (picks : List Address) (call : Call) (parts : Result (List Part) Refusal) → call_parts client call ≡ parts → plan client picks call ≡ plan_for client picks call parts
+planned_by client picks call parts e = ap (plan_for client picks call) e
+
+-- a call without parts has no picks
+no_picks : (strategy : Option Strategy) (client : Client) (call : Call) (refusal : Refusal) → call_parts client call ≡ Err refusal → ArePicks strategy client call []
+no_picks None client call refusal e = refl
+no_picks (Some admits) client call refusal e = rw e refl
+
+-- the call has no parts, or memory was refused before they were known
+pub call_refused : (strategy : Option Strategy) (old new : World) (call : Call) (refusal : Refusal) → is_refresh call ≡ false → Untouched old new → new.picked ≡ []
+    → (refused_by refusal ≢ Err (by_cause Memory) → call_parts (client_of old) call ≡ Err refusal) → CallMade strategy old new call (Err refusal)
+call_refused strategy old new call refusal n u picks why =
+    not_sent strategy old new call refusal n u
+    (λ m. (planned_by (client_of old) new.picked call (Err refusal) (why m), subst (λ ps. ArePicks strategy (client_of old) call ps) (sym picks) (no_picks strategy (client_of old) call refusal (why m))))
+
 -- ---- the plan of one part
 
 dispatched : (links : List Address) (part : Part) (f : Option First) (node : Address) → node_with_link links f ≡ Ok node → dispatch_one links part f (λ left. Ok []) ≡ Ok (record { node = node; args = part.args } ∷ [])
@@ -133,12 +157,12 @@ module _ (strategy : Option Strategy) (client : Client) (command : Command) (num
 
   pub planned_one : (node : Address) → node_with_link client.links (first_of client.entries picks part.target) ≡ Ok node → plan client picks (Query command number) ≡ Ok (record { node = node; args = part.args } ∷ [])
   planned_one node at =
-      ap (λ r. result_then r (λ ps. result_then (dispatches client picks ps) (λ ds. Ok (in_order None ds)))) call_parts_are
+      planned_by client picks (Query command number) (Ok (part ∷ [])) call_parts_are
       ∙ ap (λ r. result_then r (λ ds. Ok (in_order None ds))) (dispatched client.links part (first_of client.entries picks part.target) node at)
 
   pub not_placed : (refusal : Refusal) → node_with_link client.links (first_of client.entries picks part.target) ≡ Err refusal → plan client picks (Query command number) ≡ Err refusal
   not_placed refusal at =
-      ap (λ r. result_then r (λ ps. result_then (dispatches client picks ps) (λ ds. Ok (in_order None ds)))) call_parts_are
+      planned_by client picks (Query command number) (Ok (part ∷ [])) call_parts_are
       ∙ ap (λ r. result_then r (λ ds. Ok (in_order None ds))) (not_dispatched client.links part (first_of client.entries picks part.target) refusal at)
 
   pub picks_are : ArePicksAt strategy client.entries part.target picks → ArePicks strategy client (Query command number) picks
@@ -148,23 +172,11 @@ module _ (strategy : Option Strategy) (client : Client) (command : Command) (num
       by None h = h
       by (Some admits) h = rw call_parts_are (picked_so admits client part picks h)
 
--- without a part there are no picks, and the call is refused as its part is
-pub unparted : (client : Client) (picks : List Address) (command : Command) (number : ℕ) (refusal : Refusal) → parts_of client.settings.read_only command number ≡ Err refusal → plan client picks (Query command number) ≡ Err refusal
-unparted client picks command number refusal parts =
-    ap (λ r. result_then (result_then r (if_ordered None)) (λ ps. result_then (dispatches client picks ps) (λ ds. Ok (in_order None ds)))) parts
-
-pub unparted_picks : (strategy : Option Strategy) (client : Client) (command : Command) (number : ℕ) (refusal : Refusal) → parts_of client.settings.read_only command number ≡ Err refusal → ArePicks strategy client (Query command number) []
-unparted_picks None client command number refusal parts = refl
-unparted_picks (Some admits) client command number refusal parts =
-    let are : call_parts client (Query command number) ≡ Err refusal = ap (λ r. result_then r (if_ordered None)) parts in
-    rw are refl
-
 -- the command has no part, or memory was refused before it was known
 pub part_refused : (strategy : Option Strategy) (old new : World) (command : Command) (number : ℕ) (refusal : Refusal) → Untouched old new → new.picked ≡ []
     → (refused_by refusal ≢ Err (by_cause Memory) → parts_of old.settings.read_only command number ≡ Err refusal) → CallMade strategy old new (Query command number) (Err refusal)
 part_refused strategy old new command number refusal u picks why =
-    not_sent strategy old new (Query command number) refusal refl u
-    (λ m. (unparted (client_of old) new.picked command number refusal (why m), subst (λ ps. ArePicks strategy (client_of old) (Query command number) ps) (sym picks) (unparted_picks strategy (client_of old) command number refusal (why m))))
+    call_refused strategy old new (Query command number) refusal refl u picks (λ m. ap (λ r. result_then r (if_ordered None)) (why m))
 
 -- no open link leads to the node of its one part, or memory was refused before it was known
 pub place_refused : (strategy : Option Strategy) (old new : World) (command : Command) (number : ℕ) (part : Part) (refusal : Refusal) → Untouched old new → parts_of old.settings.read_only command number ≡ Ok (part ∷ [])
@@ -174,33 +186,7 @@ place_refused strategy old new command number part refusal u parts why =
     not_sent strategy old new (Query command number) refusal refl u
     (λ m. (not_placed strategy (client_of old) command number part new.picked parts refusal (why m).0, picks_are strategy (client_of old) command number part new.picked parts (why m).1))
 
--- ---- its chain is the log
-
-behind_either : (b : Bool) (xs : List Exchange) → xs ≡ [] → MatchBool b (xs ≡ []) (xs ≡ [])
-behind_either true xs k = k
-behind_either false xs k = k
-
--- where a reply stops its chain, and where it goes on
-follows_by : (x : Exchange) (xs : List Exchange) (F G : Hop → Type 0) (n : Next) → ((hop : Hop) → F hop → G hop) → MatchNext n (xs ≡ []) F → MatchNext n (MatchBool (is_answered x) (xs ≡ []) (xs ≡ [])) G
-follows_by x xs F G Stays f h = behind_either (is_answered x) xs h
-follows_by x xs F G Lost f h = behind_either (is_answered x) xs h
-follows_by x xs F G (Goes next) f h = f next h
-
-chain_follows : (links : List Address) (left : ℕ) (hop : Hop) (args : List (List ℕ)) (xs : List Exchange) → FollowsRedirects links left hop args (λ last behind. behind ≡ []) xs
-    → FollowsRedirects links left hop args (λ x behind. MatchBool (is_answered x) (behind ≡ []) (behind ≡ [])) xs
-chain_follows links left hop args [] f = f
-chain_follows links left hop args (x ∷ xs) f = (f.0, follows_by x xs _ _ (next_of links left x.reply) (λ next h. chain_follows links (left - 1) next args xs h) f.1)
-
--- ---- its answer
-
-none_behind : (xs : List Exchange) → list_any is_answered xs ≡ false → behind_answers xs ≡ xs
-none_behind [] e = refl
-none_behind (x ∷ xs) e = ap (λ b. cond b (behind_answers xs) (x ∷ xs)) e
-
-only_reply : (ys : List Exchange) (tree : Tree) → map reply_or_nil ys ≡ tree ∷ [] → reply_by_split None (map (λ x. record { slot = exchange_slot x; tree = reply_or_nil x }) ys) ≡ Some tree
-only_reply [] tree e = cc
-only_reply (y ∷ []) tree e = let same : reply_or_nil y ≡ tree = cc in ap Some same
-only_reply (y ∷ z ∷ ys) tree e = cc
+-- ---- its reply
 
 -- a command with a part goes somewhere
 goes_somewhere : (args : List (List ℕ)) (number : ℕ) (o : Option Destination) (ps : List Part) → only_part args number o ≡ Ok ps → (d : Destination) × (o ≡ Some d)
@@ -217,56 +203,24 @@ whole_unsplit read_only command number ps n e = by command.no_response refl e
         let d = goes_somewhere (sent command) number (destination command.args read_only) ps only in
         not_split command.args _ read_only d.0 n d.1
 
-answer_is : (command : Command) (number : ℕ) (client : Client) (faults : Address → LinkFault) (xs : List Exchange) (r : Result Tree Refusal) → split_of (sent command) ≡ None → IsChainResult client faults xs r
-    → value_answer r ≡ unless (part_refusal client faults (behind_answers xs)) (or_bad_reply (call_answer faults (Query command number) xs))
-answer_is command number client faults xs (Ok tree) whole (none, is) =
-    let reply : reply_of_parts (sent command) (part_replies xs) ≡ Some tree = ap (λ s. reply_by_split s (part_replies xs)) whole ∙ only_reply (filter is_answered xs) tree is in
-    rw (none, reply) refl
-answer_is command number client faults xs (Err refusal) whole (none, is) = rw (none_behind xs none, is) refl
+-- it is that of its one part
+made_of_one : (args : List (List ℕ)) (d : Dispatch) (r : Result Tree Refusal) → split_of args ≡ None → IsMadeOfParts args (d ∷ []) (one_reply r) r
+made_of_one args d (Ok tree) whole = λ had. ap (λ s. or_bad_reply (reply_by_split s (record { slot = args_slot d.args; tree = tree } ∷ []))) (sym whole)
+made_of_one args d (Err refusal) whole = refl
 
 -- ---- the call
 
-module _ (strategy : Option Strategy) (old new : World) (command : Command) (number : ℕ) (part : Part) (hop : Hop) (picks : List Address) (r : Result Tree Refusal)
-    (unsplit : has_split_word command.args ≡ false) (parts : parts_of old.settings.read_only command number ≡ Ok (part ∷ []))
-    (at : node_with_link (open_links old.nodes) (first_of old.entries picks part.target) ≡ Ok hop.node) (direct' : hop.asking ≡ false)
-    (picked : ArePicksAt strategy old.entries part.target picks) (m : ChainMade (with_log old [] picks) new hop part.args r) where
-  abbrev call : Call
-  call = Query command number
-
-  plans : plan (client_of old) new.picked call ≡ Ok (record { node = hop.node; args = part.args } ∷ [])
-  plans = subst (λ ps. plan (client_of old) ps call ≡ Ok (record { node = hop.node; args = part.args } ∷ [])) (sym m.picked) (planned_one strategy (client_of old) command number part picks parts hop.node at)
-
-  are : ArePicks strategy (client_of old) call new.picked
-  are = subst (λ ps. ArePicks strategy (client_of old) call ps) (sym m.picked) (picks_are strategy (client_of old) command number part picks parts picked)
-
-  legal : (xs : List Exchange) → IsChain (client_of old) hop part.args xs → IsLegalCall (client_of old) new.picked call xs
-  legal xs c =
-      let first : hop ≡ record { node = hop.node; asking = false } = let a = direct' in λ i. record { node = hop.node; asking = a i } in
-      rw plans (subst (λ h. FollowsRedirects (open_links old.nodes) old.settings.budget h part.args (λ x behind. MatchBool (is_answered x) (behind ≡ []) (behind ≡ [])) xs) first
-      (chain_follows (open_links old.nodes) old.settings.budget hop part.args xs c))
-
-  abbrev happened : Happened strategy old new call
-  happened = record {
-    events = m.events;
-    runs = m.runs;
-    unsent = [];
-    logged = m.logged ∙ sym (append-nil (log_of m.events));
-    calls = λ node. link_calls_made old.nodes new.nodes m.events (task_of call) m.runs m.single node;
-    picks = λ some. are;
-    begins = λ some place. record { later = (m.begins place).0; more = requests (m.begins place).0; unsent_first = refl; legal = legal (exchanges_of place m.events ++ (m.begins place).0) (m.begins place).1 };
-    settings = m.settings;
-    map_stays = λ n. m.entries;
-    flag = λ n. m.flag;
-  }
-
-  pub command_made : CallMade strategy old new call (value_answer r)
-  command_made =
-      call_made strategy old new call (value_answer r) happened
-      (λ had. let a = m.answered (λ e. had (ap value_answer e)) in
-      answered_plain strategy old new call (value_answer r) happened refl m.single a.memory m.logged are
-      (λ place. legal (exchanges_of place m.events) (a.chain place))
-      (λ faults agrees place. rw plans (answer_is command number (client_of old) faults (exchanges_of place m.events) r (whole_unsplit old.settings.read_only command number (part ∷ []) unsplit parts) (a.tells faults agrees place))))
-      (λ e n. absurd (false≢true n))
+pub command_made : (strategy : Option Strategy) (old new : World) (command : Command) (number : ℕ) (part : Part) (hop : Hop) (picks : List Address) (r : Result Tree Refusal)
+    → has_split_word command.args ≡ false → parts_of old.settings.read_only command number ≡ Ok (part ∷ [])
+    → node_with_link (open_links old.nodes) (first_of old.entries picks part.target) ≡ Ok hop.node → hop.asking ≡ false
+    → ArePicksAt strategy old.entries part.target picks → ChainMade (with_log old [] picks) new hop part.args r → CallMade strategy old new (Query command number) (value_answer r)
+command_made strategy old new command number part hop picks r unsplit parts at direct' picked m =
+    let d : Dispatch = record { node = hop.node; args = part.args } in
+    many_made strategy old new (Query command number) command number None refl (λ tree. refl) refl (d ∷ []) picks (one_reply r) r
+    (planned_one strategy (client_of old) command number part picks parts hop.node at)
+    (picks_are strategy (client_of old) command number part picks parts picked)
+    (part_alone (with_log old [] picks) new d r (from_place (with_log old [] picks) new d hop.asking r direct' m))
+    (made_of_one (sent command) d r (whole_unsplit old.settings.read_only command number (part ∷ []) unsplit parts))
 
 -- the world with another empty log and picks that are none
 pub relogged : (old : World) (log : List Request) (picked : List Address) → log ≡ [] → picked ≡ [] → with_log old log picked ≡ with_log old [] []

@@ -21,7 +21,7 @@ use Rattle.cluster_client.proofs.LinkLaws.LinkRuns.{had_memory}
 
 -- ---- lists of addresses
 
-filter_all : (xs : List Address) → filter (λ k. not false) xs ≡ xs
+pub filter_all : (xs : List Address) → filter (λ k. not false) xs ≡ xs
 filter_all [] = refl
 filter_all (x ∷ xs) = ap (λ r. x ∷ r) (filter_all xs)
 

@@ -1,0 +1,15 @@
+use Rattle.std.proofs.Common.{map}
+use Rattle.std.specs.List.{AllByRecursion}
+use Rattle.std.specs.Vec.Iter.{into_iter_items}
+use Rattle.resp_core.specs.View.{view}
+use Rattle.cluster_client.specs.Links.PartRuns.{IsPlaced, dispatch_of}
+use Rattle.cluster_client.specs.Links.Whole.{whole}
+use Rattle.cluster_client.specs.Links.World.{nodes}
+use Rattle.cluster_client.proofs.LinkLaws.PartLoop.{PartLoop}
+use Rattle.cluster_client.proofs.client.ClusterClient.follow_all.Given as goal
+
+abbrev pub invariant-parts : goal.invariant-parts
+invariant-parts g l = record {
+  loop : PartLoop (whole g.L.ConnectionLike.seen l.fn.self) (whole g.L.ConnectionLike.seen l.self) (map dispatch_of l.fn.parts.items) (map dispatch_of (into_iter_items l.part-iterator)) (map view l.replies.items);
+  placed : AllByRecursion (IsPlaced (nodes g.L.ConnectionLike.seen l.fn.self.links.nodes.items)) (into_iter_items l.part-iterator);
+}
