@@ -1,7 +1,7 @@
 //! Values read from a device that gives a byte a read and refuses one of them.
 ghost use Rattle.std.specs.Prelude.{None};
 
-use crate::*;
+use resp_core::*;
 use std::process::Abort;
 use std::test::*;
 
@@ -67,8 +67,10 @@ fn gives<'a, R: Abort>(
 }
 
 fn stops<'a, R: Abort>(rt: &R, parser: &mut Parser, reader: &mut Single<'a>, reads: u64) {
-    let refused = parser.parse_value(reader);
-    assert_eq!(rt; refused.err().map(|e| e.kind()), Some(ErrorKind::Io));
+    match parser.parse_value(reader) {
+        Ok(_) => assert!(rt; false),
+        Err(e) => assert_eq!(rt; e.kind(), ErrorKind::Io),
+    }
     assert_eq!(rt; reader.reads, reads);
 }
 
