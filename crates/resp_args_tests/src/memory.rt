@@ -2,9 +2,9 @@
 //!
 //! A test prints a line `refused CALL` where a call is refused, sees what then stands, and goes on;
 //! no further call may be refused.
-use crate::tests::conversions::parse;
-use crate::{Arg, Cmd, from_redis_value, from_redis_value_ref};
+use crate::conversions::parse;
 use indexmap::IndexMap;
+use resp_args::{Arg, Cmd, from_redis_value, from_redis_value_ref};
 use resp_core::{RedisError, Value};
 use std::alloc::Global;
 use std::io::Print;

@@ -1,6 +1,6 @@
 //! Commands: what they are sent as, and what they tell of themselves.
-use crate::command::cmd;
-use crate::{Arg, Cmd, RedisWrite, pack_command};
+use resp_args::command::cmd;
+use resp_args::{Arg, Cmd, RedisWrite, pack_command};
 use std::alloc::{AllocError, Global};
 use std::process::Abort;
 use std::test::Fail;

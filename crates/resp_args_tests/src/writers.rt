@@ -1,6 +1,6 @@
 //! What each type is written as.
-use crate::{ToRedisArgs, ToSingleRedisArg};
 use indexmap::IndexMap;
+use resp_args::{ToRedisArgs, ToSingleRedisArg};
 use std::alloc::Global;
 use std::process::Abort;
 use std::test::Fail;

@@ -1,6 +1,6 @@
 //! What replies are read as.
-use crate::{FromRedisValue, from_redis_value, from_redis_value_ref};
 use indexmap::IndexMap;
+use resp_args::{FromRedisValue, from_redis_value, from_redis_value_ref};
 use resp_core::{Parser, Value};
 use std::alloc::{AllocError, Global};
 use std::fmt::Debug;
