@@ -34,6 +34,3 @@ pub use slot_map::SlotMap;
 pub use slots_reply::{parse_slots, slot_cmd};
 pub use strategy::ReadRoutingStrategy;
 pub use topology::{ClusterTopology, Shard};
-
-#[cfg(test)]
-mod tests;

@@ -3,9 +3,9 @@
 ghost use Rattle.std.specs.Prelude.{Contains};
 ghost use Rattle.cluster_routing.specs.Seen.{address};
 
-use crate::tests::memory::parsed;
-use crate::tests::nodes::is_node;
-use crate::{
+use crate::memory::parsed;
+use crate::nodes::is_node;
+use cluster_routing::{
     AnyNodeCandidates, NodeAddress, ReadCandidates, ReadRoutingStrategy, Replicas,
     ReplicasOnlyCandidates, Route, SlotAddr, SlotAddrs, SlotMap, SlotRange, SlotRangeMap,
     parse_slots, slot_cmd,

@@ -1,6 +1,6 @@
 //! Addresses, slots and routes.
 
-use crate::{NodeAddress, Route, Slot, SlotAddr};
+use cluster_routing::{NodeAddress, Route, Slot, SlotAddr};
 use resp_core::ErrorKind;
 use std::process::Abort;
 use std::test::Fail;

@@ -3,10 +3,10 @@
 //! A test prints a line `refused CALL` where a call is refused, sees what then stands, and goes on;
 //! no further call may be refused.
 
-use crate::tests::nodes::is_node;
-use crate::tests::routes::{cmd, to_slot};
-use crate::tests::topology::is_shard;
-use crate::{
+use crate::nodes::is_node;
+use crate::routes::{cmd, to_slot};
+use crate::topology::is_shard;
+use cluster_routing::{
     ClusterTopology, MultiSlotArgPattern, MultipleNodeRoutingInfo, NodeAddress, ResponsePolicy,
     Route, RoutingInfo, SlotAddr, SlotMap, SlotRange, SlotRangeMap, parse_slots,
 };

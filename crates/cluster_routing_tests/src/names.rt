@@ -1,7 +1,7 @@
 //! Every name of the routing table with its route.
 
 use super::routes::{first_elsewhere, route, to_random, to_slot};
-use crate::{
+use cluster_routing::{
     AggregateOp, LogicalAggregateOp, MultipleNodeRoutingInfo, ResponsePolicy, RoutingInfo,
 };
 use std::test::Fail;

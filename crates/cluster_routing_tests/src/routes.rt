@@ -1,7 +1,7 @@
 //! Where single commands go.
 
-use crate::tests::memory::parsed;
-use crate::{
+use crate::memory::parsed;
+use cluster_routing::{
     AggregateOp, MultiSlotArgPattern, MultipleNodeRoutingInfo, ResponsePolicy, Routable, Route,
     RoutingInfo, SingleNodeRoutingInfo, SlotAddr,
 };

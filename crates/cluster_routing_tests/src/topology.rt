@@ -1,7 +1,7 @@
 //! The shards of a map of slots, and the lists of its addresses.
 
-use crate::tests::nodes::{are_nodes, is_node};
-use crate::{
+use crate::nodes::{are_nodes, is_node};
+use cluster_routing::{
     ClusterTopology, NodeAddress, ReadCandidates, ReadRoutingStrategy, Route, Shard, SlotAddr,
     SlotMap, SlotRange,
 };

@@ -1,8 +1,8 @@
 //! Copies of shards, of a topology, and of where a command goes.
 
-use crate::tests::routes::route;
-use crate::tests::topology::{is_shard, shard};
-use crate::{
+use crate::routes::route;
+use crate::topology::{is_shard, shard};
+use cluster_routing::{
     ClusterTopology, MultiSlotArgPattern, MultipleNodeRoutingInfo, NodeAddress, Redirect, Route,
     RoutingInfo, Shard, SingleNodeRoutingInfo, SlotAddr,
 };
