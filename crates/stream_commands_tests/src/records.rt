@@ -1,10 +1,10 @@
 //! Records by examples, from the bytes of replies.
-use crate::*;
 use resp_args::{FromRedisValue, from_redis_value, from_redis_value_ref};
 use resp_core::{Value, parse_redis_value};
 use std::alloc::Global;
 use std::process::Abort;
 use std::test::*;
+use stream_commands::*;
 
 fn reply(alloc: Global, bytes: &[u8]) -> Result<Value, Fail> {
     match parse_redis_value(alloc, bytes) {
