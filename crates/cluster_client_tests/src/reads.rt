@@ -2,8 +2,11 @@
 ghost use Rattle.std.specs.Prelude.{Contains};
 ghost use Rattle.cluster_routing.specs.Seen.{address};
 
-use super::*;
+use crate::clients::*;
+use cluster_client::*;
+use std::alloc::{AllocError, Global};
 use std::cell::Cell;
+use std::test::Fail;
 
 /// All slots at n1:7001 with the replicas n3:7003 and n4:7004, then a number.
 const WITH_REPLICAS: &[u8] =

@@ -1,28 +1,24 @@
-//! What no session shows: replies read as other types, strategies, and what a client tells of itself.
-use crate::*;
+//! Clients over bytes in memory, and what they tell.
+use cluster_client::*;
 use std::alloc::{AllocError, Global};
-use std::test::Fail;
 
-mod answers;
-mod reads;
+pub(crate) type Link = ByteLink<MemoryReader, MemoryWriter>;
 
-type Link = ByteLink<MemoryReader, MemoryWriter>;
+pub(crate) type Links = Vec<(NodeAddress, Link)>;
 
-type Links = Vec<(NodeAddress, Link)>;
+pub(crate) type Client = ClusterClient<Link>;
 
-type Client = ClusterClient<Link>;
-
-fn node(alloc: Global, text: &str) -> Result<NodeAddress, RedisError> {
+pub(crate) fn node(alloc: Global, text: &str) -> Result<NodeAddress, RedisError> {
     NodeAddress::try_from(alloc, text)
 }
 
 /// A link from which these bytes come in pieces of 7.
-fn link(alloc: Global, bytes: &[u8]) -> Result<Link, AllocError> {
+pub(crate) fn link(alloc: Global, bytes: &[u8]) -> Result<Link, AllocError> {
     let reader = MemoryReader::new(Vec::from_slice(alloc, bytes)?, 7, 0);
     Ok(ByteLink::new(alloc, reader, MemoryWriter::new(alloc, 0)))
 }
 
-fn add_link(
+pub(crate) fn add_link(
     alloc: Global,
     links: &mut Links,
     address: &str,
@@ -35,19 +31,19 @@ fn add_link(
 }
 
 /// Whether the slot map of n1:7001 is learned.
-fn is_refreshed(alloc: Global, client: &mut Client) -> Result<bool, RedisError> {
+pub(crate) fn is_refreshed(alloc: Global, client: &mut Client) -> Result<bool, RedisError> {
     let n1 = node(alloc, "n1:7001")?;
     Ok(client.refresh(alloc, &n1).is_ok())
 }
 
-fn get_a(alloc: Global) -> Result<Cmd, AllocError> {
+pub(crate) fn get_a(alloc: Global) -> Result<Cmd, AllocError> {
     let mut cmd = command::cmd(alloc, "GET")?;
     cmd.arg("a")?;
     Ok(cmd)
 }
 
 /// The answer to `GET a` as a number.
-fn number_at_a(
+pub(crate) fn number_at_a(
     alloc: Global,
     client: &mut Client,
     strategy: Option<&dyn ReadRoutingStrategy>,
@@ -57,7 +53,7 @@ fn number_at_a(
 }
 
 /// The kind of a refusal, none where there was none.
-fn kind_of(outcome: Result<i64, RedisError>) -> Option<ErrorKind> {
+pub(crate) fn kind_of(outcome: Result<i64, RedisError>) -> Option<ErrorKind> {
     match outcome {
         Ok(_) => None,
         Err(e) => Some(e.kind()),
@@ -65,7 +61,11 @@ fn kind_of(outcome: Result<i64, RedisError>) -> Option<ErrorKind> {
 }
 
 /// Whether the last call's only request, or the second of two, went to the node.
-fn is_last_asked(alloc: Global, client: &Client, address: &str) -> Result<bool, RedisError> {
+pub(crate) fn is_last_asked(
+    alloc: Global,
+    client: &Client,
+    address: &str,
+) -> Result<bool, RedisError> {
     let node = node(alloc, address)?;
     Ok(match client.asked() {
         [only] => only.node == node,
@@ -75,7 +75,7 @@ fn is_last_asked(alloc: Global, client: &Client, address: &str) -> Result<bool, 
 }
 
 /// Whether just these bytes went out to the node.
-fn has_sent(
+pub(crate) fn has_sent(
     alloc: Global,
     client: &Client,
     address: &str,

@@ -6,7 +6,7 @@ use Rattle.cluster_routing.specs.Lent.{lent}
 use Rattle.cluster_routing.specs.Seen.{address}
 use Rattle.cluster_routing.specs.declared.candidates.ReadCandidates.{ReadCandidates}
 use Rattle.cluster_routing.proofs.Lends.{contained_behind}
-use Rattle.cluster_client.proofs.tests.reads.NthReadRoutingStrategy.route_read.Goals as goal
+use Rattle.cluster_client_tests.proofs.reads.NthReadRoutingStrategy.route_read.Goals as goal
 
 pub returns-in-AnyNode : goal.returns-in-AnyNode
 returns-in-AnyNode c =

@@ -1,5 +1,8 @@
 //! Answers as other types, and what a client tells of its map and of its need for a refresh.
-use super::*;
+use crate::clients::*;
+use cluster_client::*;
+use std::alloc::{AllocError, Global};
+use std::test::Fail;
 
 /// All slots at n1:7001; GET a moved to n2:7002; a refresh moved there too; all slots again.
 const MOVED_TWICE: &[u8] =
