@@ -120,6 +120,3 @@ pub use stream_commands::StreamTrimStrategy;
 pub use stream_commands::StreamTrimmingMode;
 pub use stream_commands::XAckDelStatusCode;
 pub use stream_commands::XDelExStatusCode;
-
-#[cfg(test)]
-mod tests;

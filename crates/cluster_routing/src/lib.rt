@@ -36,6 +36,3 @@ pub use slots_reply::{parse_slots, slot_cmd};
 pub use split::{SplitParts, command_for_multi_slot_indices};
 pub use strategy::ReadRoutingStrategy;
 pub use topology::{ClusterTopology, Shard};
-
-#[cfg(test)]
-mod tests;

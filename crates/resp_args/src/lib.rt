@@ -17,6 +17,3 @@ pub use from::{Count, FieldName, FromRedisValue, Number, from_redis_value, from_
 pub use packing::pack_command;
 pub use to_args::{ToRedisArgs, ToSingleRedisArg};
 pub use write::RedisWrite;
-
-#[cfg(test)]
-mod tests;

@@ -1,0 +1,152 @@
+//! Answers as other types, and what a client tells of its map and of its need for a refresh.
+use crate::clients::*;
+use cluster_client::*;
+use std::alloc::{AllocError, Global};
+use std::test::Fail;
+
+/// All slots at n1:7001; GET a moved to n2:7002; a refresh moved there too; all slots again.
+const MOVED_TWICE: &[u8] =
+    b"*1\r\n*3\r\n:0\r\n:16383\r\n*2\r\n$2\r\nn1\r\n:7001\r\n-MOVED 15495 n2:7002\r\n-MOVED 1 n2:7002\r\n*1\r\n*3\r\n:0\r\n:16383\r\n*2\r\n$2\r\nn1\r\n:7001\r\n";
+
+/// All slots at n1:7001, then a text that is no number, and a number.
+const TEXT_AND_NUMBER: &[u8] =
+    b"*1\r\n*3\r\n:0\r\n:16383\r\n*2\r\n$2\r\nn1\r\n:7001\r\n$1\r\nx\r\n$1\r\n7\r\n";
+
+/// All slots at n1:7001, then a push before a number, and an end within a text.
+const PUSH_AND_NUMBER: &[u8] =
+    b"*1\r\n*3\r\n:0\r\n:16383\r\n*2\r\n$2\r\nn1\r\n:7001\r\n>2\r\n$10\r\ninvalidate\r\n_\r\n:1\r\n$3\r\nab";
+
+fn links(alloc: Global, n1: &[u8], n2: &[u8]) -> Result<Links, RedisError> {
+    let mut links = Vec::new(alloc);
+    add_link(alloc, &mut links, "n1:7001", n1)?;
+    add_link(alloc, &mut links, "n2:7002", n2)?;
+    Ok(links)
+}
+
+/// A client of n1:7001 and n2:7002 to which these bytes come.
+fn client(alloc: Global, n1: &[u8], n2: &[u8]) -> Result<Client, RedisError> {
+    let links = links(alloc, n1, n2)?;
+    ClusterClient::new(alloc, links, Vec::new(alloc), 1)
+}
+
+#[test]
+fn a_reply_of_another_type_leaves_the_link_in_step(rt: HostRuntime) -> Result<(), Fail> {
+    let alloc = rt.alloc();
+    let mut client = client(alloc, TEXT_AND_NUMBER, b"")?;
+    assert!(rt; is_refreshed(alloc, &mut client)?);
+    let refused = kind_of(number_at_a(alloc, &mut client, None));
+    assert_eq!(rt; refused, Some(ErrorKind::UnexpectedReturnType));
+    assert_eq!(rt; number_at_a(alloc, &mut client, None)?, 7);
+    Ok(())
+}
+
+#[test]
+fn moved_tells_that_a_refresh_is_needed(rt: HostRuntime) -> Result<(), Fail> {
+    let alloc = rt.alloc();
+    let mut client = client(alloc, MOVED_TWICE, b":1\r\n")?;
+    assert!(rt; is_refreshed(alloc, &mut client)?);
+    assert!(rt; !client.needs_refresh());
+    assert_eq!(rt; number_at_a(alloc, &mut client, None)?, 1);
+    assert!(rt; is_last_asked(alloc, &client, "n2:7002")?);
+    assert!(rt; has_sent(alloc, &client, "n2:7002", b"*2\r\n$3\r\nGET\r\n$1\r\na\r\n")?);
+    assert!(rt; client.needs_refresh());
+    assert!(rt; !is_refreshed(alloc, &mut client)?);
+    assert!(rt; client.needs_refresh());
+    assert!(rt; is_refreshed(alloc, &mut client)?);
+    assert!(rt; !client.needs_refresh());
+    Ok(())
+}
+
+#[test]
+fn moved_to_a_refresh_is_not_counted(rt: HostRuntime) -> Result<(), Fail> {
+    let alloc = rt.alloc();
+    let mut client = client(alloc, b"-MOVED 1 n2:7002\r\n", b"")?;
+    assert!(rt; !is_refreshed(alloc, &mut client)?);
+    assert!(rt; !client.needs_refresh());
+    Ok(())
+}
+
+/// Whether there is one shard, of n1:7001 alone and with all slots.
+fn is_all_at_n1(topology: &ClusterTopology) -> bool {
+    match topology.shard_for_slot(15495) {
+        None => false,
+        Some(shard) => {
+            topology.shards().count() == 1
+                && shard.slot_ranges() == [(0, 16383)].as_slice()
+                && shard.primary().host() == "n1"
+                && shard.primary().port() == 7001
+                && shard.replicas().is_empty()
+        }
+    }
+}
+
+#[test]
+fn a_refresh_shows_its_shards(rt: HostRuntime) -> Result<(), Fail> {
+    let alloc = rt.alloc();
+    let mut client = client(alloc, TEXT_AND_NUMBER, b"")?;
+    assert_eq!(rt; client.topology(alloc)?.shards().count(), 0);
+    assert!(rt; is_refreshed(alloc, &mut client)?);
+    assert!(rt; is_all_at_n1(&client.topology(alloc)?));
+    Ok(())
+}
+
+/// The number of the refusal of `GET a` without a response, 0 where it is answered.
+fn silent_refusal(alloc: Global, client: &mut Client) -> Result<u8, AllocError> {
+    let mut cmd = get_a(alloc)?;
+    cmd.set_no_response(true);
+    let answer: Result<i64, RedisError> = client.query(alloc, &cmd, 0, None);
+    Ok(match answer {
+        Ok(_) => 0,
+        Err(e) => e.number(),
+    })
+}
+
+#[test]
+fn a_command_without_a_response_is_not_sent(rt: HostRuntime) -> Result<(), Fail> {
+    let alloc = rt.alloc();
+    let mut client = client(alloc, TEXT_AND_NUMBER, b"")?;
+    assert!(rt; is_refreshed(alloc, &mut client)?);
+    assert_eq!(rt; silent_refusal(alloc, &mut client)?, 2);
+    assert_eq!(rt; client.asked().len(), 0);
+    Ok(())
+}
+
+/// How many pushes were set aside at the node.
+fn push_count(alloc: Global, client: &Client, address: &str) -> Result<Option<usize>, RedisError> {
+    let node = node(alloc, address)?;
+    Ok(client.pushes(&node).map(|pushes| pushes.len()))
+}
+
+/// Whether the node's link is open.
+fn link_state(alloc: Global, client: &Client, address: &str) -> Result<Option<bool>, RedisError> {
+    let node = node(alloc, address)?;
+    Ok(client.link_state(&node))
+}
+
+#[test]
+fn a_node_keeps_its_pushes(rt: HostRuntime) -> Result<(), Fail> {
+    let alloc = rt.alloc();
+    let mut client = client(alloc, PUSH_AND_NUMBER, b"")?;
+    assert!(rt; is_refreshed(alloc, &mut client)?);
+    assert_eq!(rt; push_count(alloc, &client, "n1:7001")?, Some(0));
+    assert_eq!(rt; number_at_a(alloc, &mut client, None)?, 1);
+    assert_eq!(rt; push_count(alloc, &client, "n1:7001")?, Some(1));
+    assert_eq!(rt; push_count(alloc, &client, "n2:7002")?, Some(0));
+    assert_eq!(rt; push_count(alloc, &client, "n3:7003")?, None);
+    Ok(())
+}
+
+#[test]
+fn an_early_end_closes_the_link_of_its_node(rt: HostRuntime) -> Result<(), Fail> {
+    let alloc = rt.alloc();
+    let mut client = client(alloc, PUSH_AND_NUMBER, b"")?;
+    assert!(rt; is_refreshed(alloc, &mut client)?);
+    assert_eq!(rt; number_at_a(alloc, &mut client, None)?, 1);
+    assert_eq!(rt; link_state(alloc, &client, "n1:7001")?, Some(true));
+    let ended = kind_of(number_at_a(alloc, &mut client, None));
+    assert_eq!(rt; ended, Some(ErrorKind::Io));
+    assert_eq!(rt; link_state(alloc, &client, "n1:7001")?, Some(false));
+    assert_eq!(rt; link_state(alloc, &client, "n2:7002")?, Some(true));
+    assert_eq!(rt; link_state(alloc, &client, "n3:7003")?, None);
+    Ok(())
+}

@@ -1,0 +1,9 @@
+//! What no session shows: replies read as other types, strategies, and what a client tells of itself.
+#![tactic(auto)]
+
+#[cfg(test)]
+mod answers;
+#[cfg(test)]
+mod clients;
+#[cfg(test)]
+mod reads;

@@ -1,0 +1,149 @@
+//! Reads from replicas, by a strategy.
+ghost use Rattle.std.specs.Prelude.{Contains};
+ghost use Rattle.cluster_routing.specs.Seen.{address};
+
+use crate::clients::*;
+use cluster_client::*;
+use std::alloc::{AllocError, Global};
+use std::cell::Cell;
+use std::test::Fail;
+
+/// All slots at n1:7001 with the replicas n3:7003 and n4:7004, then a number.
+const WITH_REPLICAS: &[u8] =
+    b"*1\r\n*5\r\n:0\r\n:16383\r\n*2\r\n$2\r\nn1\r\n:7001\r\n*2\r\n$2\r\nn3\r\n:7003\r\n*2\r\n$2\r\nn4\r\n:7004\r\n:1\r\n";
+
+/// The same map, then +OK.
+const ALL_AND_OKAY: &[u8] =
+    b"*1\r\n*5\r\n:0\r\n:16383\r\n*2\r\n$2\r\nn1\r\n:7001\r\n*2\r\n$2\r\nn3\r\n:7003\r\n*2\r\n$2\r\nn4\r\n:7004\r\n+OK\r\n";
+
+/// Answers the replica at a place, and counts how often it is asked.
+#[derive(Drop)]
+struct Nth {
+    place: usize,
+    asked: Cell<u64>,
+}
+
+impl Nth {
+    fn new(place: usize) -> Nth {
+        Nth {
+            place,
+            asked: Cell::new(0),
+        }
+    }
+}
+
+impl ReadRoutingStrategy for Nth {
+    ghost use Rattle.std.specs.Prelude.{true};
+
+    ghost admits = { λ _ _ _. true };
+
+    fn route_read<'a>(&self, candidates: &ReadCandidates<'a>) -> &'a NodeAddress {
+        self.asked.set(self.asked.get().wrapping_add(1));
+        match candidates {
+            ReadCandidates::AnyNode(any) => replica_at(any.replicas(), self.place),
+            ReadCandidates::ReplicasOnly(only) => replica_at(only.replicas(), self.place),
+        }
+    }
+}
+
+fn replica_at<'a>(replicas: &Replicas<'a>, place: usize) -> &'a NodeAddress
+    ensures { Contains replicas.now (address result.now) }
+{
+    match replicas.get(place) {
+        Some(replica) => replica,
+        None => replicas.first(),
+    }
+}
+
+fn links(alloc: Global, n1: &[u8], n3: &[u8], n4: &[u8]) -> Result<Links, RedisError> {
+    let mut links = Vec::new(alloc);
+    add_link(alloc, &mut links, "n1:7001", n1)?;
+    add_link(alloc, &mut links, "n3:7003", n3)?;
+    add_link(alloc, &mut links, "n4:7004", n4)?;
+    Ok(links)
+}
+
+fn read_only_names(alloc: Global) -> Result<Vec<Vec<u8>>, AllocError> {
+    let mut names = Vec::new(alloc);
+    names.push(Vec::from_slice(alloc, b"get")?)?;
+    Ok(names)
+}
+
+/// A client of n1:7001, n3:7003 and n4:7004, for which `GET` only reads.
+fn client(alloc: Global, n1: &[u8], n3: &[u8], n4: &[u8]) -> Result<Client, RedisError> {
+    let links = links(alloc, n1, n3, n4)?;
+    let names = read_only_names(alloc)?;
+    ClusterClient::new(alloc, links, names, 1)
+}
+
+/// Whether the strategy's only answer was this node.
+fn is_picked(alloc: Global, client: &Client, address: &str) -> Result<bool, RedisError> {
+    let node = node(alloc, address)?;
+    Ok(match client.picked() {
+        [only] => *only == node,
+        _ => false,
+    })
+}
+
+#[test]
+fn a_strategy_picks_the_node_of_a_read(rt: HostRuntime) -> Result<(), Fail> {
+    let alloc = rt.alloc();
+    let moved = b"-MOVED 15495 n1:7001\r\n";
+    let mut client = client(alloc, WITH_REPLICAS, b":3\r\n", moved)?;
+    assert!(rt; is_refreshed(alloc, &mut client)?);
+    assert_eq!(rt; client.picked().len(), 0);
+    let second = Nth::new(1);
+    assert_eq!(rt; number_at_a(alloc, &mut client, Some(&second))?, 1);
+    assert_eq!(rt; second.asked.get(), 1);
+    assert!(rt; is_picked(alloc, &client, "n4:7004")?);
+    assert!(rt; is_last_asked(alloc, &client, "n1:7001")?);
+    assert_eq!(rt; number_at_a(alloc, &mut client, Some(&Nth::new(0)))?, 3);
+    assert!(rt; is_picked(alloc, &client, "n3:7003")?);
+    Ok(())
+}
+
+#[test]
+fn without_a_strategy_a_read_goes_to_the_primary(rt: HostRuntime) -> Result<(), Fail> {
+    let alloc = rt.alloc();
+    let mut client = client(alloc, WITH_REPLICAS, b"", b"")?;
+    assert!(rt; is_refreshed(alloc, &mut client)?);
+    assert_eq!(rt; number_at_a(alloc, &mut client, None)?, 1);
+    assert_eq!(rt; client.picked().len(), 0);
+    assert!(rt; is_last_asked(alloc, &client, "n1:7001")?);
+    Ok(())
+}
+
+/// Whether `SET a 1` is answered by +OK.
+fn is_set(alloc: Global, client: &mut Client, strategy: &Nth) -> Result<bool, RedisError> {
+    let mut set = command::cmd(alloc, "SET")?;
+    set.arg("a")?;
+    set.arg("1")?;
+    let answer: Value = client.query(alloc, &set, 0, Some(strategy))?;
+    Ok(answer == Value::Okay)
+}
+
+#[test]
+fn no_strategy_is_asked_for_a_write(rt: HostRuntime) -> Result<(), Fail> {
+    let alloc = rt.alloc();
+    let mut client = client(alloc, ALL_AND_OKAY, b"", b"")?;
+    assert!(rt; is_refreshed(alloc, &mut client)?);
+    let strategy = Nth::new(0);
+    assert!(rt; is_set(alloc, &mut client, &strategy)?);
+    assert_eq!(rt; strategy.asked.get(), 0);
+    assert_eq!(rt; client.picked().len(), 0);
+    Ok(())
+}
+
+#[test]
+fn a_pick_without_a_link_is_told(rt: HostRuntime) -> Result<(), Fail> {
+    let alloc = rt.alloc();
+    let mut client = client(alloc, WITH_REPLICAS, b"$3\r\nab", b"")?;
+    assert!(rt; is_refreshed(alloc, &mut client)?);
+    let ended = kind_of(number_at_a(alloc, &mut client, Some(&Nth::new(0))));
+    assert_eq!(rt; ended, Some(ErrorKind::Io));
+    let closed = kind_of(number_at_a(alloc, &mut client, Some(&Nth::new(0))));
+    assert_eq!(rt; closed, Some(ErrorKind::ClusterConnectionNotFound));
+    assert!(rt; is_picked(alloc, &client, "n3:7003")?);
+    assert_eq!(rt; client.asked().len(), 0);
+    Ok(())
+}

@@ -1,0 +1,19 @@
+//! What the crate answers at known values.
+#![tactic(auto)]
+
+#[cfg(test)]
+mod copies;
+#[cfg(test)]
+mod maps;
+#[cfg(test)]
+mod memory;
+#[cfg(test)]
+mod names;
+#[cfg(test)]
+mod nodes;
+#[cfg(test)]
+mod routes;
+#[cfg(test)]
+mod split;
+#[cfg(test)]
+mod topology;

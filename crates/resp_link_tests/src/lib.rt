@@ -1,0 +1,7 @@
+//! Links over bytes in memory, and over readers and writers of std.
+#![tactic(auto)]
+
+#[cfg(test)]
+mod links;
+#[cfg(test)]
+mod over_std;

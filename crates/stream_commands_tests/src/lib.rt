@@ -1,0 +1,17 @@
+//! Sentences and ranges by examples.
+#![tactic(auto)]
+
+#[cfg(test)]
+mod add;
+#[cfg(test)]
+mod claims;
+#[cfg(test)]
+mod config;
+#[cfg(test)]
+mod read;
+#[cfg(test)]
+mod records;
+#[cfg(test)]
+mod trim;
+#[cfg(test)]
+mod writing;
