@@ -13,7 +13,7 @@ use Rattle.cluster_routing.specs.CombineLaws.{OneSlotIsTheWhole, SubsAreAtTheirP
 use Rattle.cluster_routing.specs.Info.{lent_texts}
 use Rattle.cluster_routing.specs.Lists.{among, concat, front}
 use Rattle.cluster_routing.specs.Parts.{Tuple, argument_slots, len_in_tuples, places_from, tuple_slot}
-use Rattle.cluster_routing.specs.Split.{join_split, listed, part_places, part_tuples, shared_by, shared_text, sub_of, text_at, with_texts}
+use Rattle.cluster_routing.specs.Split.{join_split, text_list, part_places, part_tuples, shared_by, shared_text, sub_of, text_at, with_texts}
 use Rattle.cluster_routing.specs.declared.policy.MultiSlotArgPattern.{MultiSlotArgPattern}
 use Rattle.cluster_routing.specs.declared.policy.MultiSlotArgPattern.TheVariants.{KeysOnly, KeyValuePairs, KeysAndLastArg, KeyWithTwoArgTriples}
 use Rattle.cluster_routing.proofs.Distinct.{nat_tells}
@@ -26,8 +26,8 @@ use Rattle.cluster_routing.proofs.ServingShards.{among-firsts}
 pub nothing_there : (c : Command) (args : List (Option (Bor (List ℕ)))) (i : ℕ) → IsItemAt args i None → c ≡ with_texts c (text_at (lent_texts args) i)
 nothing_there c args i h =
     ap (λ as'. record c { args = as' }) (sym (append-nil c.args))
-    ∙ ap (λ (o : Option (Option (Bor (List ℕ)))). with_texts c (listed (option_map (λ (a : Option (Bor (List ℕ))). option_map (λ (b : Bor (List ℕ)). b.now) a) o))) (got args i None h)
-    ∙ ap (λ o. with_texts c (listed o)) (sym (slice_get-map (λ (a : Option (Bor (List ℕ))). option_map (λ (b : Bor (List ℕ)). b.now) a) args i))
+    ∙ ap (λ (o : Option (Option (Bor (List ℕ)))). with_texts c (text_list (option_map (λ (a : Option (Bor (List ℕ))). option_map (λ (b : Bor (List ℕ)). b.now) a) o))) (got args i None h)
+    ∙ ap (λ o. with_texts c (text_list o)) (sym (slice_get-map (λ (a : Option (Bor (List ℕ))). option_map (λ (b : Bor (List ℕ)). b.now) a) args i))
 
 -- ---- arguments without gaps
 

@@ -11,7 +11,7 @@ use Rattle.cluster_routing.specs.CombineLaws.{SplitWordsAreNames}
 use Rattle.cluster_routing.specs.Lists.{firsts}
 use Rattle.cluster_routing.specs.Parts.{Tuple, width_of, tuple_slot, argument_slots, group, places_from}
 use Rattle.cluster_routing.specs.Routing.{part_to, role_of, route_to}
-use Rattle.cluster_routing.specs.Split.{Parted, Split, Splitting, splitting_by, splitting_of, split_of, cut, shared_by, with_tuples, part_slots, parted, parted_by, parted_of, some_parted, split_routes, tuple_routes}
+use Rattle.cluster_routing.specs.Split.{PartsByPlace, Split, Splitting, splitting_by, splitting_of, split_of, cut, shared_by, with_tuples, part_slots, split_by_place, parts_by_role, parts_by_place, parts_with_routes, split_routes, tuple_routes}
 use Rattle.cluster_routing.specs.Table.{Row, Rule, split, key_after_streams, counted_key_or_random, counted_key, key_at, random, all_masters, all_nodes, nowhere, table, families, is_family, rule_in, rule_of}
 use Rattle.cluster_routing.specs.declared.route.Route.{Route}
 use Rattle.cluster_routing.specs.declared.route.SlotAddr.{SlotAddr}
@@ -147,41 +147,41 @@ tuple_routes_are role w some s h =
     ∙ ap (map (λ slot. (route_to role slot, places_from slot 0 (argument_slots s.tuples)))) (argument_firsts w some s.tuples h)
 
 -- of the arguments behind a split word
-parted_behind : (read_only : List (List ℕ)) (word : List ℕ) (p : Splitting) (behind : List (List ℕ))
-    → parted_by (role_of word read_only) p (word ∷ behind) ≡ option_map (parted read_only) (with_tuples word p (shared_by p.pattern behind) (cut p.pattern behind))
-parted_behind read_only word p behind = by (cut p.pattern behind) refl
+parts_behind : (read_only : List (List ℕ)) (word : List ℕ) (p : Splitting) (behind : List (List ℕ))
+    → parts_by_role (role_of word read_only) p (word ∷ behind) ≡ option_map (split_by_place read_only) (with_tuples word p (shared_by p.pattern behind) (cut p.pattern behind))
+parts_behind read_only word p behind = by (cut p.pattern behind) refl
   where
     role : SlotAddr
     role = role_of word read_only
 
-    by : (o : Option (List Tuple)) → cut p.pattern behind ≡ o → option_and_then (λ tuples. some_parted p (tuple_routes role tuples)) o ≡ option_map (parted read_only) (with_tuples word p (shared_by p.pattern behind) o)
+    by : (o : Option (List Tuple)) → cut p.pattern behind ≡ o → option_and_then (λ tuples. parts_with_routes p (tuple_routes role tuples)) o ≡ option_map (split_by_place read_only) (with_tuples word p (shared_by p.pattern behind) o)
     by None k = refl
     by (Some []) k = refl
     by (Some (t ∷ ts)) k =
         let s : Split = record { word = word; splitting = p; tuples = t ∷ ts; shared = shared_by p.pattern behind } in
-        ap (some_parted p) (tuple_routes_are role (width_of p.pattern) (width_positive p.pattern) s (cut_shaped p.pattern behind t ts k).0)
+        ap (parts_with_routes p) (tuple_routes_are role (width_of p.pattern) (width_positive p.pattern) s (cut_shaped p.pattern behind t ts k).0)
 
-pub parted_word : (args : Args) (read_only : List (List ℕ)) (word : List ℕ) → Some word ≡ bytes_of (slice_get args 0)
-    → option_and_then (λ p. option_and_then (parted_by (role_of word read_only) p) (all_bytes args)) (splitting_of word) ≡ parted_of args read_only
-parted_word [] read_only word h = cc
-parted_word (Cursor ∷ args) read_only word h = cc
-parted_word (Simple x ∷ args) read_only word h =
+pub parts_of_word : (args : Args) (read_only : List (List ℕ)) (word : List ℕ) → Some word ≡ bytes_of (slice_get args 0)
+    → option_and_then (λ p. option_and_then (parts_by_role (role_of word read_only) p) (all_bytes args)) (splitting_of word) ≡ parts_by_place args read_only
+parts_of_word [] read_only word h = cc
+parts_of_word (Cursor ∷ args) read_only word h = cc
+parts_of_word (Simple x ∷ args) read_only word h =
     let same : x ≡ word = cc in
-    subst (λ (w : List ℕ). option_and_then (λ p. option_and_then (parted_by (role_of w read_only) p) (all_bytes (Simple x ∷ args))) (splitting_of w) ≡ parted_of (Simple x ∷ args) read_only) same (by (all_bytes args))
+    subst (λ (w : List ℕ). option_and_then (λ p. option_and_then (parts_by_role (role_of w read_only) p) (all_bytes (Simple x ∷ args))) (splitting_of w) ≡ parts_by_place (Simple x ∷ args) read_only) same (by (all_bytes args))
   where
-    of_word : (behind : List (List ℕ)) (q : Option Splitting) → option_and_then (λ p. parted_by (role_of x read_only) p (x ∷ behind)) q ≡ option_map (parted read_only) (option_and_then (λ (p : Splitting). with_tuples x p (shared_by p.pattern behind) (cut p.pattern behind)) q)
+    of_word : (behind : List (List ℕ)) (q : Option Splitting) → option_and_then (λ p. parts_by_role (role_of x read_only) p (x ∷ behind)) q ≡ option_map (split_by_place read_only) (option_and_then (λ (p : Splitting). with_tuples x p (shared_by p.pattern behind) (cut p.pattern behind)) q)
     of_word behind None = refl
-    of_word behind (Some p) = parted_behind read_only x p behind
+    of_word behind (Some p) = parts_behind read_only x p behind
 
-    of_gap : (q : Option Splitting) → option_and_then (λ (p : Splitting). None) q ≡ (let none : Option Parted = None in none)
+    of_gap : (q : Option Splitting) → option_and_then (λ (p : Splitting). None) q ≡ (let none : Option PartsByPlace = None in none)
     of_gap None = refl
     of_gap (Some p) = refl
 
-    by : (o : Option (List (List ℕ))) → option_and_then (λ p. option_and_then (parted_by (role_of x read_only) p) (option_map (λ rest. x ∷ rest) o)) (splitting_of x) ≡ option_map (parted read_only) (option_and_then split_of (option_map (λ rest. x ∷ rest) o))
+    by : (o : Option (List (List ℕ))) → option_and_then (λ p. option_and_then (parts_by_role (role_of x read_only) p) (option_map (λ rest. x ∷ rest) o)) (splitting_of x) ≡ option_map (split_by_place read_only) (option_and_then split_of (option_map (λ rest. x ∷ rest) o))
     by None = of_gap (splitting_of x)
     by (Some behind) = of_word behind (splitting_of x)
 
-pub parted_nowhere : (args : Args) (read_only : List (List ℕ)) → None ≡ bytes_of (slice_get args 0) → None ≡ parted_of args read_only
-parted_nowhere [] read_only h = refl
-parted_nowhere (Cursor ∷ args) read_only h = refl
-parted_nowhere (Simple x ∷ args) read_only h = cc
+pub parts_nowhere : (args : Args) (read_only : List (List ℕ)) → None ≡ bytes_of (slice_get args 0) → None ≡ parts_by_place args read_only
+parts_nowhere [] read_only h = refl
+parts_nowhere (Cursor ∷ args) read_only h = refl
+parts_nowhere (Simple x ∷ args) read_only h = cc

@@ -5,7 +5,7 @@ use Rattle.std.specs.Global.{Global}
 use Rattle.cluster_routing.specs.Address.{Address, same_address}
 use Rattle.cluster_routing.specs.Seen.{address}
 use Rattle.cluster_routing.specs.Routing.{Destination, to_any_node, to_any_primary, to_route, to_address, to_all_nodes, to_all_primaries, to_parts}
-use Rattle.cluster_routing.specs.Split.{Parted, Splitting}
+use Rattle.cluster_routing.specs.Split.{PartsByPlace, Splitting}
 use Rattle.cluster_routing.specs.declared.route.Route.{Route}
 use Rattle.cluster_routing.specs.declared.policy.MultiSlotArgPattern.{MultiSlotArgPattern}
 use Rattle.cluster_routing.specs.declared.policy.ResponsePolicy.{ResponsePolicy}
@@ -35,7 +35,7 @@ shown_parts parts = map shown_part parts
 abbrev pub shown_splitting : MultiSlotArgPattern × ResponsePolicy → Splitting
 shown_splitting p = record { pattern = p.0; policy = p.1 }
 
-abbrev pub shown_split : SplitParts → Parted
+abbrev pub shown_split : SplitParts → PartsByPlace
 shown_split p = record { routes = map shown_part p.routes.items; splitting = record { pattern = p.pattern; policy = p.policy } }
 
 -- lent arguments of which some are gaps

@@ -1,11 +1,11 @@
 //! The parts of a split command, and the command of each.
 
-ghost use Rattle.std.specs.Prelude.{◌≡◌, ◌++◌, map, flat_map, option_map, option_and_then, IfOk, Some};
+ghost use Rattle.std.specs.Prelude.{◌≡◌, map, flat_map, option_map, option_and_then, IfOk, Some};
 ghost use Rattle.resp_args.specs.Command.{new_command};
 ghost use Rattle.cluster_routing.specs.Command.{all_bytes};
 ghost use Rattle.cluster_routing.specs.Info.{lent, lent_texts, shown_parts, shown_split, shown_splitting, texts};
 ghost use Rattle.cluster_routing.specs.Routing.{role_of};
-ghost use Rattle.cluster_routing.specs.Split.{listed, parted_by, parted_of, shared_text, some_parted, splitting_of, sub_at, sub_of, text_at, with_texts};
+ghost use Rattle.cluster_routing.specs.Split.{text_list, parts_by_role, parts_by_place, shared_text, parts_with_routes, splitting_of, sub_at, sub_of, text_at, with_texts};
 
 use crate::parts::{len_in_tuples, routes_of};
 use crate::policy::{MultiSlotArgPattern, ResponsePolicy};
@@ -44,7 +44,7 @@ impl SplitParts {
         r: &R,
         read_only: &[Vec<u8>],
     ) -> Result<Option<SplitParts>, AllocError>
-        ensures { IfOk result (λ o. option_map shown_split o ≡ parted_of (R.args r.now) (texts read_only.now)) }
+        ensures { IfOk result (λ o. option_map shown_split o ≡ parts_by_place (R.args r.now) (texts read_only.now)) }
     {
         match r.arg_idx(0) {
             None => Ok(None),
@@ -71,7 +71,7 @@ fn parts_by_word<R: Routable>(
     word: &[u8],
     read_only: &[Vec<u8>],
 ) -> Result<Option<SplitParts>, AllocError>
-    ensures { IfOk result (λ o. option_map shown_split o ≡ option_and_then (λ s. option_and_then (parted_by (role_of word.now (texts read_only.now)) s) (all_bytes (R.args r.now))) (splitting_of word.now)) }
+    ensures { IfOk result (λ o. option_map shown_split o ≡ option_and_then (λ s. option_and_then (parts_by_role (role_of word.now (texts read_only.now)) s) (all_bytes (R.args r.now))) (splitting_of word.now)) }
 {
     match splitting_of(word) {
         None => Ok(None),
@@ -98,7 +98,7 @@ fn parts_by_tuples<R: Routable>(
     pattern: MultiSlotArgPattern,
     policy: ResponsePolicy,
 ) -> Result<Option<SplitParts>, AllocError>
-    ensures { IfOk result (λ o. option_map shown_split o ≡ option_and_then (parted_by role (shown_splitting (pattern, policy))) (all_bytes (R.args r.now))) }
+    ensures { IfOk result (λ o. option_map shown_split o ≡ option_and_then (parts_by_role role (shown_splitting (pattern, policy))) (all_bytes (R.args r.now))) }
 {
     match r.arguments(alloc)? {
         None => Ok(None),
@@ -113,7 +113,7 @@ fn parts_of_bytes(
     pattern: MultiSlotArgPattern,
     policy: ResponsePolicy,
 ) -> Result<Option<SplitParts>, AllocError>
-    ensures { IfOk result (λ o. option_map shown_split o ≡ parted_by role (shown_splitting (pattern, policy)) (lent args.now)) }
+    ensures { IfOk result (λ o. option_map shown_split o ≡ parts_by_role role (shown_splitting (pattern, policy)) (lent args.now)) }
 {
     match routes_of(alloc, args, role, pattern)? {
         None => Ok(None),
@@ -127,7 +127,7 @@ fn some_parts(
     pattern: MultiSlotArgPattern,
     policy: ResponsePolicy,
 ) -> Option<SplitParts>
-    ensures { option_map shown_split result ≡ some_parted (shown_splitting (pattern, policy)) (shown_parts routes.items) }
+    ensures { option_map shown_split result ≡ parts_with_routes (shown_splitting (pattern, policy)) (shown_parts routes.items) }
 {
     match routes.as_slice() {
         [] => None,
@@ -187,7 +187,7 @@ fn command_at(alloc: Global, args: &[Option<&[u8]>], places: &[usize]) -> Result
 
 /// Writes an argument, if it is no gap.
 fn write(cmd: &mut Cmd, arg: Option<&[u8]>) -> Result<(), AllocError>
-    ensures { IfOk result (λ _. cmd.new ≡ with_texts cmd.old (listed (Some (option_map (λ a. a.now) arg.entry)))) }
+    ensures { IfOk result (λ _. cmd.new ≡ with_texts cmd.old (text_list (Some (option_map (λ a. a.now) arg.entry)))) }
 {
     match arg {
         Some(bytes) => cmd.arg(bytes),
