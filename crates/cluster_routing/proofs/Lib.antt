@@ -18,3 +18,5 @@ pub mod LawProofs
 pub mod Places
 pub mod Gathered
 pub mod WireRoutes
+pub mod Marks
+pub mod Totals
