@@ -20,3 +20,4 @@ pub mod Gathered
 pub mod WireRoutes
 pub mod Marks
 pub mod Totals
+pub mod Placed

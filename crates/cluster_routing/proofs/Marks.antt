@@ -141,8 +141,8 @@ permutes n order old new is_fresh e f m l = by is_fresh refl
     by : (b : Bool) → is_fresh ≡ b → (is_fresh && list_all (λ m. m) new) ≡ is_permutation n order
     by true h =
         ap (λ b. is_fresh && b) (
-          all_taken new ∙ ap (λ k. list_all (taken new) (numbers_below k)) count
-          ∙ all_same (taken new) (λ i. among nat_eq i order) n (λ i k. m h i ∙ taken_not (taken old i) (among nat_eq i order) (ap (λ o. not (taken o i)) e ∙ free_at_first n i ∙ grind (arith, nat_tests, k)))
+        all_taken new ∙ ap (λ k. list_all (taken new) (numbers_below k)) count
+        ∙ all_same (taken new) (λ i. among nat_eq i order) n (λ i k. m h i ∙ taken_not (taken old i) (among nat_eq i order) (ap (λ o. not (taken o i)) e ∙ free_at_first n i ∙ grind (arith, nat_tests, k)))
         )
         ∙ ap (λ b. b && list_all (λ i. among nat_eq i order) (numbers_below n)) tested
         ∙ in_turn (list_all (λ i. nat_lt i n) order) (list_all (λ i. among nat_eq i order) (numbers_below n)) (is_distinct nat_eq order)

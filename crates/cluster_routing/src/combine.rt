@@ -2,6 +2,8 @@
 
 mod numbers;
 mod permutation;
+mod places;
 
 pub use numbers::aggregate;
 pub use permutation::is_permutation;
+pub use places::combine_and_sort_array_results;

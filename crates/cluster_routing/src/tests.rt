@@ -1,5 +1,6 @@
 //! What the crate answers at known values.
 
+mod combine;
 mod copies;
 mod maps;
 mod memory;
