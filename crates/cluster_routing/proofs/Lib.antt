@@ -21,3 +21,4 @@ pub mod WireRoutes
 pub mod Marks
 pub mod Totals
 pub mod Placed
+pub mod Drawn
