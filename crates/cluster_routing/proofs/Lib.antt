@@ -21,3 +21,7 @@ pub mod Recut
 pub mod SplitWords
 pub mod PartPlaces
 pub mod WireRoutes
+pub mod Marks
+pub mod Totals
+pub mod Placed
+pub mod Drawn

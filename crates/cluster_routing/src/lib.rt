@@ -4,6 +4,7 @@
 mod address;
 mod all_nodes;
 mod candidates;
+mod combine;
 mod copies;
 pub mod laws;
 mod parts;
@@ -24,6 +25,7 @@ mod topology;
 
 pub use address::NodeAddress;
 pub use candidates::{AnyNodeCandidates, ReadCandidates, Replicas, ReplicasOnlyCandidates};
+pub use combine::{aggregate, combine_and_sort_array_results, is_permutation};
 pub use policy::{AggregateOp, LogicalAggregateOp, MultiSlotArgPattern, ResponsePolicy};
 pub use range::{SlotAddrs, SlotAddrsIter, SlotRange};
 pub use range_map::{SlotRangeMap, SlotRangeValues, SlotRanges};

@@ -2,6 +2,8 @@
 #![tactic(auto)]
 
 #[cfg(test)]
+mod combine;
+#[cfg(test)]
 mod copies;
 #[cfg(test)]
 mod maps;

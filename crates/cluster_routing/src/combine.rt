@@ -1,0 +1,9 @@
+//! One reply from the replies to the parts of a split command.
+
+mod numbers;
+mod permutation;
+mod places;
+
+pub use numbers::aggregate;
+pub use permutation::is_permutation;
+pub use places::combine_and_sort_array_results;
