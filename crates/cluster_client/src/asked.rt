@@ -1,7 +1,10 @@
 //! The log of requests.
-ghost use Rattle.std.specs.Prelude.{◌≡◌, map, IfOk};
+ghost use Rattle.std.specs.Prelude.{◌≡◌, ◌<◌, length, map, IfOk, Some};
 ghost use Rattle.cluster_routing.specs.Seen.{address};
+ghost use Rattle.cluster_client.specs.Links.Log.{last_of};
+ghost use Rattle.cluster_client.specs.Links.Request.{Request};
 
+use crate::place::Place;
 use cluster_routing::NodeAddress;
 use std::alloc::{AllocError, Global};
 use std::marker::Model;
@@ -27,19 +30,18 @@ impl Model for Asked {
     ghost view = { λ a. record { node = address a.node; args = map (λ arg. arg.items) a.args.items; asking = a.asking } };
 }
 
-impl Asked {
-    pub(crate) fn new(
-        alloc: Global,
-        node: &NodeAddress,
-        args: &[Vec<u8>],
-        asking: bool,
-    ) -> Result<Asked, AllocError>
-        ensures { IfOk result (λ a. a ≡ record { node = address node.now; args = map (λ arg. arg.items) args.now; asking = asking }) }
-    {
-        let node = node.clone()?;
-        let args = copied(alloc, args)?;
-        Ok(Asked { node, args, asking })
-    }
+/// The last request of the log once more, to this place; its arguments are copied.
+pub(crate) fn sent_again(alloc: Global, log: &[Asked], place: Place) -> Result<Asked, AllocError>
+    requires { 0 < length log.now }
+    ensures { IfOk result (λ a. (q : Request) → last_of log.now ≡ Some q → a ≡ record { node = address place.node; args = q.args; asking = place.asking }) }
+{
+    let last = &log[log.len() - 1];
+    let args = copied(alloc, &last.args)?;
+    Ok(Asked {
+        node: place.node,
+        args,
+        asking: place.asking,
+    })
 }
 
 /// The arguments once more.

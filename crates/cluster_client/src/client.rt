@@ -23,7 +23,7 @@ ghost use Rattle.cluster_client.specs.Links.Whole.{whole};
 ghost use Rattle.cluster_client.specs.Links.Run.{with_log};
 ghost use Rattle.cluster_client.specs.Links.World.{addresses_of, has_repeats, link_at, new_world, nodes, tree_result, tree_results};
 
-use crate::asked::Asked;
+use crate::asked::{Asked, sent_again};
 use crate::dispatch::Dispatch;
 use crate::exchange::exchange_one;
 use crate::links::Links;
@@ -169,7 +169,7 @@ impl<L: ConnectionLike + Drop> ClusterClient<L> {
             strategy,
             &mut self.picked,
         )?;
-        self.follow(alloc, &part.args, place)
+        self.follow(alloc, part.args, place)
     }
 
     /// The replies to parts that are sent one after another, each behind its redirects, up to the first
@@ -181,35 +181,39 @@ impl<L: ConnectionLike + Drop> ClusterClient<L> {
         let mut replies = Vec::new(alloc);
         'parts: for part in parts {
             let Dispatch { place, args } = part;
-            let reply = self.follow(alloc, &args, place)?;
+            let reply = self.follow(alloc, args, place)?;
             replies.push(reply)?;
         }
         Ok(replies)
     }
 
     /// The reply to one part that goes to this place first, behind its redirects.
-    fn follow(&mut self, alloc: Global, args: &[Vec<u8>], first: Place) -> Result<Value, RedisError>
+    fn follow(
+        &mut self,
+        alloc: Global,
+        args: Vec<Vec<u8>>,
+        first: Place,
+    ) -> Result<Value, RedisError>
         requires place { IsOpenAt (nodes L.seen self.old.links.nodes.items) (address first.node) first.which }
         requires within { first.which < vec_len self.old.links.nodes }
-        ensures { ChainMade (whole L.seen self.old) (whole L.seen self.new) (hop_to first) (texts args.now) (tree_result view result) }
+        ensures { ChainMade (whole L.seen self.old) (whole L.seen self.new) (hop_to first) (texts args.items) (tree_result view result) }
     {
-        let mut place = first;
+        let mut which = first.which;
+        let mut request = Asked {
+            node: first.node,
+            args,
+            asking: first.asking,
+        };
         let mut left = self.budget;
         'requests: loop {
-            let request = Asked::new(alloc, &place.node, args, place.asking)?;
-            let reply = exchange_one(
-                &mut self.links,
-                alloc,
-                &mut self.asked,
-                place.which,
-                request,
-            )?;
+            let reply = exchange_one(&mut self.links, alloc, &mut self.asked, which, request)?;
             self.needs_refresh = needs_refresh(self.needs_refresh, &reply);
             match turn_by(alloc, &self.links, left, reply)? {
                 Turn::Answered(value) => return Ok(value),
                 Turn::On(next) => {
                     left -= 1;
-                    place = next;
+                    which = next.which;
+                    request = sent_again(alloc, &self.asked, next)?;
                 }
             }
         }

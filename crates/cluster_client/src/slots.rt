@@ -18,8 +18,11 @@ use std::alloc::{AllocError, Global};
 pub(crate) fn slots_request(alloc: Global, node: &NodeAddress) -> Result<Asked, AllocError>
     ensures { IfOk result (λ q. q ≡ record { node = address node.now; args = slots_command; asking = false }) }
 {
-    let args = slot_cmd(alloc)?.wire_args()?;
-    Asked::new(alloc, node, &args, false)
+    Ok(Asked {
+        node: node.clone()?,
+        args: slot_cmd(alloc)?.wire_args()?,
+        asking: false,
+    })
 }
 
 /// The slot map that a reply of this node lists, or the error in it.

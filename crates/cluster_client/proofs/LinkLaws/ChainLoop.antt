@@ -1,7 +1,7 @@
 -- A part's chain, request by request.
-use Rattle.std.specs.Prelude.{slice_get, filter, ◌||◌, ◌==◌, unwrap_or}
+use Rattle.std.specs.Prelude.{slice_get, slice_index_or, filter, ◌||◌, ◌==◌, unwrap_or}
 use Rattle.std.specs.List.{list_any, AllByRecursion}
-use Rattle.std.proofs.Common.{◌≡◌, ◌≢◌, ℕ, suc, ◌+◌, ◌-◌, inl, inr, Bool, true, false, cond, List, [], ◌∷◌, ◌++◌, map, Option, Some, None, option_and_then, refl, sym, ap, ◌∙◌, subst, append-nil, append_assoc, length, length-append, Result, Ok, Err, arith}
+use Rattle.std.proofs.Common.{◌≡◌, ◌≢◌, ℕ, suc, ◌+◌, ◌-◌, ◌<◌, inl, inr, Bool, true, false, cond, List, [], ◌∷◌, ◌++◌, map, Option, Some, None, option_and_then, refl, sym, ap, ◌∙◌, subst, append-nil, append_assoc, length, length-append, Result, Ok, Err, arith}
 use Rattle.std.proofs.lemmas.Bool.{false≢true}
 use Rattle.std.proofs.lemmas.List.Elements.{filter-append}
 use Rattle.resp_core.specs.Trees.{Tree, nil}
@@ -367,3 +367,28 @@ redirect_bad Data r = absurd (false≢true r)
 
 pub followed_bad : (links : List Address) (left : ℕ) (tree : Tree) (next : Hop) → next_of links left (Some tree) ≡ Goes next → is_data (sort_of tree) ≡ false
 followed_bad links left tree next e = redirect_bad (sort_of tree) (redirect_reply links left (Some tree) next e)
+
+-- ---- a request by its hop
+
+abbrev pub hop_of : Request → Hop
+hop_of q = record { node = q.node; asking = q.asking }
+
+pub with_args : (q : Request) (args : List (List ℕ)) → q.args ≡ args → q ≡ request_of (hop_of q) args
+with_args q args e = λ i. record { node = q.node; args = e i; asking = q.asking }
+
+last_get : (x : Request) (xs : List Request) (q d : Request) → last_of (x ∷ xs) ≡ Some q → slice_index_or (x ∷ xs) (length xs) d ≡ q
+last_get x [] q d e = cc
+last_get x (y ∷ ys) q d e = last_get y ys q d e
+
+-- what is read at the last place
+pub last_read : (xs : List Request) (q d : Request) → last_of xs ≡ Some q → d ≡ slice_index_or xs (length xs - 1) d → d ≡ q
+last_read [] q d e is = cc
+last_read (x ∷ xs) q d e is =
+    let size : length (x ∷ xs) - 1 ≡ length xs = omega arith in
+    is ∙ ap (λ n. slice_index_or (x ∷ xs) n d) size ∙ last_get x xs q d e
+
+-- a log behind one more request
+pub behind_request : (log before : List Request) (q : Request) → log ≡ before ++ q ∷ [] → (last_of log ≡ Some q) × (0 < length log)
+behind_request log before q e =
+    let size : length log ≡ suc (length before) = ap length e ∙ length-snoc before q in
+    (ap last_of e ∙ last-snoc before q, omega (arith, size))

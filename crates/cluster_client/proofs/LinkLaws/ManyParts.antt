@@ -26,7 +26,7 @@ use Rattle.cluster_client.specs.Calls.Picks.{ArePicks}
 use Rattle.cluster_client.specs.Calls.Legal.{PartByPart, IsLegalCall}
 use Rattle.cluster_client.specs.Calls.Replies.{exchange_slot, reply_or_nil, part_replies, reply_of_parts}
 use Rattle.cluster_client.specs.Calls.Refusals.{part_refusal}
-use Rattle.cluster_client.specs.Calls.Answer.{Answer, Value, answer_in, unless}
+use Rattle.cluster_client.specs.Calls.Answer.{Value, answer_in, unless}
 use Rattle.cluster_client.proofs.LinkLaws.LinkCalls.{AreLinkCalls, link_calls_made}
 use Rattle.cluster_client.proofs.LinkLaws.MovedLaws.{answered_plain}
 use Rattle.cluster_client.proofs.LinkLaws.Played.{call_made}

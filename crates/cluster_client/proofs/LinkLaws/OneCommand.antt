@@ -1,42 +1,35 @@
 -- A call of one command that is not split, from its one part's chain.
-use Rattle.std.specs.Prelude.{filter, ◌||◌, MatchBool, MatchOption, ⊤}
-use Rattle.std.specs.List.{list_any, AllByRecursion}
-use Rattle.std.proofs.Common.{◌≡◌, ◌≢◌, ℕ, ◌-◌, Bool, true, false, cond, List, [], ◌∷◌, ◌++◌, map, Option, Some, None, option_and_then, refl, sym, ap, ◌∙◌, subst, append-nil, Result, Ok, Err}
+use Rattle.std.specs.Prelude.{◌||◌, MatchBool, MatchOption}
+use Rattle.std.proofs.Common.{◌≡◌, ◌≢◌, ℕ, Bool, true, false, cond, List, [], ◌∷◌, Option, Some, None, refl, sym, ap, ◌∙◌, subst, Result, Ok, Err}
 use Rattle.std.proofs.lemmas.Bool.{false≢true}
-use Rattle.resp_core.specs.Trees.{Tree, nil}
+use Rattle.resp_core.specs.Trees.{Tree}
 use Rattle.resp_core.specs.Errors.{Refusal, by_cause}
 use Rattle.resp_core.specs.declared.errors.redis_error.Cause.TheVariants.{Memory, NoNode, NoLink}
 use Rattle.resp_args.specs.Command.{Command}
 use Rattle.resp_args.specs.Packed.{sent}
 use Rattle.cluster_routing.specs.Address.{Address}
 use Rattle.cluster_routing.specs.Choice.{Strategy}
-use Rattle.cluster_routing.specs.Combine.{PartReply}
 use Rattle.cluster_routing.specs.Policies.{or_bad_reply}
 use Rattle.cluster_routing.specs.Routing.{Destination, destination}
-use Rattle.cluster_routing.specs.Split.{Split, split_of, has_split_word}
-use Rattle.cluster_client.specs.Links.Request.{Request, requests_to}
-use Rattle.cluster_client.specs.Links.Log.{Exchange, requests, is_answered, behind_answers}
+use Rattle.cluster_routing.specs.Split.{split_of, has_split_word}
+use Rattle.cluster_client.specs.Links.Request.{Request}
 use Rattle.cluster_client.specs.Links.World.{World, open_links, is_linked, one_reply}
-use Rattle.cluster_client.specs.Links.Faults.{LinkFault}
-use Rattle.cluster_client.specs.Links.Events.{Event, Runs, log_of, exchanges_of, Agrees, lack_memory, answered_moved}
 use Rattle.cluster_client.specs.Links.Nodes.{link_calls}
-use Rattle.cluster_client.specs.Links.Happened.{client_of, is_refresh, BeginsLegal, Happened, Answered, LeavesMap, CallMade}
+use Rattle.cluster_client.specs.Links.Happened.{client_of, is_refresh, Happened, CallMade}
 use Rattle.cluster_client.specs.Links.Run.{with_log}
 use Rattle.cluster_client.specs.Links.Converted.{value_answer}
 use Rattle.cluster_client.specs.Links.Chains.{ChainMade}
 use Rattle.cluster_client.specs.Links.PartRuns.{IsMadeOfParts}
 use Rattle.cluster_client.specs.Links.FirstPlaces.{ArePicksAt, node_with_link}
-use Rattle.cluster_client.specs.Calls.Call.{Call, Refresh, Query, Ordered, Pipeline, FanOut, OnStreams}
+use Rattle.cluster_client.specs.Calls.Call.{Call, Query}
 use Rattle.cluster_client.specs.Calls.Task.{Task, slot_map_of, one_command, pipeline_of, several_nodes, task_of}
 use Rattle.cluster_client.specs.Calls.Parts.{Part, parts_of, only_part, if_ordered, result_then}
-use Rattle.cluster_client.specs.Calls.Plan.{Client, Dispatch, First, first_of, target_candidates, dispatch_one, dispatches, in_order, order_of, unless_refused, call_parts, plan}
-use Rattle.cluster_client.specs.Calls.Picks.{IsPick, ArePartPicks, ArePicks}
-use Rattle.cluster_client.specs.Calls.Redirects.{Hop, Next, Stays, Lost, Goes, MatchNext, next_of, FollowsRedirects}
-use Rattle.cluster_client.specs.Calls.Legal.{PartByPart, IsLegalCall}
+use Rattle.cluster_client.specs.Calls.Plan.{Client, Dispatch, First, first_of, dispatch_one, dispatches, in_order, order_of, call_parts, plan}
+use Rattle.cluster_client.specs.Calls.Picks.{ArePartPicks, ArePicks}
+use Rattle.cluster_client.specs.Calls.Redirects.{Hop}
 use Rattle.cluster_client.specs.Calls.Replies.{args_slot, reply_by_split}
-use Rattle.cluster_client.specs.Calls.Refusals.{part_refusal}
-use Rattle.cluster_client.specs.Calls.Answer.{Answer, Value, answer_of, call_answer, unless}
-use Rattle.cluster_client.proofs.LinkLaws.LinkCalls.{AreLinkCalls, link_calls_made}
+use Rattle.cluster_client.specs.Calls.Answer.{Answer}
+use Rattle.cluster_client.proofs.LinkLaws.LinkCalls.{AreLinkCalls}
 use Rattle.cluster_client.proofs.LinkLaws.MovedLaws.{answered_plain}
 use Rattle.cluster_client.proofs.LinkLaws.Played.{call_made}
 use Rattle.cluster_client.proofs.LinkLaws.PartLoop.{from_place, part_alone}

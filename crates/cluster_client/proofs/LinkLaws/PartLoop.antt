@@ -12,8 +12,7 @@ use Rattle.cluster_routing.specs.Address.{Address, same_address}
 use Rattle.cluster_client.specs.Links.Log.{Exchange, is_answered, is_unanswered, is_data_reply, has_lost, behind_answers}
 use Rattle.cluster_client.specs.Links.World.{World, Node, addresses_of, place_at, is_linked, open_links, one_reply}
 use Rattle.cluster_client.specs.Links.Places.{IsOpenAt}
-use Rattle.cluster_client.specs.Links.Faults.{LinkFault}
-use Rattle.cluster_client.specs.Links.Events.{Event, Runs, log_of, exchanges_of, Agrees, lack_memory, answered_moved, faults_of}
+use Rattle.cluster_client.specs.Links.Events.{Event, Runs, log_of, exchanges_of, lack_memory, answered_moved, faults_of}
 use Rattle.cluster_client.specs.Links.Chains.{IsSingle, IsChain, ChainMade}
 use Rattle.cluster_client.specs.Links.PartRuns.{PartsAnswered, PartsMade}
 use Rattle.cluster_client.specs.Links.Happened.{client_of}

@@ -1,5 +1,5 @@
 -- Parts sent one after another, each behind its redirects, and what this makes of the whole call.
-use Rattle.std.specs.Prelude.{◌≡◌, ◌≢◌, ℕ, ◌||◌, false, List, [], ◌∷◌, ◌++◌, map, filter, length, Some, Vec, Result, Ok, Err}
+use Rattle.std.specs.Prelude.{◌≡◌, ◌≢◌, ℕ, ◌||◌, false, List, [], ◌∷◌, ◌++◌, map, filter, Some, Result, Ok, Err}
 use Rattle.std.specs.List.{AllByRecursion}
 use Rattle.resp_core.specs.Trees.{Tree}
 use Rattle.resp_core.specs.Errors.{Refusal, by_cause}

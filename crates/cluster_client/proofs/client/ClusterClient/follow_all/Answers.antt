@@ -40,7 +40,7 @@ returns-in_err-reply g c =
     let steps : into_iter_items c.parts.part-iterator ≡ c.in-Some.part ∷ into_iter_items c.next.new.self = c.in-Some.ensures.steps.0 in
     let placed = rw steps at c.parts.invariant.placed in
     let loop = rw steps at c.parts.invariant.loop in
-    let chain = rw c.deref.ensures.value at c.in_err-reply.ensures in
+    let chain = c.in_err-reply.ensures in
     rw (p.1, p.2) (parts_refused _ _ _ _ (dispatch_of c.in-Some.part) _ _ loop _ (from_place _ _ (dispatch_of c.in-Some.part) _ _ placed.0.1 chain))
 
 pub returns-in_err-push : goal.returns-in_err-push
@@ -49,7 +49,7 @@ returns-in_err-push g c =
     let steps : into_iter_items c.parts.part-iterator ≡ c.in-Some.part ∷ into_iter_items c.next.new.self = c.in-Some.ensures.steps.0 in
     let placed = rw steps at c.parts.invariant.placed in
     let loop = rw steps at c.parts.invariant.loop in
-    let chain = rw c.deref.ensures.value at c.in_ok-reply.ensures in
+    let chain = c.in_ok-reply.ensures in
     rw (p.1, p.2) (parts_stopped _ _ _ _ _ (parts_more _ _ _ _ (dispatch_of c.in-Some.part) _ _ loop _ (from_place _ _ (dispatch_of c.in-Some.part) _ _ placed.0.1 chain)))
 
 pub returns : goal.returns
@@ -62,7 +62,7 @@ parts-preserved g c =
     let steps : into_iter_items c.parts.part-iterator ≡ c.in-Some.part ∷ into_iter_items c.next.new.self = c.in-Some.ensures.steps.0 in
     let placed = rw steps at c.parts.invariant.placed in
     let loop = rw steps at c.parts.invariant.loop in
-    let chain = rw c.deref.ensures.value at c.in_ok-reply.ensures in
+    let chain = c.in_ok-reply.ensures in
     record {
       loop = rw (c.in_ok-push.ensures.items, map-append) (parts_more _ _ _ _ (dispatch_of c.in-Some.part) _ _ loop _ (from_place _ _ (dispatch_of c.in-Some.part) _ _ placed.0.1 chain));
       placed = placed.1;

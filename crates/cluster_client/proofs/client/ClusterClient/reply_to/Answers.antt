@@ -41,7 +41,7 @@ returns-in_err-place-clause-split g c split = cc (c.in_ok-part.ensures.split spl
 pub returns-clause-made : goal.returns-clause-made
 returns-clause-made g c unsplit =
     let parts = rw c.deref.ensures.value at (c.in_ok-part.ensures.part (λ k. cc k) unsplit) in
-    let chain = rw (c.new.ensures.items, c.deref-2.ensures.value) at c.follow.ensures in
+    let chain = rw c.new.ensures.items at c.follow.ensures in
     command_made _ _ _ _ _ (part_of c.in_ok-part.part) (hop_to c.in_ok-place.place) _ _ unsplit (sym parts) (sym (c.in_ok-place.ensures.node (λ k. cc k))) c.in_ok-place.ensures.direct (c.in_ok-place.ensures.picks (λ k. cc k)) chain
 
 pub returns-clause-split : goal.returns-clause-split
