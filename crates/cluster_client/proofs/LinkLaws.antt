@@ -15,6 +15,7 @@ pub mod Played
 pub mod PlayedRuns
 pub mod ChainLoop
 pub mod Nodes
+pub mod Dispatching
 pub mod OneCommand
 pub mod OneRequest
 pub mod Refreshing

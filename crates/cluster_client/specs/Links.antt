@@ -16,5 +16,6 @@ pub mod Accepted
 pub mod Chains
 pub mod Exchanges
 pub mod FirstPlaces
+pub mod Dispatches
 pub mod Turns
 pub mod Whole

@@ -3,6 +3,7 @@
 
 mod asked;
 mod client;
+mod dispatch;
 mod exchange;
 pub mod laws;
 mod links;
