@@ -16,6 +16,7 @@ pub mod PlayedRuns
 pub mod ChainLoop
 pub mod Nodes
 pub mod Dispatching
+pub mod Dispatched
 pub mod OneCommand
 pub mod OneRequest
 pub mod Refreshing
