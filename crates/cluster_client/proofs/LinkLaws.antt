@@ -17,6 +17,7 @@ pub mod ChainLoop
 pub mod Nodes
 pub mod Dispatching
 pub mod Dispatched
+pub mod Ordering
 pub mod OneCommand
 pub mod OneRequest
 pub mod Refreshing

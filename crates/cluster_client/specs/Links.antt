@@ -17,5 +17,6 @@ pub mod Chains
 pub mod Exchanges
 pub mod FirstPlaces
 pub mod Dispatches
+pub mod Taken
 pub mod Turns
 pub mod Whole
