@@ -17,6 +17,9 @@ pub mod ChainLoop
 pub mod PartLoop
 pub mod Nodes
 pub mod ManyParts
+pub mod Dispatching
+pub mod Dispatched
+pub mod Ordering
 pub mod OneCommand
 pub mod OneRequest
 pub mod Refreshing

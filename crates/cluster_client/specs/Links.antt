@@ -17,5 +17,7 @@ pub mod Chains
 pub mod PartRuns
 pub mod Exchanges
 pub mod FirstPlaces
+pub mod Dispatches
+pub mod Taken
 pub mod Turns
 pub mod Whole

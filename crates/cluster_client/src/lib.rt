@@ -7,6 +7,7 @@ mod dispatch;
 mod exchange;
 pub mod laws;
 mod links;
+mod order;
 mod place;
 mod reply;
 mod route;

@@ -1,6 +1,6 @@
 //! Where a part goes first: the node that serves its slot, that a strategy picks or that a number
 //! chooses, and the place of its link.
-ghost use Rattle.std.specs.Prelude.{◌≡◌, ◌≢◌, ◌<◌, [], is_some, map, vec_len, IfOk, Err, option_map, false};
+ghost use Rattle.std.specs.Prelude.{◌≡◌, ◌≢◌, ◌<◌, is_some, map, vec_len, IfOk, Err, option_map, false};
 ghost use Rattle.resp_core.specs.Errors.{by_cause};
 ghost use Rattle.resp_core.specs.declared.errors.redis_error.Cause.TheVariants.{Memory};
 ghost use Rattle.cluster_routing.specs.AllNodes.{all_nodes};
@@ -8,9 +8,9 @@ ghost use Rattle.cluster_routing.specs.Seen.{address, addresses};
 ghost use Rattle.cluster_routing.specs.SlotMap.{nodes_at};
 ghost use Rattle.cluster_client.specs.Links.World.{nodes, open_links};
 ghost use Rattle.cluster_client.specs.Links.Places.{IsOpenAt};
-ghost use Rattle.cluster_client.specs.Links.FirstPlaces.{ArePicksAt, IsPickOf, node_by, node_by_place, node_in, node_with_link, target_of};
+ghost use Rattle.cluster_client.specs.Links.FirstPlaces.{FindsFirst, IsPickOf, node_by, node_by_place, node_in, node_with_link, target_of};
 ghost use Rattle.cluster_client.specs.Calls.Parts.{at_slot};
-ghost use Rattle.cluster_client.specs.Calls.Plan.{by_number, first_of, is_read, target_candidates};
+ghost use Rattle.cluster_client.specs.Calls.Plan.{by_number, is_read, target_candidates};
 
 use crate::links::Links;
 use crate::route::Target;
@@ -63,17 +63,16 @@ fn primary(slots: &SlotMap, route: Route) -> Option<&NodeAddress>
     slots.slot_addr_for_route(write, 0, None)
 }
 
-/// The node that serves a route: the one that the strategy picks, which is written down, else the
-/// primary.
+/// The node that serves a route: the one that the strategy picks, which is written down behind those
+/// that were picked before, else the primary.
 fn node_at_slot<'a>(
     slots: &'a SlotMap,
     route: Route,
     strategy: Option<&dyn ReadRoutingStrategy>,
     picked: &mut Vec<NodeAddress>,
 ) -> Result<&'a NodeAddress, RedisError>
-    requires { picked.old.items ≡ [] }
-    ensures node { result ≢ Err (by_cause Memory) → node_by (λ node. address node.now) result ≡ node_in (first_of slots.now (addresses picked.new.items) (at_slot route)) }
-    ensures picks { result ≢ Err (by_cause Memory) → ArePicksAt (option_map (λ s. admits s.now) strategy.entry) slots.now (at_slot route) (addresses picked.new.items) }
+    ensures { result ≢ Err (by_cause Memory) → FindsFirst (option_map (λ s. admits s.now) strategy.entry) slots.now (at_slot route) (addresses picked.old.items) (addresses picked.new.items)
+        (λ first. node_by (λ node. address node.now) result ≡ node_in first) }
 {
     if let Some(node) = pick(slots, route, strategy) {
         picked.push(node.clone()?)?;
@@ -118,9 +117,8 @@ fn first_node<'a>(
     strategy: Option<&dyn ReadRoutingStrategy>,
     picked: &mut Vec<NodeAddress>,
 ) -> Result<&'a NodeAddress, RedisError>
-    requires { picked.old.items ≡ [] }
-    ensures node { result ≢ Err (by_cause Memory) → node_by (λ node. address node.now) result ≡ node_in (first_of slots.now (addresses picked.new.items) (target_of target.now)) }
-    ensures picks { result ≢ Err (by_cause Memory) → ArePicksAt (option_map (λ s. admits s.now) strategy.entry) slots.now (target_of target.now) (addresses picked.new.items) }
+    ensures { result ≢ Err (by_cause Memory) → FindsFirst (option_map (λ s. admits s.now) strategy.entry) slots.now (target_of target.now) (addresses picked.old.items) (addresses picked.new.items)
+        (λ first. node_by (λ node. address node.now) result ≡ node_in first) }
 {
     match target {
         Target::Slot(route) => node_at_slot(slots, *route, strategy, picked),
@@ -140,10 +138,8 @@ pub(crate) fn first_place<L: ConnectionLike>(
     strategy: Option<&dyn ReadRoutingStrategy>,
     picked: &mut Vec<NodeAddress>,
 ) -> Result<Place, RedisError>
-    requires { picked.old.items ≡ [] }
-    ensures node { result ≢ Err (by_cause Memory) → node_by (λ p. address p.node) result
-        ≡ node_with_link (open_links (nodes L.seen links.now.nodes.items)) (first_of slots.now (addresses picked.new.items) (target_of target.now)) }
-    ensures picks { result ≢ Err (by_cause Memory) → ArePicksAt (option_map (λ s. admits s.now) strategy.entry) slots.now (target_of target.now) (addresses picked.new.items) }
+    ensures found { result ≢ Err (by_cause Memory) → FindsFirst (option_map (λ s. admits s.now) strategy.entry) slots.now (target_of target.now) (addresses picked.old.items) (addresses picked.new.items)
+        (λ first. node_by (λ p. address p.node) result ≡ node_with_link (open_links (nodes L.seen links.now.nodes.items)) first) }
     ensures place { IfOk result (λ p. IsOpenAt (nodes L.seen links.now.nodes.items) (address p.node) p.which) }
     ensures direct { IfOk result (λ p. p.asking ≡ false) }
     ensures within { IfOk result (λ p. p.which < vec_len links.now.nodes) }

@@ -1,5 +1,5 @@
 -- Where one part goes first, as the code finds it.
-use Rattle.std.specs.Prelude.{◌≡◌, ℕ, Bool, if◌then◌else◌, List, [], ◌∷◌, Option, Some, None, Result, Ok, Err, MatchOption}
+use Rattle.std.specs.Prelude.{◌≡◌, ℕ, Bool, if◌then◌else◌, List, [], ◌∷◌, ◌++◌, Option, Some, None, Result, Ok, Err, MatchOption}
 use Rattle.resp_core.specs.Errors.{Refusal, by_cause}
 use Rattle.resp_core.specs.declared.errors.redis_error.Cause.TheVariants.{NoNode, NoLink}
 use Rattle.cluster_routing.specs.Address.{Address}
@@ -67,3 +67,10 @@ IsPickOf None candidates pick = pick ≡ None
 IsPickOf (Some admits) None pick = pick ≡ None
 IsPickOf (Some admits) (Some candidates) None = ⊥
 IsPickOf (Some admits) (Some candidates) (Some pick) = IsAdmitted admits candidates pick
+
+-- Where a target leads, by picks of its own, which stand behind those that were made before.
+pub record FindsFirst (strategy : Option Strategy) (entries : SlotEntries) (target : Target) (old new : List Address) (Leads : Option First → Type 0) : Type 0 where
+  pub own : List Address
+  pub behind : new ≡ old ++ own
+  pub picks : ArePicksAt strategy entries target own
+  pub leads : Leads (first_of entries own target)

@@ -6,29 +6,17 @@ use Rattle.resp_core.specs.Errors.{Refusal, by_cause}
 use Rattle.resp_core.specs.declared.errors.redis_error.Cause.TheVariants.{Memory}
 use Rattle.cluster_routing.specs.Address.{Address}
 use Rattle.cluster_routing.specs.Combine.{PartReply}
-use Rattle.cluster_routing.specs.Info.{texts}
 use Rattle.cluster_routing.specs.Policies.{or_bad_reply}
-use Rattle.cluster_routing.specs.Seen.{address}
-use Rattle.cluster_client.specs.declared.dispatch.Dispatch.{Dispatch as CodeDispatch}
 use Rattle.cluster_client.specs.Links.Log.{Exchange, is_answered, behind_answers}
-use Rattle.cluster_client.specs.Links.World.{World, Node}
+use Rattle.cluster_client.specs.Links.World.{World}
 use Rattle.cluster_client.specs.Links.Faults.{LinkFault}
 use Rattle.cluster_client.specs.Links.Events.{Event, Runs, log_of, exchanges_of, Agrees, lack_memory, answered_moved}
-use Rattle.cluster_client.specs.Links.Places.{IsOpenAt}
 use Rattle.cluster_client.specs.Links.Chains.{IsSingle}
 use Rattle.cluster_client.specs.Links.Happened.{client_of}
 use Rattle.cluster_client.specs.Calls.Plan.{Client, Dispatch}
 use Rattle.cluster_client.specs.Calls.Legal.{PartByPart}
 use Rattle.cluster_client.specs.Calls.Replies.{args_slot, reply_or_nil, reply_of_parts}
 use Rattle.cluster_client.specs.Calls.Refusals.{part_refusal}
-
--- what the code's dispatches are
-abbrev pub dispatch_of : CodeDispatch → Dispatch
-dispatch_of d = record { node = address d.place.node; args = texts d.args.items }
-
--- its place is that of an open link, and no ASKING goes before its request
-abbrev pub IsPlaced : List Node → CodeDispatch → Type 0
-IsPlaced nodes d = IsOpenAt nodes (address d.place.node) d.place.which × (d.place.asking ≡ false)
 
 -- ---- the run of the parts
 

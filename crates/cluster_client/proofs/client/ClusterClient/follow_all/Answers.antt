@@ -3,7 +3,7 @@ use Rattle.std.specs.Vec.Iter.{into_iter_items}
 use Rattle.std.proofs.lemmas.List.{length-map, map-append}
 use Rattle.std.proofs.lemmas.Result.{err_from_is_err_and}
 use Rattle.cluster_routing.specs.Seen.{address}
-use Rattle.cluster_client.specs.Links.PartRuns.{dispatch_of}
+use Rattle.cluster_client.specs.Links.Dispatches.{dispatch_of}
 use Rattle.cluster_client.specs.Links.World.{nodes}
 use Rattle.cluster_client.proofs.LinkLaws.PartLoop.{from_place, parts_done, parts_more, parts_refused, parts_start, parts_stopped, place_within, still_placed}
 use Rattle.cluster_client.proofs.client.ClusterClient.follow_all.Goals as goal
@@ -24,13 +24,13 @@ pub follow-requires-clause-place : goal.follow-requires-clause-place
 follow-requires-clause-place g c =
     let steps : into_iter_items c.parts.part-iterator ≡ c.in-Some.part ∷ into_iter_items c.next.new.self = c.in-Some.ensures.steps.0 in
     let placed = rw steps at c.parts.invariant.placed in
-    still_placed c.parts.invariant.loop _ _ placed.0.0
+    still_placed c.parts.invariant.loop _ _ placed.0.place
 
 pub follow-requires-clause-within : goal.follow-requires-clause-within
 follow-requires-clause-within g c =
     let steps : into_iter_items c.parts.part-iterator ≡ c.in-Some.part ∷ into_iter_items c.next.new.self = c.in-Some.ensures.steps.0 in
     let placed = rw steps at c.parts.invariant.placed in
-    let at = still_placed c.parts.invariant.loop _ _ placed.0.0 in
+    let at = still_placed c.parts.invariant.loop _ _ placed.0.place in
     let within : c.in-Some.part.place.which < length c.parts.self.links.nodes.items = rw length-map at (place_within (nodes g.L.ConnectionLike.seen c.parts.self.links.nodes.items) (address c.in-Some.part.place.node) c.in-Some.part.place.which at.place) in
     rw c.parts.self.links.nodes.ok.0 within
 
@@ -41,7 +41,7 @@ returns-in_err-reply g c =
     let placed = rw steps at c.parts.invariant.placed in
     let loop = rw steps at c.parts.invariant.loop in
     let chain = c.in_err-reply.ensures in
-    rw (p.1, p.2) (parts_refused _ _ _ _ (dispatch_of c.in-Some.part) _ _ loop _ (from_place _ _ (dispatch_of c.in-Some.part) _ _ placed.0.1 chain))
+    rw (p.1, p.2) (parts_refused _ _ _ _ (dispatch_of c.in-Some.part) _ _ loop _ (from_place _ _ (dispatch_of c.in-Some.part) _ _ placed.0.direct chain))
 
 pub returns-in_err-push : goal.returns-in_err-push
 returns-in_err-push g c =
@@ -50,7 +50,7 @@ returns-in_err-push g c =
     let placed = rw steps at c.parts.invariant.placed in
     let loop = rw steps at c.parts.invariant.loop in
     let chain = c.in_ok-reply.ensures in
-    rw (p.1, p.2) (parts_stopped _ _ _ _ _ (parts_more _ _ _ _ (dispatch_of c.in-Some.part) _ _ loop _ (from_place _ _ (dispatch_of c.in-Some.part) _ _ placed.0.1 chain)))
+    rw (p.1, p.2) (parts_stopped _ _ _ _ _ (parts_more _ _ _ _ (dispatch_of c.in-Some.part) _ _ loop _ (from_place _ _ (dispatch_of c.in-Some.part) _ _ placed.0.direct chain)))
 
 pub returns : goal.returns
 returns g c =
@@ -64,6 +64,6 @@ parts-preserved g c =
     let loop = rw steps at c.parts.invariant.loop in
     let chain = c.in_ok-reply.ensures in
     record {
-      loop = rw (c.in_ok-push.ensures.items, map-append) (parts_more _ _ _ _ (dispatch_of c.in-Some.part) _ _ loop _ (from_place _ _ (dispatch_of c.in-Some.part) _ _ placed.0.1 chain));
+      loop = rw (c.in_ok-push.ensures.items, map-append) (parts_more _ _ _ _ (dispatch_of c.in-Some.part) _ _ loop _ (from_place _ _ (dispatch_of c.in-Some.part) _ _ placed.0.direct chain));
       placed = placed.1;
     }

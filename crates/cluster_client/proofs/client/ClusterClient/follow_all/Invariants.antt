@@ -2,7 +2,7 @@ use Rattle.std.proofs.Common.{map}
 use Rattle.std.specs.List.{AllByRecursion}
 use Rattle.std.specs.Vec.Iter.{into_iter_items}
 use Rattle.resp_core.specs.View.{view}
-use Rattle.cluster_client.specs.Links.PartRuns.{IsPlaced, dispatch_of}
+use Rattle.cluster_client.specs.Links.Dispatches.{IsPlaced, dispatch_of}
 use Rattle.cluster_client.specs.Links.Whole.{whole}
 use Rattle.cluster_client.specs.Links.World.{nodes}
 use Rattle.cluster_client.proofs.LinkLaws.PartLoop.{PartLoop}

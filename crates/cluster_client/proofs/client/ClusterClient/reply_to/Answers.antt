@@ -13,6 +13,7 @@ use Rattle.cluster_client.specs.Links.Turns.{hop_to}
 use Rattle.cluster_client.specs.Links.Whole.{whole}
 use Rattle.cluster_client.specs.Links.World.{nodes, open_links, tree_result}
 use Rattle.cluster_client.proofs.LinkLaws.OneCommand.{command_made, part_refused, place_refused, relogged, same_refusal}
+use Rattle.cluster_client.proofs.LinkLaws.Dispatching.{found_alone}
 use Rattle.cluster_client.proofs.client.ClusterClient.reply_to.Goals as goal
 
 pub returns-in_err-part-clause-made : goal.returns-in_err-part-clause-made
@@ -33,7 +34,7 @@ returns-in_err-place-clause-made g c unsplit =
     let p = err_from_is_err_and c.from_residual-in_err-place.result c.from_residual-in_err-place.ensures.1 in
     rw (p.1, p.2) (place_refused _ _ _ _ _ (part_of c.in_ok-part.part) _ (record { nodes = refl; log = c.new.ensures.items; entries = refl; settings = refl; flag = refl })
     (sym (rw c.deref.ensures.value at (c.in_ok-part.ensures.part (λ k. cc k) unsplit)))
-    (λ m. (sym (c.in_err-place.ensures.node (λ k. m (cc k))), c.in_err-place.ensures.picks (λ k. m (cc k)))))
+    (λ m. let first = found_alone (c.in_err-place.ensures.found (λ k. m (cc k))) (ap addresses c.new-2.ensures.items) in (sym first.0, first.1)))
 
 pub returns-in_err-place-clause-split : goal.returns-in_err-place-clause-split
 returns-in_err-place-clause-split g c split = cc (c.in_ok-part.ensures.split split)
@@ -42,7 +43,8 @@ pub returns-clause-made : goal.returns-clause-made
 returns-clause-made g c unsplit =
     let parts = rw c.deref.ensures.value at (c.in_ok-part.ensures.part (λ k. cc k) unsplit) in
     let chain = rw c.new.ensures.items at c.follow.ensures in
-    command_made _ _ _ _ _ (part_of c.in_ok-part.part) (hop_to c.in_ok-place.place) _ _ unsplit (sym parts) (sym (c.in_ok-place.ensures.node (λ k. cc k))) c.in_ok-place.ensures.direct (c.in_ok-place.ensures.picks (λ k. cc k)) chain
+    let first = found_alone (c.in_ok-place.ensures.found (λ k. cc k)) (ap addresses c.new-2.ensures.items) in
+    command_made _ _ _ _ _ (part_of c.in_ok-part.part) (hop_to c.in_ok-place.place) _ _ unsplit (sym parts) (sym first.0) c.in_ok-place.ensures.direct first.1 chain
 
 pub returns-clause-split : goal.returns-clause-split
 returns-clause-split g c split = cc (c.in_ok-part.ensures.split split)
