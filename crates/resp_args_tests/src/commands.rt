@@ -32,7 +32,6 @@ fn packs<R: Abort>(rt: &R, command: &Cmd, expected: &[u8]) -> Result<(), AllocEr
 
 #[test]
 fn packs_gaps_as_the_number_set_last(rt: HostRuntime) -> Result<(), Fail> {
-    assert!(rt; !cmd(rt.alloc(), "SSCAN")?.in_scan_mode());
     let mut command = scan(rt.alloc())?;
     assert!(rt; command.in_scan_mode());
     packs(&rt, &command, SCAN)?;

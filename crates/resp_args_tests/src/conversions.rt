@@ -1,8 +1,8 @@
 //! What replies are read as.
 use indexmap::IndexMap;
 use resp_args::{FromRedisValue, from_redis_value, from_redis_value_ref};
-use resp_core::{Parser, Value};
-use std::alloc::{AllocError, Global};
+use resp_core::{Parser, ParsingError, Value};
+use std::alloc::Global;
 use std::fmt::Debug;
 use std::process::Abort;
 use std::test::Fail;
@@ -33,18 +33,32 @@ fn gives<T: FromRedisValue + PartialEq + Debug, R: Abort>(
     Ok(())
 }
 
+// The value was refused, and not for want of memory.
+fn is_refused<T: Drop>(outcome: Result<T, ParsingError>) -> bool {
+    match outcome {
+        Ok(_) => false,
+        Err(e) => !e.is_memory(),
+    }
+}
+
 // The owned and the lent form both refuse.
 fn refuses<T: FromRedisValue, R: Abort>(rt: &R, alloc: Global, bytes: &[u8]) -> Result<(), Fail> {
     let value = reply(alloc, bytes)?;
-    match from_redis_value_ref::<T>(alloc, &value) {
-        Ok(_) => Err("a lent reply was read")?,
-        Err(e) => assert!(rt; !e.is_memory()),
-    }
-    match from_redis_value::<T>(alloc, value) {
-        Ok(_) => Err("a reply was read")?,
-        Err(e) => assert!(rt; !e.is_memory()),
-    }
+    assert!(rt; is_refused(from_redis_value_ref::<T>(alloc, &value)));
+    assert!(rt; is_refused(from_redis_value::<T>(alloc, value)));
     Ok(())
+}
+
+// A number that is taken, and one that is out of its range.
+fn is_bounded<T: FromRedisValue + PartialEq + Debug, R: Abort>(
+    rt: &R,
+    alloc: Global,
+    bytes: &[u8],
+    expected: T,
+    refused: &[u8],
+) -> Result<(), Fail> {
+    gives(rt, alloc, bytes, expected)?;
+    refuses::<T, _>(rt, alloc, refused)
 }
 
 #[test]
@@ -88,24 +102,27 @@ fn truths(rt: HostRuntime) -> Result<(), Fail> {
 fn counts(rt: HostRuntime) -> Result<(), Fail> {
     let alloc = rt.alloc();
     gives(&rt, alloc, b"|1\r\n+k\r\n:1\r\n:5\r\n", 5i64)?;
-    gives(&rt, alloc, b":255\r\n", 255u8)?;
-    refuses::<u8, _>(&rt, alloc, b":300\r\n")?;
-    gives(&rt, alloc, b"+65535\r\n", 65535u16)?;
-    refuses::<u16, _>(&rt, alloc, b"+65536\r\n")?;
-    gives(&rt, alloc, b"$2\r\n+5\r\n", 5u32)?;
-    refuses::<u32, _>(&rt, alloc, b"$2\r\n-0\r\n")?;
-    gives(&rt, alloc, b"$20\r\n18446744073709551615\r\n", u64::MAX)?;
-    refuses::<u64, _>(&rt, alloc, b":-1\r\n")?;
-    gives(&rt, alloc, b":7\r\n", 7usize)?;
-    refuses::<usize, _>(&rt, alloc, b"$0\r\n\r\n")?;
-    gives(&rt, alloc, b":-128\r\n", -128i8)?;
-    refuses::<i8, _>(&rt, alloc, b":128\r\n")?;
-    gives(&rt, alloc, b"$2\r\n-0\r\n", 0i16)?;
-    refuses::<i16, _>(&rt, alloc, b"+-32769\r\n")?;
-    gives(&rt, alloc, b"+-2147483648\r\n", i32::MIN)?;
-    refuses::<i32, _>(&rt, alloc, b"$2\r\n 5\r\n")?;
-    gives(&rt, alloc, b"$20\r\n-9223372036854775808\r\n", i64::MIN)?;
-    refuses::<i64, _>(&rt, alloc, b"+9223372036854775808\r\n")?;
+    is_bounded(&rt, alloc, b":255\r\n", 255u8, b":300\r\n")?;
+    is_bounded(&rt, alloc, b"+65535\r\n", 65535u16, b"+65536\r\n")?;
+    is_bounded(&rt, alloc, b"$2\r\n+5\r\n", 5u32, b"$2\r\n-0\r\n")?;
+    is_bounded(
+        &rt,
+        alloc,
+        b"$20\r\n18446744073709551615\r\n",
+        u64::MAX,
+        b":-1\r\n",
+    )?;
+    is_bounded(&rt, alloc, b":7\r\n", 7usize, b"$0\r\n\r\n")?;
+    is_bounded(&rt, alloc, b":-128\r\n", -128i8, b":128\r\n")?;
+    is_bounded(&rt, alloc, b"$2\r\n-0\r\n", 0i16, b"+-32769\r\n")?;
+    is_bounded(&rt, alloc, b"+-2147483648\r\n", i32::MIN, b"$2\r\n 5\r\n")?;
+    is_bounded(
+        &rt,
+        alloc,
+        b"$20\r\n-9223372036854775808\r\n",
+        i64::MIN,
+        b"+9223372036854775808\r\n",
+    )?;
     gives(&rt, alloc, b"+7\r\n", 7isize)?;
     for bytes in [
         b"_\r\n".as_slice(),
@@ -172,34 +189,15 @@ fn options(rt: HostRuntime) -> Result<(), Fail> {
 #[test]
 fn lists(rt: HostRuntime) -> Result<(), Fail> {
     let alloc = rt.alloc();
-    let numbers = Vec::from_slice(alloc, &[1i64, 2])?;
-    gives(&rt, alloc, b"*2\r\n:1\r\n$1\r\n2\r\n", numbers)?;
-    gives(
-        &rt,
-        alloc,
-        b"~1\r\n:1\r\n",
-        Vec::from_slice(alloc, &[1i64])?,
-    )?;
-    gives(&rt, alloc, b"$1\r\n7\r\n", Vec::from_slice(alloc, &[7i64])?)?;
-    gives(
-        &rt,
-        alloc,
-        b"$2\r\n\xff\x00\r\n",
-        Vec::from_slice(alloc, &[255u8, 0])?,
-    )?;
-    gives(
-        &rt,
-        alloc,
-        b"|1\r\n+k\r\n+v\r\n*1\r\n:1\r\n",
-        Vec::from_slice(alloc, &[1u8])?,
-    )?;
-    gives(&rt, alloc, b"_\r\n", Vec::<i64>::new(alloc))?;
-    gives(
-        &rt,
-        alloc,
-        b"%1\r\n:1\r\n:2\r\n",
-        Vec::from_slice(alloc, &[(1i64, 2i64)])?,
-    )?;
+    let rows: [(&[u8], &[i64]); 4] = [
+        (b"*2\r\n:1\r\n$1\r\n2\r\n", &[1, 2]),
+        (b"~1\r\n:1\r\n", &[1]),
+        (b"$1\r\n7\r\n", &[7]),
+        (b"_\r\n", &[]),
+    ];
+    for (bytes, expected) in rows {
+        gives(&rt, alloc, bytes, Vec::from_slice(alloc, expected)?)?;
+    }
     for bytes in [
         b":1\r\n".as_slice(),
         b"+7\r\n",
@@ -210,6 +208,20 @@ fn lists(rt: HostRuntime) -> Result<(), Fail> {
         refuses::<Vec<i64>, _>(&rt, alloc, bytes)?;
     }
     Ok(())
+}
+
+#[test]
+fn lists_of_bytes_and_of_pairs(rt: HostRuntime) -> Result<(), Fail> {
+    let alloc = rt.alloc();
+    let rows: [(&[u8], &[u8]); 2] = [
+        (b"$2\r\n\xff\x00\r\n", b"\xff\x00"),
+        (b"|1\r\n+k\r\n+v\r\n*1\r\n:1\r\n", b"\x01"),
+    ];
+    for (bytes, expected) in rows {
+        gives(&rt, alloc, bytes, Vec::from_slice(alloc, expected)?)?;
+    }
+    let pairs = Vec::from_slice(alloc, &[(1i64, 2i64)])?;
+    gives(&rt, alloc, b"%1\r\n:1\r\n:2\r\n", pairs)
 }
 
 // A list of any type but `u8` has a bulk as its one item.
@@ -253,19 +265,9 @@ fn lists_of_the_pairs_of_a_map(rt: HostRuntime) -> Result<(), Fail> {
 
 type Fields = IndexMap<String, i64>;
 
-// The pairs, each as its name, an equals sign and its number.
-fn write_pairs(alloc: Global, fields: &Fields) -> Result<String, AllocError> {
-    let mut out = String::new(alloc);
-    for (name, number) in fields.iter() {
-        let pair = format!(in alloc; "{name}={number} ")?;
-        out.push_str(pair.as_str())?;
-    }
-    Ok(out)
-}
-
 fn pairs(alloc: Global, bytes: &[u8]) -> Result<String, Fail> {
     let fields: Fields = from_redis_value(alloc, reply(alloc, bytes)?)?;
-    Ok(write_pairs(alloc, &fields)?)
+    Ok(format!(in alloc; "{fields:?}")?)
 }
 
 #[test]
@@ -274,12 +276,15 @@ fn fields(rt: HostRuntime) -> Result<(), Fail> {
     for (bytes, expected) in [
         (
             b"*4\r\n$1\r\na\r\n:1\r\n$1\r\na\r\n:2\r\n".as_slice(),
-            "a=2 ",
+            "{\"a\": 2}",
         ),
-        (b"%3\r\n+b\r\n:1\r\n+a\r\n:2\r\n+b\r\n:3\r\n", "b=3 a=2 "),
-        (b"|1\r\n+k\r\n+v\r\n%1\r\n+a\r\n$1\r\n1\r\n", "a=1 "),
-        (b"_\r\n", ""),
-        (b"*0\r\n", ""),
+        (
+            b"%3\r\n+b\r\n:1\r\n+a\r\n:2\r\n+b\r\n:3\r\n",
+            "{\"b\": 3, \"a\": 2}",
+        ),
+        (b"|1\r\n+k\r\n+v\r\n%1\r\n+a\r\n$1\r\n1\r\n", "{\"a\": 1}"),
+        (b"_\r\n", "{}"),
+        (b"*0\r\n", "{}"),
     ] {
         assert_eq!(rt; pairs(alloc, bytes)?.as_str(), expected);
     }

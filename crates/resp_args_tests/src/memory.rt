@@ -87,22 +87,17 @@ const NESTED: &[u8] = b"%2\r\n+a\r\n*2\r\n*2\r\n:1\r\n$1\r\nx\r\n%1\r\n:2\r\n:7\
 
 type Nested = IndexMap<String, Vec<(i64, String)>>;
 
-fn is_nested<R: Abort>(rt: &R, fields: &Nested) {
-    assert_eq!(rt; fields.len(), 2);
-    match fields.get("a") {
-        Some(pairs) => {
-            assert_eq!(rt; pairs.len(), 2);
-            assert_eq!(rt; pairs[0].0, 1);
-            assert_eq!(rt; pairs[0].1.as_str(), "x");
-            assert_eq!(rt; pairs[1].0, 2);
-            assert_eq!(rt; pairs[1].1.as_str(), "7");
+const TEXT: &str = "{\"a\": [(1, \"x\"), (2, \"7\")], \"b\": []}";
+
+fn is_nested<R: Abort + Print>(rt: &R, alloc: Global, fields: &Nested) -> Result<(), Fail> {
+    match format!(in alloc; "{fields:?}") {
+        Ok(text) => assert_eq!(rt; text.as_str(), TEXT),
+        Err(_) => {
+            println!(rt; "refused format")?;
+            assert_eq!(rt; format!(in alloc; "{fields:?}")?.as_str(), TEXT);
         }
-        None => assert!(rt; false),
     }
-    match fields.get("b") {
-        Some(pairs) => assert_eq!(rt; pairs.len(), 0),
-        None => assert!(rt; false),
-    }
+    Ok(())
 }
 
 fn nested_reply<R: Print>(rt: &R, alloc: Global) -> Result<Value, Fail> {
@@ -127,28 +122,26 @@ fn copy<R: Print>(rt: &R, value: &Value) -> Result<Value, Fail> {
 
 fn converts_owned<R: Abort + Print>(rt: &R, alloc: Global, value: &Value) -> Result<(), Fail> {
     match from_redis_value::<Nested>(alloc, copy(rt, value)?) {
-        Ok(fields) => is_nested(rt, &fields),
+        Ok(fields) => is_nested(rt, alloc, &fields),
         Err(e) => {
             println!(rt; "refused from_redis_value")?;
             assert_eq!(rt; RedisError::from(e).number(), 17);
             let fields = from_redis_value(alloc, value.clone()?)?;
-            is_nested(rt, &fields);
+            is_nested(rt, alloc, &fields)
         }
     }
-    Ok(())
 }
 
 fn converts_lent<R: Abort + Print>(rt: &R, alloc: Global, value: &Value) -> Result<(), Fail> {
     match from_redis_value_ref::<Nested>(alloc, value) {
-        Ok(fields) => is_nested(rt, &fields),
+        Ok(fields) => is_nested(rt, alloc, &fields),
         Err(e) => {
             println!(rt; "refused from_redis_value_ref")?;
             assert_eq!(rt; RedisError::from(e).number(), 17);
             let fields = from_redis_value_ref(alloc, value)?;
-            is_nested(rt, &fields);
+            is_nested(rt, alloc, &fields)
         }
     }
-    Ok(())
 }
 
 #[test]

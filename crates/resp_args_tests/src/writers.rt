@@ -1,6 +1,6 @@
 //! What each type is written as.
 use indexmap::IndexMap;
-use resp_args::{ToRedisArgs, ToSingleRedisArg};
+use resp_args::ToRedisArgs;
 use std::alloc::Global;
 use std::process::Abort;
 use std::test::Fail;
@@ -26,36 +26,26 @@ fn writes<T: ToRedisArgs, R: Abort>(
     Ok(())
 }
 
-fn writes_one<T: ToSingleRedisArg, R: Abort>(
-    rt: &R,
-    alloc: Global,
-    value: &T,
-    expected: &str,
-) -> Result<(), Fail> {
-    assert_eq!(rt; value.to_redis_args(alloc)?.len(), 1);
-    writes(rt, alloc, value, expected)
-}
-
 #[test]
 fn one_argument(rt: HostRuntime) -> Result<(), Fail> {
     let alloc = rt.alloc();
-    writes_one(&rt, alloc, &true, "1|")?;
-    writes_one(&rt, alloc, &false, "0|")?;
-    writes_one(&rt, alloc, &255u8, "255|")?;
-    writes_one(&rt, alloc, &65535u16, "65535|")?;
-    writes_one(&rt, alloc, &4294967295u32, "4294967295|")?;
-    writes_one(&rt, alloc, &u64::MAX, "18446744073709551615|")?;
-    writes_one(&rt, alloc, &usize::MAX, "18446744073709551615|")?;
-    writes_one(&rt, alloc, &-128i8, "-128|")?;
-    writes_one(&rt, alloc, &-32768i16, "-32768|")?;
-    writes_one(&rt, alloc, &i32::MIN, "-2147483648|")?;
-    writes_one(&rt, alloc, &i64::MIN, "-9223372036854775808|")?;
-    writes_one(&rt, alloc, &isize::MAX, "9223372036854775807|")?;
-    writes_one(&rt, alloc, &"a b", "a b|")?;
-    writes_one(&rt, alloc, &String::from_str(alloc, "text")?, "text|")?;
-    writes_one(&rt, alloc, &Vec::from_slice(alloc, b"bytes")?, "bytes|")?;
-    writes_one(&rt, alloc, &b"bytes".as_slice(), "bytes|")?;
-    writes_one(&rt, alloc, &&7i64, "7|")?;
+    writes(&rt, alloc, &true, "1|")?;
+    writes(&rt, alloc, &false, "0|")?;
+    writes(&rt, alloc, &255u8, "255|")?;
+    writes(&rt, alloc, &65535u16, "65535|")?;
+    writes(&rt, alloc, &4294967295u32, "4294967295|")?;
+    writes(&rt, alloc, &u64::MAX, "18446744073709551615|")?;
+    writes(&rt, alloc, &usize::MAX, "18446744073709551615|")?;
+    writes(&rt, alloc, &-128i8, "-128|")?;
+    writes(&rt, alloc, &-32768i16, "-32768|")?;
+    writes(&rt, alloc, &i32::MIN, "-2147483648|")?;
+    writes(&rt, alloc, &i64::MIN, "-9223372036854775808|")?;
+    writes(&rt, alloc, &isize::MAX, "9223372036854775807|")?;
+    writes(&rt, alloc, &"a b", "a b|")?;
+    writes(&rt, alloc, &String::from_str(alloc, "text")?, "text|")?;
+    writes(&rt, alloc, &Vec::from_slice(alloc, b"bytes")?, "bytes|")?;
+    writes(&rt, alloc, &b"bytes".as_slice(), "bytes|")?;
+    writes(&rt, alloc, &&7i64, "7|")?;
     Ok(())
 }
 
