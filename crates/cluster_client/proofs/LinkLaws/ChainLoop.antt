@@ -1,31 +1,30 @@
 -- A part's chain, request by request.
-use Rattle.std.specs.Prelude.{slice_get, slice_index_or, filter, ◌||◌, ◌==◌, unwrap_or}
+use Rattle.std.specs.Prelude.{slice_get, slice_index_or, filter, ◌||◌, ◌==◌}
 use Rattle.std.specs.List.{list_any, AllByRecursion}
-use Rattle.std.proofs.Common.{◌≡◌, ◌≢◌, ℕ, suc, ◌+◌, ◌-◌, ◌<◌, inl, inr, Bool, true, false, cond, List, [], ◌∷◌, ◌++◌, map, Option, Some, None, option_and_then, refl, sym, ap, ◌∙◌, subst, append-nil, append_assoc, length, length-append, Result, Ok, Err, arith}
+use Rattle.std.proofs.Common.{◌≡◌, ◌≢◌, ℕ, suc, ◌+◌, ◌-◌, ◌<◌, inl, inr, Bool, true, false, cond, List, [], ◌∷◌, ◌++◌, map, Option, Some, None, option_and_then, refl, sym, ap, ◌∙◌, subst, append-nil, append_assoc, length, Result, Ok, Err, arith}
 use Rattle.std.proofs.lemmas.Bool.{false≢true}
 use Rattle.std.proofs.lemmas.List.Elements.{filter-append}
-use Rattle.resp_core.specs.Trees.{Tree, nil}
+use Rattle.resp_core.specs.Trees.{Tree}
 use Rattle.resp_core.specs.Errors.{Refusal, by_cause}
 use Rattle.resp_core.specs.declared.errors.redis_error.Cause.TheVariants.{Memory}
 use Rattle.resp_link.specs.Replies.{replies_of}
 use Rattle.cluster_routing.specs.Address.{Address}
 use Rattle.cluster_client.specs.Links.Request.{Request, skipped}
 use Rattle.cluster_client.specs.Links.Reply.{Sort, Moved, Ask, Failed, Data, sort_of}
-use Rattle.cluster_client.specs.Links.Log.{Exchange, is_answered, is_data, is_data_reply, is_moved_reply, is_moved_sort, last_of, behind_answers}
+use Rattle.cluster_client.specs.Links.Log.{Exchange, is_answered, is_data, is_moved_sort, last_of, behind_answers}
 use Rattle.cluster_client.specs.Links.World.{World, Node, open_links, one_reply}
 use Rattle.cluster_client.specs.Links.Places.{IsOpenAt}
-use Rattle.cluster_client.specs.Links.Faults.{LinkFault, refusal_by_fault}
-use Rattle.cluster_client.specs.Links.Events.{Event, Runs, log_of, exchanges_of, exchanges_at, pair_up, Agrees, is_memory_ending, lack_memory, answered_moved}
+use Rattle.cluster_client.specs.Links.Faults.{refusal_by_fault}
+use Rattle.cluster_client.specs.Links.Events.{Event, Runs, log_of, exchanges_of, lack_memory, answered_moved}
 use Rattle.cluster_client.specs.Links.Exchanges.{Exchanges}
 use Rattle.cluster_client.specs.Links.Happened.{client_of}
-use Rattle.cluster_client.specs.Links.Chains.{IsSingle, IsChain, IsChainResult, ChainAnswered, ChainMade}
+use Rattle.cluster_client.specs.Links.Chains.{IsSingle, IsChain, ChainAnswered, ChainMade}
 use Rattle.cluster_client.specs.Calls.Plan.{Client}
 use Rattle.cluster_client.specs.Calls.Redirects.{Hop, Next, Stays, Lost, Goes, is_going, MatchNext, next_of, request_of, FollowsRedirects}
 use Rattle.cluster_client.specs.Calls.Replies.{reply_or_nil}
-use Rattle.cluster_client.specs.Calls.Refusals.{stop_refusal, last_refusal, part_refusal}
-use Rattle.cluster_client.proofs.LinkLaws.LinkEnds.{ending_of}
+use Rattle.cluster_client.specs.Calls.Refusals.{stop_refusal, last_refusal}
 use Rattle.cluster_client.proofs.LinkLaws.LinkRuns.{Runs-snoc}
-use Rattle.cluster_client.proofs.LinkLaws.EventLists.{log-append, exchanges-append, memory_both, memory-append, moved-append, exchanged}
+use Rattle.cluster_client.proofs.LinkLaws.EventLists.{log-append, exchanges-append, memory-append, moved-append, exchanged}
 use Rattle.cluster_client.proofs.LinkLaws.FaultsAgree.{Agrees-last}
 use Rattle.cluster_client.proofs.LinkLaws.Pairing.{any-append}
 use Rattle.cluster_client.specs.OneServer.Laws.{is_redirect_sort}

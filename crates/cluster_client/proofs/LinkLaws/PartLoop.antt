@@ -365,7 +365,7 @@ module _ (old now new : World) (ds : List Dispatch) (d : Dispatch) (rest : List 
       let chain = λ (p : ℕ). subst (λ c. IsChain c (first_hop d) d.args (exchanges_of p m.events)) same_client (a.chain p) in
       let answered = λ (p : ℕ). ap (λ xs. filter is_answered xs) (both (Ok tree) m p) ∙ filter-append is_answered (exchanges_of p l.events) (exchanges_of (at p) m.events) in
       let args_here = λ (p : ℕ). all_same d.args (exchanges_of (at p) m.events) (have_args client.links client.settings.budget (first_hop d) d.args (exchanges_of (at p) m.events) (chain (at p)))
-          ∙ only_args d.args (filter is_answered (exchanges_of (at p) m.events)) tree (told (at p)).1 in
+      ∙ only_args d.args (filter is_answered (exchanges_of (at p) m.events)) tree (told (at p)).1 in
       record {
         events = l.events ++ m.events;
         runs = runs_more (Ok tree) m;

@@ -1,4 +1,4 @@
-use Rattle.std.proofs.Common.{◌≡◌, ◌∙◌, List, map, ap}
+use Rattle.std.proofs.Common.{◌≡◌, ◌∙◌, map, ap}
 use Rattle.cluster_routing.specs.Seen.{address}
 use Rattle.cluster_client.specs.Links.Request.{Request}
 use Rattle.cluster_client.proofs.LinkLaws.ChainLoop.{last_read}
