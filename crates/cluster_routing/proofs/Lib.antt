@@ -22,3 +22,5 @@ pub mod Marks
 pub mod Totals
 pub mod Placed
 pub mod Drawn
+pub mod PartPlaces
+pub mod CutInto
