@@ -140,7 +140,7 @@ still_once p (x ∷ xs) h = by (p x) (still_once p xs h.1)
     by true later = (still_out p x xs h.0, later)
     by false later = later
 
-once : (xs : List ℕ) → StandOnce (firsts nat_eq xs)
+pub once : (xs : List ℕ) → StandOnce (firsts nat_eq xs)
 once [] = tt
 once (x ∷ xs) = (left_out x x (firsts nat_eq xs) (grind (arith, nat_tests)), still_once (λ y. not (nat_eq x y)) (firsts nat_eq xs) (once xs))
 

@@ -25,3 +25,5 @@ pub mod Marks
 pub mod Totals
 pub mod Placed
 pub mod Drawn
+pub mod SlotPlaces
+pub mod CutInto

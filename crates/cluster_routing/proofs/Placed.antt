@@ -188,12 +188,12 @@ all_passed (x ∷ xs) (suc i) h = all_passed xs i (omega (arith, h))
 
 -- ---- as many items as places
 
-fits : (b c : Bool) → (b && c) ≡ true → (b ≡ true) × (c ≡ true)
+pub fits : (b c : Bool) → (b && c) ≡ true → (b ≡ true) × (c ≡ true)
 fits true true h = (refl, refl)
 fits true false h = cc
 fits false c h = cc
 
-counted : (n : ℕ) (t : Tree) → is_list_of n t ≡ true → n ≡ length (items_or_none t)
+pub counted : (n : ℕ) (t : Tree) → is_list_of n t ≡ true → n ≡ length (items_or_none t)
 counted n (array ts) h = grind (arith, nat_tests, h)
 counted n t h = cc
 
