@@ -20,6 +20,8 @@ pub mod ManyParts
 pub mod Dispatching
 pub mod Dispatched
 pub mod Ordering
+pub mod SplitCommands
+pub mod PartReplies
 pub mod OneCommand
 pub mod OneRequest
 pub mod Refreshing

@@ -17,6 +17,7 @@ pub mod Chains
 pub mod PartRuns
 pub mod Exchanges
 pub mod FirstPlaces
+pub mod CodeParts
 pub mod Dispatches
 pub mod Taken
 pub mod Turns

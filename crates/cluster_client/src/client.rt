@@ -3,20 +3,20 @@ ghost use Rattle.std.specs.List.{AllByRecursion};
 ghost use Rattle.std.specs.Prelude.{◌≡◌, ◌≢◌, ◌↔◌, ◌<◌, ◌||◌, Err, None, [], true, false, vec_len, map, IfOk, IfErr, OnErr, if◌then◌else◌, option_map};
 ghost use Rattle.resp_core.specs.Errors.{by_cause};
 ghost use Rattle.resp_core.specs.View.{push_view, view};
-ghost use Rattle.resp_core.specs.declared.errors.redis_error.Cause.TheVariants.{Memory, NoResponse, NoRoute, RepeatedAddress};
+ghost use Rattle.resp_core.specs.declared.errors.redis_error.Cause.TheVariants.{Memory, RepeatedAddress};
 ghost use Rattle.resp_link.specs.Call.{Seen};
-ghost use Rattle.cluster_routing.specs.Info.{texts};
+ghost use Rattle.cluster_routing.specs.Info.{shown_split, texts};
 ghost use Rattle.cluster_routing.specs.Seen.{address, addresses};
 ghost use Rattle.cluster_routing.specs.SlotMap.{put_all};
 ghost use Rattle.cluster_routing.specs.SlotsReply.{ranges};
-ghost use Rattle.cluster_routing.specs.Split.{has_split_word};
+ghost use Rattle.cluster_routing.specs.Split.{parts_by_place};
 ghost use Rattle.cluster_routing.specs.Topology.{shards_of};
 ghost use Rattle.cluster_client.specs.Calls.Answer.{Value};
 ghost use Rattle.cluster_client.specs.Calls.Call.{Query, Refresh};
 ghost use Rattle.cluster_client.specs.Links.Chains.{ChainMade};
 ghost use Rattle.cluster_client.specs.Links.Converted.{ValueMade, refresh_answer, value_answer};
-ghost use Rattle.cluster_client.specs.Links.Happened.{CallMade, Happened};
-ghost use Rattle.cluster_client.specs.Links.Dispatches.{IsPlaced, dispatch_of};
+ghost use Rattle.cluster_client.specs.Links.Happened.{CallMade, Happened, client_of};
+ghost use Rattle.cluster_client.specs.Links.Dispatches.{IsPlaced, IsPlanned, dispatch_of, prepared_by};
 ghost use Rattle.cluster_client.specs.Links.PartRuns.{PartsMade};
 ghost use Rattle.cluster_client.specs.Links.Places.{IsOpenAt};
 ghost use Rattle.cluster_client.specs.Links.Turns.{hop_to};
@@ -25,12 +25,12 @@ ghost use Rattle.cluster_client.specs.Links.Run.{with_log};
 ghost use Rattle.cluster_client.specs.Links.World.{addresses_of, has_repeats, link_at, new_world, nodes, tree_result, tree_results};
 
 use crate::asked::{Asked, sent_again};
-use crate::dispatch::Dispatch;
+use crate::dispatch::{Dispatch, Prepared, dispatches};
 use crate::exchange::exchange_one;
 use crate::links::Links;
-use crate::place::{Place, first_place};
-use crate::reply::needs_refresh;
-use crate::route::only_part;
+use crate::place::Place;
+use crate::reply::{needs_refresh, reply_of_parts};
+use crate::route::{Parts, parts_of};
 use crate::slots::{slot_map_in, slots_request};
 use crate::turn::{Turn, turn_by};
 use cluster_routing::{ClusterTopology, NodeAddress, ReadRoutingStrategy, SlotMap};
@@ -108,26 +108,37 @@ impl<L: ConnectionLike + Drop> ClusterClient<L> {
         Ok(())
     }
 
-    /// Sends a command to the node that serves it, and answers the reply as a `T`.
+    /// Sends a command to the nodes that serve it, and answers the reply as a `T`.
     ///
     /// The routing table (`RoutingInfo::for_routable`) tells the key. A command goes to the primary of
     /// its key's slot; one of the names that `new` was given as read-only goes to the node that
     /// `strategy` picks, where there is a strategy and the slot has replicas. A command that any node
-    /// may serve goes to node number `number` of all nodes, ascending, modulo their count. The
-    /// strategy is asked before the first byte, and `picked` tells what it answered.
+    /// may serve goes to node number `number` of all nodes, ascending, modulo their count.
+    ///
+    /// A command whose word is split by its keys (`MGET`, `MSET`, `DEL` and the like) goes out in
+    /// parts, one for each slot of its keys, in the order in which these first appear. The replies
+    /// become one: items come back to the places of their keys, numbers are added, and where each
+    /// part is to answer OK the reply is OK. One whose keys have one slot is such a part as well.
+    ///
+    /// All parts are routed and their links are found before the first byte; the strategy is asked
+    /// then, for each read part of a slot with replicas, and `picked` tells what it answered. The
+    /// parts are sent one after another, and the first that is refused ends the call: those before it
+    /// were done.
     ///
     /// A reply that is itself MOVED or ASK is followed, within the budget, to the node that it
-    /// names; behind ASK the request goes out with `ASKING` before it, in one write.
+    /// names; behind ASK the request goes out with `ASKING` before it, in one write. The budget is
+    /// that of each part.
     ///
     /// # Errors
-    /// In the order of the checks: `NoResponse` for a command that waits for none; `NoRoute` for one
-    /// that goes nowhere or to several nodes by the table, and for one that is split by its keys,
-    /// also where these have one slot; `NoNode` where no node serves it; `NoLink` where no usable
-    /// link leads to the node, or to the node that a redirect names; the server's error where the
-    /// last reply is or holds one, a redirect out of budget or without a readable node among them;
-    /// `Io` and `Parse` where the link failed, which is closed then; `UnexpectedReturnType` where
-    /// the reply is no `T`, which leaves the link in step; `Memory`. Until `NoLink` of the first
-    /// node nothing is sent.
+    /// In the order of the checks: `NoResponse` for a command that waits for none; for a word that is
+    /// split `CursorInSplit` where an argument is a gap, and `BrokenTuples` where its last tuple is
+    /// broken or it has none; `NoRoute` for any other that goes nowhere or to several nodes by the
+    /// table; then part by part `NoNode` where no node serves it and `NoLink` where no usable link
+    /// leads to the node. Until then nothing is sent. Then `NoLink` where none leads to the node that
+    /// a redirect names; the server's error where a part's last reply is or holds one, a redirect out
+    /// of budget or without a readable node among them; `Io` and `Parse` where a link failed, which is
+    /// closed then; `UnexpectedReturnType` where the replies have not the shape that becomes one, or
+    /// that is no `T`, which leaves the links in step; `Memory`.
     pub fn query<T: FromRedisValue>(
         &mut self,
         alloc: Global,
@@ -136,18 +147,15 @@ impl<L: ConnectionLike + Drop> ClusterClient<L> {
         strategy: Option<&dyn ReadRoutingStrategy>,
     ) -> Result<T, RedisError>
         // What happened, also where memory is refused.
-        ensures happened { has_split_word cmd.now.args ≡ false → Happened (option_map (λ s. admits s.now) strategy.entry) (whole L.seen self.old) (whole L.seen self.new) (Query cmd.now number) }
-        ensures answered { has_split_word cmd.now.args ≡ false → result ≢ Err (by_cause Memory)
+        ensures happened { Happened (option_map (λ s. admits s.now) strategy.entry) (whole L.seen self.old) (whole L.seen self.new) (Query cmd.now number) }
+        ensures answered { result ≢ Err (by_cause Memory)
             → ValueMade (option_map (λ s. admits s.now) strategy.entry) (whole L.seen self.old) (whole L.seen self.new) (Query cmd.now number) T.meaning T.convert result }
-        // A command that is split by its keys is not taken yet, and nothing is sent.
-        ensures split { has_split_word cmd.now.args ≡ true → (result ≡ Err (by_cause (if cmd.now.no_response then NoResponse else NoRoute)))
-            × (whole L.seen self.new ≡ with_log (whole L.seen self.old) [] []) }
     {
         let reply = self.reply_to(alloc, cmd, number, strategy)?;
         Ok(from_redis_value(alloc, reply)?)
     }
 
-    /// The one reply to a command that is not split, behind its redirects.
+    /// The one reply to a command, made of those of its parts.
     fn reply_to(
         &mut self,
         alloc: Global,
@@ -155,22 +163,39 @@ impl<L: ConnectionLike + Drop> ClusterClient<L> {
         number: u64,
         strategy: Option<&dyn ReadRoutingStrategy>,
     ) -> Result<Value, RedisError>
-        ensures made { has_split_word cmd.now.args ≡ false → CallMade (option_map (λ s. admits s.now) strategy.entry) (whole L.seen self.old) (whole L.seen self.new) (Query cmd.now number) (value_answer (tree_result view result)) }
-        ensures split { has_split_word cmd.now.args ≡ true → (result ≡ Err (by_cause (if cmd.now.no_response then NoResponse else NoRoute)))
-            × (whole L.seen self.new ≡ with_log (whole L.seen self.old) [] []) }
+        ensures { CallMade (option_map (λ s. admits s.now) strategy.entry) (whole L.seen self.old) (whole L.seen self.new) (Query cmd.now number) (value_answer (tree_result view result)) }
+    {
+        let Prepared { dispatches, split } = self.prepare(alloc, cmd, number, strategy)?;
+        let replies = self.follow_all(alloc, dispatches)?;
+        reply_of_parts(alloc, split, replies)
+    }
+
+    /// What is done for a command before its first byte: its parts, and where each of them goes first.
+    fn prepare(
+        &mut self,
+        alloc: Global,
+        cmd: &Cmd,
+        number: u64,
+        strategy: Option<&dyn ReadRoutingStrategy>,
+    ) -> Result<Prepared, RedisError>
+        ensures stays { whole L.seen self.new ≡ with_log (whole L.seen self.old) [] (addresses self.new.picked.items) }
+        ensures planned { result ≢ Err (by_cause Memory) → IsPlanned (option_map (λ s. admits s.now) strategy.entry) (client_of (whole L.seen self.old)) (Query cmd.now number)
+            (addresses self.new.picked.items) (prepared_by result) }
+        ensures placed { IfOk result (λ p. AllByRecursion (IsPlaced (nodes L.seen self.new.links.nodes.items)) p.dispatches.items) }
+        ensures split { IfOk result (λ p. option_map shown_split p.split ≡ parts_by_place cmd.now.args (texts self.new.read_only.items)) }
     {
         self.asked = Vec::new(alloc);
         self.picked = Vec::new(alloc);
-        let part = only_part(alloc, cmd, &self.read_only, number)?;
-        let place = first_place(
+        let Parts { list, split } = parts_of(alloc, cmd, &self.read_only, number)?;
+        let dispatches = dispatches(
             &self.links,
             alloc,
             &self.slots,
-            &part.target,
+            list,
             strategy,
             &mut self.picked,
         )?;
-        self.follow(alloc, part.args, place)
+        Ok(Prepared { dispatches, split })
     }
 
     /// The replies to parts that are sent one after another, each behind its redirects, up to the first
@@ -245,8 +270,8 @@ impl<L: ConnectionLike + Drop> ClusterClient<L> {
         self.asked.as_slice()
     }
 
-    /// What the strategy answered in the last call: one node at most, also where no usable link
-    /// leads to it; none where there was no strategy or it was not asked.
+    /// What the strategy answered in the last call, for one part after another, up to and with one to
+    /// whose node no usable link leads; none where there was no strategy or it was not asked.
     pub fn picked(&self) -> &[NodeAddress]
         ensures { addresses result.now ≡ (whole L.seen self.now).picked }
     {

@@ -11,7 +11,7 @@ ghost use Rattle.cluster_client.specs.Links.FirstPlaces.{part_of};
 use crate::links::Links;
 use crate::place::{Place, first_place};
 use crate::route::Part;
-use cluster_routing::{NodeAddress, ReadRoutingStrategy, SlotMap};
+use cluster_routing::{NodeAddress, ReadRoutingStrategy, SlotMap, SplitParts};
 use resp_core::RedisError;
 use resp_link::ConnectionLike;
 use std::alloc::Global;
@@ -21,6 +21,14 @@ use std::alloc::Global;
 pub(crate) struct Dispatch {
     pub(crate) place: Place,
     pub(crate) args: Vec<Vec<u8>>,
+}
+
+/// What is there of a command before its first byte: where each of its parts goes first, and how the
+/// replies to the parts of a split command become one.
+#[derive(Drop)]
+pub(crate) struct Prepared {
+    pub(crate) dispatches: Vec<Dispatch>,
+    pub(crate) split: Option<SplitParts>,
 }
 
 /// The parts with the places that they go to first, in the order given. `picked` then has what the

@@ -5,7 +5,7 @@ use Rattle.resp_core.specs.declared.errors.redis_error.Cause.TheVariants.{BadOrd
 use Rattle.resp_args.specs.Command.{Command}
 use Rattle.cluster_routing.specs.Address.{Address}
 use Rattle.cluster_routing.specs.Choice.{Strategy}
-use Rattle.cluster_client.specs.Links.Dispatches.{ArePicksFor, AreDispatched}
+use Rattle.cluster_client.specs.Links.Dispatches.{ArePicksFor, AreDispatched, IsPlanned}
 use Rattle.cluster_client.specs.Calls.Call.{Call, Query, Ordered}
 use Rattle.cluster_client.specs.Calls.Task.{task_of}
 use Rattle.cluster_client.specs.Calls.Parts.{Part, parts_of, fits_order, if_ordered, result_then}
@@ -68,3 +68,14 @@ ordered_unfit client command order number parts e f = ap (λ r. result_then r (i
 
 pub ordered_unparted : (client : Client) (command : Command) (order : List ℕ) (number : ℕ) (refusal : Refusal) → parts_of client.settings.read_only command number ≡ Err refusal → call_parts client (Ordered command order number) ≡ Err refusal
 ordered_unparted client command order number refusal e = ap (λ r. result_then r (if_ordered (Some order))) e
+
+-- ---- a query
+
+pub query_planned : (strategy : Option Strategy) (client : Client) (command : Command) (number : ℕ) (parts : List Part) (picks : List Address) (made : Result (List Dispatch) Refusal)
+    → parts_of client.settings.read_only command number ≡ Ok parts → AreDispatched strategy client parts picks made → IsPlanned strategy client (Query command number) picks made
+query_planned strategy client command number parts picks (Ok ds) e d =
+    let are = query_parts client command number parts e in
+    record { planned = plan_made strategy client (Query command number) picks parts ds are d; picked = picks_made strategy client (Query command number) picks parts (Ok ds) are d }
+query_planned strategy client command number parts picks (Err refusal) e d =
+    let are = query_parts client command number parts e in
+    record { planned = plan_refused strategy client (Query command number) picks parts refusal are d; picked = picks_made strategy client (Query command number) picks parts (Err refusal) are d }

@@ -1,7 +1,8 @@
 -- A call of one command, from the run of its parts and the reply that is made of theirs.
 use Rattle.std.specs.Prelude.{filter}
-use Rattle.std.proofs.Common.{◌≡◌, ◌≢◌, ℕ, false, List, [], ◌∷◌, ◌++◌, map, Option, Some, None, option_and_then, refl, sym, ap, ◌∙◌, subst, append-nil, Result, Ok, Err}
+use Rattle.std.proofs.Common.{◌≡◌, ◌≢◌, ℕ, false, List, [], ◌∷◌, ◌++◌, map, length, Option, Some, None, option_and_then, refl, sym, ap, ◌∙◌, subst, append-nil, Result, Ok, Err}
 use Rattle.std.proofs.lemmas.Bool.{false≢true}
+use Rattle.std.proofs.lemmas.List.{length-map}
 use Rattle.resp_core.specs.Trees.{Tree, nil}
 use Rattle.resp_core.specs.Errors.{Refusal, by_cause}
 use Rattle.resp_core.specs.declared.errors.redis_error.Cause.TheVariants.{Memory}
@@ -14,7 +15,7 @@ use Rattle.cluster_routing.specs.Policies.{or_bad_reply}
 use Rattle.cluster_client.specs.Links.Log.{Exchange, requests, is_answered, behind_answers}
 use Rattle.cluster_client.specs.Links.World.{World}
 use Rattle.cluster_client.specs.Links.Faults.{LinkFault}
-use Rattle.cluster_client.specs.Links.Events.{log_of, exchanges_of}
+use Rattle.cluster_client.specs.Links.Events.{log_of, exchanges_of, faults_of}
 use Rattle.cluster_client.specs.Links.Happened.{client_of, is_refresh, Happened, CallMade}
 use Rattle.cluster_client.specs.Links.Run.{with_log}
 use Rattle.cluster_client.specs.Links.Converted.{value_answer}
@@ -27,6 +28,7 @@ use Rattle.cluster_client.specs.Calls.Legal.{PartByPart, IsLegalCall}
 use Rattle.cluster_client.specs.Calls.Replies.{exchange_slot, reply_or_nil, part_replies, reply_of_parts}
 use Rattle.cluster_client.specs.Calls.Refusals.{part_refusal}
 use Rattle.cluster_client.specs.Calls.Answer.{Value, answer_in, unless}
+use Rattle.cluster_client.proofs.LinkLaws.FaultsAgree.{agrees}
 use Rattle.cluster_client.proofs.LinkLaws.LinkCalls.{AreLinkCalls, link_calls_made}
 use Rattle.cluster_client.proofs.LinkLaws.MovedLaws.{answered_plain}
 use Rattle.cluster_client.proofs.LinkLaws.Played.{call_made}
@@ -75,6 +77,13 @@ told call value args client faults ds xs (Ok trees) reply (none, listed, are) ma
 told call value args client faults ds xs (Err refusal) reply is made had =
     let whole = or_bad_reply (option_and_then (answer_in call) (reply_of_parts args (part_replies xs))) in
     ap value_answer made ∙ ap (λ why. unless why whole) (sym is)
+
+-- ---- as many replies as parts
+
+pub as_many_replies : (old new : World) (ds : List Dispatch) (trees : List Tree) → PartsMade old new ds (Ok trees) → length trees ≡ length ds
+as_many_replies old new ds trees m =
+    let told = (m.answered (λ e. cc)).tells (faults_of m.events) (agrees old.nodes new.nodes m.events m.runs) 0 in
+    ap length (sym told.2) ∙ length-map _ _ ∙ sym (length-map _ _) ∙ ap length told.1 ∙ length-map _ _
 
 -- ---- the call
 

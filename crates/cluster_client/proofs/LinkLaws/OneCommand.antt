@@ -46,6 +46,10 @@ pub record Untouched (old new : World) : Type 0 where
   pub settings : new.settings ≡ old.settings
   pub flag : new.needs_refresh ≡ old.needs_refresh
 
+-- a world whose log was emptied, and whose picks are these
+pub relogged_untouched : (old new : World) (picks : List Address) → new ≡ with_log old [] picks → Untouched old new
+relogged_untouched old new picks e = rw e (record { nodes = refl; log = refl; entries = refl; settings = refl; flag = refl })
+
 pub or_none : (b : Bool) → (b || false) ≡ b
 or_none true = refl
 or_none false = refl

@@ -73,7 +73,7 @@ pub all-weaker : {X : Type 0} (P Q : X → Type 0) → ((x : X) → P x → Q x)
 all-weaker P Q w [] h = tt
 all-weaker P Q w (x ∷ xs) h = (w x h.0, all-weaker P Q w xs h.1)
 
-firsts_among : (ks : List ℕ) → AllByRecursion (λ s. among nat_eq s ks ≡ true) (firsts nat_eq ks)
+pub firsts_among : (ks : List ℕ) → AllByRecursion (λ s. among nat_eq s ks ≡ true) (firsts nat_eq ks)
 firsts_among [] = tt
 firsts_among (k ∷ ks) = (
   ap (λ b. b || among nat_eq k ks) (eq-eqb k k refl),
@@ -98,7 +98,7 @@ module _ (args : List (List ℕ)) (split : Split) (is_split : split_of args ≡ 
       ∙ ap (slot_by (join_split split.word split.shared (w.0 ∷ w.1))) (split_of_some args split is_split (λ t. k == tuple_slot t) w.0 w.1 w.2)
       ∙ sym (eqb-true k (tuple_slot w.0) (filter-head (λ t. k == tuple_slot t) split.tuples w.0 w.1 w.2))
 
-  part_slots_are : (ks : List ℕ) (ds : List Dispatch) → AllByRecursion (λ s. among nat_eq s (map tuple_slot split.tuples) ≡ true) ks → Pairwise IsFor (map (slot_part role split) ks) ds → map (λ (d : Dispatch). args_slot d.args) ds ≡ ks
+  pub part_slots_are : (ks : List ℕ) (ds : List Dispatch) → AllByRecursion (λ s. among nat_eq s (map tuple_slot split.tuples) ≡ true) ks → Pairwise IsFor (map (slot_part role split) ks) ds → map (λ (d : Dispatch). args_slot d.args) ds ≡ ks
   part_slots_are [] [] a h = refl
   part_slots_are [] (d ∷ ds) a h = absurd h
   part_slots_are (k ∷ ks) [] a h = absurd h

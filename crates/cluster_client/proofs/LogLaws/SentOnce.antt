@@ -32,7 +32,7 @@ use Rattle.cluster_client.proofs.LogLaws.Plans.{IsFor, dispatches_for}
 
 -- ---- lengths
 
-pair_length : {A X : Type 0} (R : A → X → Type 0) (as' : List A) (xs : List X) → Pairwise R as' xs → length as' ≡ length xs
+pub pair_length : {A X : Type 0} (R : A → X → Type 0) (as' : List A) (xs : List X) → Pairwise R as' xs → length as' ≡ length xs
 pair_length R [] [] h = refl
 pair_length R [] (x ∷ xs) h = absurd h
 pair_length R (a ∷ as') [] h = absurd h

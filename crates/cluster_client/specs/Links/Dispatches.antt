@@ -8,11 +8,13 @@ use Rattle.cluster_routing.specs.Info.{texts}
 use Rattle.cluster_routing.specs.Choice.{Strategy}
 use Rattle.cluster_routing.specs.SlotMap.{SlotEntries}
 use Rattle.cluster_client.specs.declared.dispatch.Dispatch.{Dispatch as CodeDispatch}
+use Rattle.cluster_client.specs.declared.dispatch.Prepared.{Prepared}
 use Rattle.cluster_client.specs.Links.World.{Settings, Node, open_links}
 use Rattle.cluster_client.specs.Links.Places.{IsOpenAt}
 use Rattle.cluster_client.specs.Calls.Parts.{Part}
-use Rattle.cluster_client.specs.Calls.Plan.{Client, Dispatch, dispatches}
-use Rattle.cluster_client.specs.Calls.Picks.{ArePartPicks}
+use Rattle.cluster_client.specs.Calls.Call.{Call}
+use Rattle.cluster_client.specs.Calls.Plan.{Client, Dispatch, dispatches, plan}
+use Rattle.cluster_client.specs.Calls.Picks.{ArePartPicks, ArePicks}
 
 abbrev pub client_with : Settings → SlotEntries → List Node → Client
 client_with settings entries all = record { settings = settings; entries = entries; links = open_links all }
@@ -40,3 +42,15 @@ pub record IsPlaced (all : List Node) (d : CodeDispatch) : Type 0 where
   pub place : IsOpenAt all (address d.place.node) d.place.which
   pub within : d.place.which < length all
   pub direct : d.place.asking ≡ false
+
+-- ---- a call before its first byte
+
+-- what the code prepares, as the dispatches of the call
+abbrev pub prepared_by : Result Prepared Refusal → Result (List Dispatch) Refusal
+prepared_by (Ok p) = Ok (map dispatch_of p.dispatches.items)
+prepared_by (Err refusal) = Err refusal
+
+-- this is the plan of the call by these picks, and they are picks of the call
+pub record IsPlanned (strategy : Option Strategy) (client : Client) (call : Call) (picks : List Address) (made : Result (List Dispatch) Refusal) : Type 0 where
+  pub planned : plan client picks call ≡ made
+  pub picked : ArePicks strategy client call picks
