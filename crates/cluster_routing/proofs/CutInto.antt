@@ -1,9 +1,9 @@
 -- A split command that is cut into parts: the places of its tuples, and the slots in an order.
-use Rattle.std.specs.Prelude.{nat_eq, nat_lt, ◌==◌, ◌-◌, ◌*◌, ◌/◌, ◌%◌, slice_get, filter, filter_map, flat_map, option_and_then}
+use Rattle.std.specs.Prelude.{nat_eq, nat_lt, ◌==◌, ◌-◌, ◌*◌, ◌/◌, slice_get, filter_map, flat_map, option_and_then}
 use Rattle.std.specs.List.{list_all, cons_option}
-use Rattle.std.proofs.Common.{◌≡◌, ℕ, zero, suc, ◌+◌, ◌<◌, ◌≤◌, Bool, true, false, not, ◌&&◌, ◌||◌, if◌then◌else◌, List, [], ◌∷◌, ◌++◌, length, map, take, drop, refl, sym, ap, ◌∙◌, arith, Option, Some, None, option_map, subst, Vec, Global, rules}
+use Rattle.std.proofs.Common.{◌≡◌, ℕ, zero, suc, ◌+◌, ◌<◌, ◌≤◌, Bool, true, false, not, ◌&&◌, ◌||◌, if◌then◌else◌, List, [], ◌∷◌, ◌++◌, length, map, drop, refl, sym, ap, ◌∙◌, arith, Option, Some, None, option_map, subst, Vec, Global, rules}
 use Rattle.std.specs.Bool.{⊤}
-use Rattle.std.proofs.Math.Nat.{suc-mul, mul-div_cancel, div-mul-le_self}
+use Rattle.std.proofs.Math.Nat.{suc-mul, mul-div_cancel}
 use Rattle.std.proofs.lemmas.Bool.{eqb-true}
 use Rattle.std.proofs.lemmas.Bool.Decides.{nat_tests}
 use Rattle.std.proofs.lemmas.List.Folds.{list_all-append}
@@ -18,9 +18,9 @@ use Rattle.cluster_routing.specs.declared.route.Route.{Route}
 use Rattle.cluster_routing.specs.Info.{shown_part}
 use Rattle.cluster_routing.specs.Combine.{PartReply, combine, combine_by, are_lists_of, array_of, by_place, every, in_places, is_list_of, items_by_place, items_for, items_or_none, part_replies, slots_by, tuple_places, IsCutInto, trees_in}
 use Rattle.cluster_routing.specs.Laws.{StandOnce}
-use Rattle.cluster_routing.specs.Lists.{among, concat, draw, firsts, is_distinct, is_permutation, numbers_below}
-use Rattle.cluster_routing.specs.Parts.{Tuple, argument_slots, in_tuples, places_from, tuple_count, tuple_slot, tuples_from, tuples_of, width_of}
-use Rattle.cluster_routing.specs.Split.{Split, Splitting, cut, part_slots, part_tuples, shared_by, split_of, splitting_of, with_tuples}
+use Rattle.cluster_routing.specs.Lists.{among, draw, firsts, is_distinct, is_permutation, numbers_below}
+use Rattle.cluster_routing.specs.Parts.{Tuple, argument_slots, in_tuples, places_from, tuple_count, tuple_slot, tuples_from, width_of}
+use Rattle.cluster_routing.specs.Split.{Split, Splitting, cut, part_tuples, shared_by, split_of, splitting_of, with_tuples}
 use Rattle.cluster_routing.proofs.Distinct.{nat_tells}
 use Rattle.cluster_routing.proofs.Gathered.{once}
 use Rattle.cluster_routing.proofs.SlotPlaces.{Covers, all_places, are_permuted, both, drawn_by_place, places_of, some_same}
@@ -60,9 +60,9 @@ further : (n l : ℕ) → suc n + l ≡ n + suc l
 further n l = omega arith
 
 -- the places of a tuple's arguments
-run_by : (b : Bool) (n l : ℕ) (us ps : List ℕ) (qs : List ℕ) → qs ≡ (if b then us ++ ps else ps) → (if b then n ∷ qs else qs) ≡ (if b then (n ∷ us) ++ ps else ps)
-run_by true n l us ps qs h = ap (λ ys. n ∷ ys) h
-run_by false n l us ps qs h = h
+run_by : (b : Bool) (n : ℕ) (us ps qs : List ℕ) → qs ≡ (if b then us ++ ps else ps) → (if b then n ∷ qs else qs) ≡ (if b then (n ∷ us) ++ ps else ps)
+run_by true n us ps qs h = ap (λ ys. n ∷ ys) h
+run_by false n us ps qs h = h
 
 run : {X : Type 0} (slot n s : ℕ) (t : List X) (more : List ℕ) → places_from slot n (map (λ _. s) t ++ more) ≡ (if nat_eq slot s then up_by t n ++ places_from slot (n + length t) more else places_from slot (n + length t) more)
 run slot n s [] more = let e : n ≡ n + 0 = omega arith in ap (λ k. places_from slot k more) e ∙ same (nat_eq slot s) (places_from slot (n + 0) more)
@@ -71,7 +71,7 @@ run slot n s [] more = let e : n ≡ n + 0 = omega arith in ap (λ k. places_fro
     same true ps = refl
     same false ps = refl
 run slot n s (x ∷ t) more =
-    run_by (nat_eq slot s) n 0 (up_by t (suc n)) (places_from slot (n + suc (length t)) more) (places_from slot (suc n) (map (λ _. s) t ++ more))
+    run_by (nat_eq slot s) n (up_by t (suc n)) (places_from slot (n + suc (length t)) more) (places_from slot (suc n) (map (λ _. s) t ++ more))
     (run slot (suc n) s t more ∙ ap (λ k. if nat_eq slot s then up_by t (suc n) ++ places_from slot k more else places_from slot k more) (further n (length t)))
 
 abbrev pub AreWide : ℕ → List Tuple → Type 0

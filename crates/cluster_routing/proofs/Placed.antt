@@ -1,7 +1,7 @@
 -- Items that are put at their places.
-use Rattle.std.specs.Prelude.{nat_eq, nat_lt, slice_set, ◌==◌, ◌-◌, ◌/◌, ◌≢◌, is_ok, IfOk, Result, Ok, Err, filter_map, flat_map, vec_len}
+use Rattle.std.specs.Prelude.{nat_eq, nat_lt, slice_set, ◌==◌, ◌-◌, ◌/◌, ◌≢◌, is_ok, IfOk, Result, Ok, Err, filter_map, flat_map}
 use Rattle.std.specs.List.{list_all, cons_option}
-use Rattle.std.proofs.Common.{◌≡◌, ℕ, zero, suc, ◌+◌, ◌<◌, ◌≤◌, Bool, true, false, not, ◌&&◌, if◌then◌else◌, List, [], ◌∷◌, ◌++◌, length, map, drop, refl, sym, ap, ◌∙◌, arith, add-one, drop-cons, length-append, append_assoc, append-nil, get_or, Option, Some, None, option_map, Vec, Global, rules}
+use Rattle.std.proofs.Common.{◌≡◌, ℕ, zero, suc, ◌+◌, ◌<◌, ◌≤◌, Bool, true, false, ◌&&◌, if◌then◌else◌, List, [], ◌∷◌, ◌++◌, length, map, drop, refl, sym, ap, ◌∙◌, arith, add-one, drop-cons, length-append, append_assoc, append-nil, get_or, Option, Some, None, option_map, Vec, Global, rules}
 use Rattle.std.proofs.lemmas.Bool.Decides.{nat_tests}
 use Rattle.std.proofs.lemmas.List.{map-set, map-append, length-map}
 use Rattle.resp_core.specs.Trees.{Tree, array}

@@ -1,5 +1,5 @@
 -- The places of the parts are those of all keys, each once, and the items that come for them are those that are drawn.
-use Rattle.std.specs.Prelude.{nat_eq, nat_lt, ◌==◌, slice_get, filter_map, flat_map}
+use Rattle.std.specs.Prelude.{nat_eq, nat_lt, slice_get, filter_map, flat_map}
 use Rattle.std.specs.List.{list_all, cons_option}
 use Rattle.std.proofs.Common.{◌≡◌, ℕ, zero, suc, ◌+◌, ◌<◌, Bool, true, false, not, ◌&&◌, ◌||◌, if◌then◌else◌, List, [], ◌∷◌, ◌++◌, length, map, refl, sym, ap, ◌∙◌, arith, length-append, get_or, Option, Some, None}
 use Rattle.std.proofs.lemmas.Bool.{eqb-true}

@@ -1,6 +1,6 @@
 -- Sums of integers, one more at a time.
-use Rattle.std.specs.Prelude.{ℤ, pos, negsuc, ◌+ℤ◌, ◌≤ℤ◌, neg_ℤ, ◌*◌, ◌^◌}
-use Rattle.std.proofs.Common.{◌≡◌, ℕ, suc, ◌+◌, ◌<◌, List, [], ◌∷◌, length, map, drop, refl, sym, ap, ◌∙◌, arith, add-one, drop-cons, get_or, Option, Some, None, option_map, option_and_then, to_z, of_z, w64}
+use Rattle.std.specs.Prelude.{ℤ, pos, ◌+ℤ◌, ◌≤ℤ◌, neg_ℤ, ◌*◌, ◌^◌}
+use Rattle.std.proofs.Common.{◌≡◌, ℕ, suc, ◌+◌, ◌<◌, List, ◌∷◌, length, map, drop, refl, sym, ap, ◌∙◌, arith, add-one, drop-cons, get_or, Option, Some, None, option_map, option_and_then, to_z, of_z, w64}
 use Rattle.std.specs.Int.{w128}
 use Rattle.std.proofs.lemmas.Int.{ints}
 use Rattle.resp_core.specs.Trees.{Tree, nil, int, bulk, array, simple, okay, set, attribute, double, boolean, verbatim, big_number, push, server_error}

@@ -1,8 +1,8 @@
 //! Replies that become one.
 
 use cluster_routing::{
-    AggregateOp, MultiSlotArgPattern, Route, SlotAddr, aggregate, combine_and_sort_array_results,
-    is_permutation,
+    AggregateOp, MultiSlotArgPattern, ResponsePolicy, Route, SlotAddr, aggregate,
+    combine_and_sort_array_results, combine_parts, is_permutation,
 };
 use resp_core::{ErrorKind, RedisError, Value};
 use std::alloc::{AllocError, Global};
@@ -57,6 +57,17 @@ fn part(alloc: Global, slot: u16, positions: &[usize]) -> Result<(Route, Vec<usi
     Ok((Route::new(slot, SlotAddr::Master), positions))
 }
 
+fn parts(
+    alloc: Global,
+    first: &[usize],
+    second: &[usize],
+) -> Result<Vec<(Route, Vec<usize>)>, AllocError> {
+    let mut parts = Vec::new(alloc);
+    parts.push(part(alloc, 1, first)?)?;
+    parts.push(part(alloc, 2, second)?)?;
+    Ok(parts)
+}
+
 fn lists(alloc: Global, first: &[i64], second: &[i64]) -> Result<Vec<Value>, AllocError> {
     let mut values = Vec::new(alloc);
     values.push(Value::Array(integers(alloc, first)?))?;
@@ -65,9 +76,7 @@ fn lists(alloc: Global, first: &[i64], second: &[i64]) -> Result<Vec<Value>, All
 }
 
 fn placed(alloc: Global, first: &[i64], second: &[i64]) -> Result<Value, RedisError> {
-    let mut order = Vec::new(alloc);
-    order.push(part(alloc, 1, &[0, 2])?)?;
-    order.push(part(alloc, 2, &[1])?)?;
+    let order = parts(alloc, &[0, 2], &[1])?;
     let values = lists(alloc, first, second)?;
     combine_and_sort_array_results(alloc, values, &order, MultiSlotArgPattern::KeysOnly)
 }
@@ -87,5 +96,56 @@ fn tells_an_order(rt: HostRuntime) -> Result<(), Fail> {
     assert!(rt; is_permutation(alloc, &[2, 0, 1], 3)?);
     assert!(rt; !is_permutation(alloc, &[2, 2, 1], 3)?);
     assert!(rt; !is_permutation(alloc, &[0, 1], 3)?);
+    Ok(())
+}
+
+fn set_reply(alloc: Global, second: Value) -> Result<Value, RedisError> {
+    let mut values = Vec::new(alloc);
+    values.push(Value::Okay)?;
+    values.push(second)?;
+    let routes = parts(alloc, &[0, 1], &[2, 3])?;
+    let pattern = MultiSlotArgPattern::KeyValuePairs;
+    combine_parts(
+        alloc,
+        values,
+        &routes,
+        pattern,
+        ResponsePolicy::AllSucceeded,
+    )
+}
+
+#[test]
+fn sets_where_each_part_did(rt: HostRuntime) -> Result<(), Fail> {
+    let alloc = rt.alloc();
+    assert!(rt; is_value(set_reply(alloc, Value::Okay), &Value::Okay));
+    assert!(rt; is_refused(set_reply(alloc, Value::Nil)));
+    Ok(())
+}
+
+fn get_reply(
+    alloc: Global,
+    values: Vec<Value>,
+    first: &[usize],
+    second: &[usize],
+) -> Result<Value, RedisError> {
+    let routes = parts(alloc, first, second)?;
+    let pattern = MultiSlotArgPattern::KeysOnly;
+    combine_parts(
+        alloc,
+        values,
+        &routes,
+        pattern,
+        ResponsePolicy::CombineArrays,
+    )
+}
+
+#[test]
+fn gets_from_parts_in_any_order(rt: HostRuntime) -> Result<(), Fail> {
+    let alloc = rt.alloc();
+    let wanted = Value::Array(integers(alloc, &[7, 8, 7])?);
+    let first = get_reply(alloc, lists(alloc, &[7, 7], &[8])?, &[0, 2], &[1]);
+    assert!(rt; is_value(first, &wanted));
+    let turned = get_reply(alloc, lists(alloc, &[8], &[7, 7])?, &[1], &[0, 2]);
+    assert!(rt; is_value(turned, &wanted));
     Ok(())
 }

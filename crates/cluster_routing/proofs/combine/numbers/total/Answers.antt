@@ -1,5 +1,5 @@
 use Rattle.std.specs.Prelude.{ℤ, ◌+ℤ◌, ◌^◌}
-use Rattle.std.proofs.Common.{◌≡◌, ◌<◌, ◌∙◌, ap, sym, arith, rules, to_z, of_z, w64, SFits}
+use Rattle.std.proofs.Common.{◌≡◌, ◌<◌, ◌∙◌, ap, arith, rules, to_z, w64, SFits}
 use Rattle.std.specs.Int.{w128}
 use Rattle.std.proofs.lemmas.Int.{ints}
 use Rattle.cluster_routing.proofs.Totals.{total_step, wide, low_step, high_step}

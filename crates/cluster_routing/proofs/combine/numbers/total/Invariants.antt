@@ -1,4 +1,4 @@
-use Rattle.std.specs.Prelude.{ℤ, ◌+ℤ◌, ◌≤ℤ◌, pos, neg_ℤ, ◌*◌, ◌^◌}
+use Rattle.std.specs.Prelude.{◌+ℤ◌, ◌≤ℤ◌, pos, neg_ℤ, ◌*◌, ◌^◌}
 use Rattle.std.proofs.Common.{◌≡◌, map, drop, option_map}
 use Rattle.resp_core.specs.View.{view}
 use Rattle.cluster_routing.specs.Combine.{sum_of}

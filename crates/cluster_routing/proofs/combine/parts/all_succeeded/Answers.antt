@@ -1,4 +1,4 @@
-use Rattle.std.proofs.Common.{◌≡◌, ◌∙◌, ap, sym, map, Some, None, Err, if◌then◌else◌}
+use Rattle.std.proofs.Common.{◌∙◌, ap, sym, Some, None, Err, if◌then◌else◌}
 use Rattle.std.proofs.lemmas.List.Folds.{list_all-map}
 use Rattle.resp_core.specs.Trees.{okay}
 use Rattle.resp_core.specs.View.{view}

@@ -1,6 +1,6 @@
 use Rattle.std.specs.Prelude.{◌&&◌}
 use Rattle.std.specs.List.{list_all}
-use Rattle.std.proofs.Common.{◌≡◌, ◌∙◌, Bool, ap, sym, length}
+use Rattle.std.proofs.Common.{◌∙◌, ap, sym, length}
 use Rattle.cluster_routing.proofs.Marks.{permutes}
 use Rattle.cluster_routing.proofs.combine.permutation.marks_each_once.Goals as goal
 

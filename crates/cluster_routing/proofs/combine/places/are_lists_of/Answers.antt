@@ -1,5 +1,5 @@
 use Rattle.std.specs.Prelude.{nat_eq}
-use Rattle.std.proofs.Common.{◌∙◌, ap, sym, map, length}
+use Rattle.std.proofs.Common.{◌∙◌, ap, sym, map}
 use Rattle.std.proofs.lemmas.List.{length-map}
 use Rattle.resp_core.specs.View.{view}
 use Rattle.cluster_routing.specs.Combine.{are_lists_of}

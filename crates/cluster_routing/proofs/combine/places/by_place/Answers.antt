@@ -1,5 +1,5 @@
-use Rattle.std.proofs.Common.{◌≡◌, ◌∙◌, ap, sym, map, length, option_map, List}
-use Rattle.std.specs.Prelude.{IfOk, filter_map}
+use Rattle.std.proofs.Common.{◌≡◌, map, length, option_map, List}
+use Rattle.std.specs.Prelude.{IfOk}
 use Rattle.resp_core.specs.View.{view}
 use Rattle.cluster_routing.specs.Combine.{item_at}
 use Rattle.cluster_routing.specs.Lists.{numbers_below}

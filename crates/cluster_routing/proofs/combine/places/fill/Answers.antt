@@ -1,5 +1,5 @@
 use Rattle.std.specs.Prelude.{slice_index_or, slice_set}
-use Rattle.std.proofs.Common.{◌≡◌, ◌<◌, ◌∙◌, ap, sym, subst, length, arith, Some, ℕ}
+use Rattle.std.proofs.Common.{◌≡◌, ◌<◌, ◌∙◌, ap, subst, length, arith, Some, ℕ}
 use Rattle.cluster_routing.proofs.Placed.{filled_more, filled_place}
 use Rattle.cluster_routing.proofs.combine.places.fill.Goals as goal
 

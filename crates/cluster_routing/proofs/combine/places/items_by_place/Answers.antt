@@ -1,8 +1,7 @@
-use Rattle.std.specs.Prelude.{flat_map}
 use Rattle.std.proofs.Common.{◌≡◌, ◌∙◌, ap, sym, map, length, true}
 use Rattle.std.proofs.lemmas.List.{length-map}
 use Rattle.resp_core.specs.View.{view}
-use Rattle.cluster_routing.specs.Combine.{are_lists_of, items_or_none}
+use Rattle.cluster_routing.specs.Combine.{are_lists_of}
 use Rattle.cluster_routing.specs.Lists.{concat}
 use Rattle.cluster_routing.proofs.Placed.{as_many}
 use Rattle.cluster_routing.proofs.combine.places.items_by_place.Goals as goal

@@ -1,4 +1,4 @@
-use Rattle.std.proofs.Common.{◌∙◌, ap, sym}
+use Rattle.std.proofs.Common.{◌∙◌, ap}
 use Rattle.cluster_routing.proofs.Placed.{step_taken, step_passed}
 use Rattle.cluster_routing.proofs.combine.places.tuple_places.Goals as goal
 use Rattle.cluster_routing.proofs.combine.places.tuple_places.Goals.{then-skip-eq0+in_ok-push, else-skip-eq0}
