@@ -94,7 +94,8 @@ impl<L: ConnectionLike + Drop> ClusterClient<L> {
     /// holds one; `Io` and `Parse` where the link failed, which is closed then; `Memory`. Each
     /// leaves the slot map and `needs_refresh` as they were. No redirect is followed.
     pub fn refresh(&mut self, alloc: Global, node: &NodeAddress) -> Result<(), RedisError>
-        ensures { CallMade None (whole L.seen self.old) (whole L.seen self.new) (Refresh (address node.now)) (refresh_answer result) }
+        ensures made { CallMade None (whole L.seen self.old) (whole L.seen self.new) (Refresh (address node.now)) (refresh_answer result) }
+        ensures picks { (whole L.seen self.new).picked ≡ [] }
     {
         self.asked = Vec::new(alloc);
         self.picked = Vec::new(alloc);

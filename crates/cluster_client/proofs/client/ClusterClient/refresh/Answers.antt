@@ -5,28 +5,28 @@ use Rattle.cluster_client.proofs.LinkLaws.OneCommand.{not_begun}
 use Rattle.cluster_client.proofs.LinkLaws.Refreshing.{not_linked, exchange_err, exchange_ok, refresh_ok, refresh_refused}
 use Rattle.cluster_client.proofs.client.ClusterClient.refresh.Goals as goal
 
-pub returns-in_default : goal.returns-in_default
-returns-in_default g c =
+pub returns-in_default-clause-made : goal.returns-in_default-clause-made
+returns-in_default-clause-made g c =
     rw c.from.ensures (not_linked _ _ _ c.in_default.ensures.place (record { nodes = refl; log = c.new.ensures.items; entries = refl; settings = refl; flag = refl }) (ap addresses c.new-2.ensures.items))
 
-pub returns-in_err-request : goal.returns-in_err-request
-returns-in_err-request g c =
+pub returns-in_err-request-clause-made : goal.returns-in_err-request-clause-made
+returns-in_err-request-clause-made g c =
     let p = err_from_is_err_and c.from_residual.result c.from_residual.ensures.1 in
     rw (p.1, p.2) (not_begun _ _ _ _ (record { nodes = refl; log = c.new.ensures.items; entries = refl; settings = refl; flag = refl }))
 
-pub returns-in_err-reply : goal.returns-in_err-reply
-returns-in_err-reply g c =
+pub returns-in_err-reply-clause-made : goal.returns-in_err-reply-clause-made
+returns-in_err-reply-clause-made g c =
     let p = err_from_is_err_and c.from_residual-in_err-reply.result c.from_residual-in_err-reply.ensures.1 in
     rw (p.1, p.2) (exchange_err _ _ _ _ c.in-Some.ensures.place _ c.new.ensures.items _ c.in_ok-request.ensures refl (ap addresses c.new-2.ensures.items) _ c.in_err-reply.ensures.exchange refl refl)
 
-pub returns-in_err-self : goal.returns-in_err-self
-returns-in_err-self g c =
+pub returns-in_err-self-clause-made : goal.returns-in_err-self-clause-made
+returns-in_err-self-clause-made g c =
     let p = err_from_is_err_and c.from_residual-in_err-self.result c.from_residual-in_err-self.ensures.1 in
     let made = exchange_ok _ _ _ _ c.in-Some.ensures.place _ _ c.new.ensures.items _ c.in_ok-request.ensures _ c.in_ok-reply.ensures.exchange in
     rw (p.1, p.2) (refresh_refused _ _ _ c.in-Some.ensures.place.linked made.0 refl (ap addresses c.new-2.ensures.items) _ _ made.1 (λ m. c.in_err-self.ensures (λ k. m (cc k))) refl refl)
 
-pub returns : goal.returns
-returns g c =
+pub returns-clause-made : goal.returns-clause-made
+returns-clause-made g c =
     let made = exchange_ok _ _ _ _ c.in-Some.ensures.place _ _ c.new.ensures.items _ c.in_ok-request.ensures _ c.in_ok-reply.ensures.exchange in
     let accepted = c.in_ok-self.ensures (λ k. cc k) in
     refresh_ok _ _ _ c.in-Some.ensures.place.linked made.0 refl (ap addresses c.new-2.ensures.items) _ made.1 accepted.0 accepted.1 refl
