@@ -1,4 +1,4 @@
-pub mod Chains
+pub mod Histories
 pub mod Regroup
 pub mod Draw
 pub mod Distinct

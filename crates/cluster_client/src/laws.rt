@@ -2,7 +2,7 @@
 ghost use Rattle.cluster_routing.specs.CombineLaws.{OrderOfParts, OrderOfReplies, PartsAreRouted, SubsRouteToTheirSlot};
 ghost use Rattle.cluster_client.specs.Links.Leaves.{UnaskedNodesStay};
 ghost use Rattle.cluster_client.specs.OneServer.Headline.{AnswersAndKeyspace, Refusals};
-ghost use Rattle.cluster_client.specs.OneServer.Laws.{ChainsAreBySlot, EachPartIsAnsweredOnce, GapsNameNoKey, NodesKeepChains, NodesOnceAscending, OneServerIsDetermined, OnlyRedirectsRepeat, PartsKeepChains, RequestsAreBounded, RunsAgree};
+ghost use Rattle.cluster_client.specs.OneServer.Laws.{HistoriesAreBySlot, EachPartIsAnsweredOnce, GapsNameNoKey, NodesKeepHistories, NodesOnceAscending, OneServerIsDetermined, OnlyRedirectsRepeat, PartsKeepHistories, RequestsAreBounded, RunsAgree};
 ghost use Rattle.cluster_client.specs.OneServer.OneCall.{OneCallAsOnOneServer, RepliesDetermineLogs};
 ghost use Rattle.cluster_client.specs.OneServer.Respelling.{RespelledRuns};
 
@@ -11,19 +11,19 @@ pub fn unasked_nodes_stay()
     ensures { UnaskedNodesStay }
 {}
 
-/// A list of steps is a chain exactly if it is one at each slot.
-pub fn chains_are_by_slot()
-    ensures { ChainsAreBySlot }
+/// A list of steps is a history exactly if it is one at each slot.
+pub fn histories_are_by_slot()
+    ensures { HistoriesAreBySlot }
 {}
 
 /// Parts may be sent in any order.
-pub fn parts_keep_chains()
-    ensures { PartsKeepChains }
+pub fn parts_keep_histories()
+    ensures { PartsKeepHistories }
 {}
 
 /// A pipeline may be sent node by node.
-pub fn nodes_keep_chains()
-    ensures { NodesKeepChains }
+pub fn nodes_keep_histories()
+    ensures { NodesKeepHistories }
 {}
 
 /// Any list of keyed, split, stream and pipeline calls and refreshes, played over honest nodes, gets

@@ -195,7 +195,7 @@ module _ (old now new : World) (args : List (List ℕ)) (first : Hop) (left : �
     more_events = l.events ++ single (request_of hop args) o.taken result ∷ []
 
     runs_more : Runs old.nodes new.nodes more_events
-    runs_more = Runs-snoc old.nodes now.nodes new.nodes l.events (single (request_of hop args) o.taken result) l.runs o.step
+    runs_more = Runs-snoc old.nodes now.nodes new.nodes l.events (single (request_of hop args) o.taken result) l.runs o.called
 
     logged_more : new.log ≡ old.log ++ log_of more_events
     logged_more =

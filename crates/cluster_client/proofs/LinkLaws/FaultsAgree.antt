@@ -7,7 +7,7 @@ use Rattle.cluster_routing.specs.Address.{Address, same_address}
 use Rattle.cluster_client.specs.Links.Request.{Request}
 use Rattle.cluster_client.specs.Links.World.{Node, link_at, is_usable}
 use Rattle.cluster_client.specs.Links.Faults.{LinkFault}
-use Rattle.cluster_client.specs.Links.Events.{Event, Ending, answers, fails, lacks_memory, EndsBy, Step, Runs, AgreesAt, Agrees, faults_of, fault_by}
+use Rattle.cluster_client.specs.Links.Events.{Event, Ending, answers, fails, lacks_memory, EndsBy, LinkCalled, Runs, AgreesAt, Agrees, faults_of, fault_by}
 use Rattle.cluster_client.proofs.LinkLaws.Addresses.{same_true, same_refl}
 use Rattle.cluster_client.proofs.LinkLaws.LinkPlaces.{set_other}
 use Rattle.cluster_client.proofs.LinkLaws.EndLaws.{ends_was_open, ends_usable}
@@ -39,7 +39,7 @@ later_by b a qs taken (answers replies) k later d u h = h
 later_by b a qs taken (fails fault) k later d u h = absurd (false≢true (sym (ends_usable b a qs taken (fails fault) d) ∙ u))
 later_by b a qs taken lacks_memory k later d u h = h
 
-known_by : (old mid : List Node) (x : Event) (xs : List Event) (f : Address → LinkFault) (s : Step old mid x) → Knows old f (x ∷ xs) → (a : Address) → is_usable (link_at mid a) ≡ true
+known_by : (old mid : List Node) (x : Event) (xs : List Event) (f : Address → LinkFault) (s : LinkCalled old mid x) → Knows old f (x ∷ xs) → (a : Address) → is_usable (link_at mid a) ≡ true
     → (b : Bool) → same_address x.node a ≡ b → f a ≡ faults_of xs a
 known_by old mid x xs f s h a u true t =
     let is : x.node ≡ a = same_true x.node a t in

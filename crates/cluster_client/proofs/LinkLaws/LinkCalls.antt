@@ -7,7 +7,7 @@ use Rattle.cluster_routing.specs.Lists.{IsDistinct}
 use Rattle.cluster_client.specs.Links.Request.{Request, requests_to}
 use Rattle.cluster_client.specs.Links.World.{Node, link_at}
 use Rattle.cluster_client.specs.Links.Leaves.{Leaves}
-use Rattle.cluster_client.specs.Links.Events.{Event, AllTo, Step, Runs, log_of, calls_of}
+use Rattle.cluster_client.specs.Links.Events.{Event, AllTo, LinkCalled, Runs, log_of, calls_of}
 use Rattle.cluster_client.specs.Calls.Task.{Task, slot_map_of, one_command, pipeline_of, several_nodes}
 use Rattle.cluster_client.specs.Links.Nodes.{in_one, link_calls}
 use Rattle.cluster_client.specs.Links.Chains.{IsSingle}
@@ -81,7 +81,7 @@ no_parts : (xs ys : List Request) → xs ++ ys ≡ [] → (xs ≡ []) × (ys ≡
 no_parts [] ys e = (refl, e)
 no_parts (x ∷ xs) ys e = cc
 
-unasked_by : (old mid : List Node) (x : Event) (xs : List Event) (a : Address) (s : Step old mid x) → requests_to a (x.requests ++ log_of xs) ≡ [] → (b : Bool) → same_address x.node a ≡ b → (link_at mid a ≡ link_at old a) × (requests_to a (log_of xs) ≡ [])
+unasked_by : (old mid : List Node) (x : Event) (xs : List Event) (a : Address) (s : LinkCalled old mid x) → requests_to a (x.requests ++ log_of xs) ≡ [] → (b : Bool) → same_address x.node a ≡ b → (link_at mid a ≡ link_at old a) × (requests_to a (log_of xs) ≡ [])
 unasked_by old mid x xs a s none true t =
     let to : AllTo a x.requests = subst (λ k. AllTo k x.requests) (same_true x.node a t) s.to_node in
     absurd (s.some (no_parts x.requests (requests_to a (log_of xs)) (sym (requests_same a x.requests (log_of xs) to) ∙ none)).0)

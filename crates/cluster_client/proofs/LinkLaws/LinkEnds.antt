@@ -11,7 +11,7 @@ use Rattle.cluster_client.specs.Links.Request.{Request, bytes_of}
 use Rattle.cluster_client.specs.Links.World.{Node, link_at, is_usable, Called, Calls}
 use Rattle.cluster_client.specs.Links.Places.{IsOpenAt}
 use Rattle.cluster_client.specs.Links.Faults.{LinkFault, io, grammar, refusal_by_fault}
-use Rattle.cluster_client.specs.Links.Events.{Ending, answers, fails, lacks_memory, AnswersFrom, FailsFrom, in_sending, in_receiving, EndsBy, reply_count, AllTo, Step, AgreesAt, is_memory_ending}
+use Rattle.cluster_client.specs.Links.Events.{Ending, answers, fails, lacks_memory, AnswersFrom, FailsFrom, in_sending, in_receiving, EndsBy, reply_count, AllTo, LinkCalled, AgreesAt, is_memory_ending}
 use Rattle.cluster_client.proofs.LinkLaws.LinkPlaces.{found, linked}
 
 -- an answered call
@@ -89,11 +89,11 @@ refusal_agrees faults node (fails fault) refusal m is agrees =
     told ∙ ap refusal_by_fault (sym agrees)
 refusal_agrees faults node lacks_memory refusal m is agrees = absurd (m (let same : refusal ≡ by_cause Memory = cc in same))
 
--- ---- a call at an open place is a step
+-- ---- a call at an open place, among the nodes
 
-pub step_at : (old new : List Node) (node : Address) (which : ℕ) (qs : List Request) (offset size : ℕ) (result : Result (List Tree) Refusal) → IsOpenAt old node which → qs ≢ [] → AllTo node qs → offset + size ≡ reply_count qs
-    → Calls old new which (λ before after. Called before after (bytes_of qs) offset size result) → (taken : List Tree) × Step old new (record { node = node; requests = qs; taken = taken; ending = ending_of result })
-step_at old new node which qs offset size result at some to_node whole calls =
+pub link_called_at : (old new : List Node) (node : Address) (which : ℕ) (qs : List Request) (offset size : ℕ) (result : Result (List Tree) Refusal) → IsOpenAt old node which → qs ≢ [] → AllTo node qs → offset + size ≡ reply_count qs
+    → Calls old new which (λ before after. Called before after (bytes_of qs) offset size result) → (taken : List Tree) × LinkCalled old new (record { node = node; requests = qs; taken = taken; ending = ending_of result })
+link_called_at old new node which qs offset size result at some to_node whole calls =
     let f = found old node which at.place in
     let same : f.node ≡ calls.before = let a = f.at in let b = calls.found in cc in
     let there : link_at old node ≡ Some calls.before.link = f.link ∙ ap (λ (n : Node). Some n.link) same in

@@ -12,7 +12,7 @@ use Rattle.cluster_client.specs.Links.Request.{Request, requests_to}
 use Rattle.cluster_client.specs.Links.Log.{exchanges, replies, has_lost, left_after_all}
 use Rattle.cluster_client.specs.Links.World.{Node, link_at}
 use Rattle.cluster_client.specs.Links.Faults.{io}
-use Rattle.cluster_client.specs.Links.Events.{Event, Ending, answers, fails, lacks_memory, reply_count, pair_up, AllTo, Step, Runs, log_of, taken_of, calls_of, exchanges_at, exchanges_of, faults_of, is_memory_ending, is_answer_ending, lack_memory}
+use Rattle.cluster_client.specs.Links.Events.{Event, Ending, answers, fails, lacks_memory, reply_count, pair_up, AllTo, LinkCalled, Runs, log_of, taken_of, calls_of, exchanges_at, exchanges_of, faults_of, is_memory_ending, is_answer_ending, lack_memory}
 use Rattle.cluster_client.specs.Links.Nodes.{NodeMade, NodesMade}
 use Rattle.cluster_client.proofs.LinkLaws.Addresses.{same_true, same_refl}
 use Rattle.cluster_client.proofs.LinkLaws.LinkPlaces.{set_same, set_other, set_addresses}
@@ -26,7 +26,7 @@ pub Runs-append : (a b c : List Node) (xs ys : List Event) → Runs a b xs → R
 Runs-append a b c [] ys r s = subst (λ w. Runs w c ys) r s
 Runs-append a b c (x ∷ xs) ys r s = (r.0, r.1, Runs-append r.0 b c xs ys r.2 s)
 
-pub Runs-snoc : (a b c : List Node) (xs : List Event) (x : Event) → Runs a b xs → Step b c x → Runs a c (xs ++ x ∷ [])
+pub Runs-snoc : (a b c : List Node) (xs : List Event) (x : Event) → Runs a b xs → LinkCalled b c x → Runs a c (xs ++ x ∷ [])
 Runs-snoc a b c xs x r s = Runs-append a b c xs (x ∷ []) r (c, s, refl)
 
 pub or_parts : (a b : Bool) → (a || b) ≡ false → (a ≡ false) × (b ≡ false)
@@ -37,7 +37,7 @@ pub had_memory : (x : Event) (xs : List Event) → lack_memory (x ∷ xs) ≡ fa
 had_memory x xs m = or_parts (is_memory_ending x.ending) (lack_memory xs) m
 
 -- the link to a link call's node, behind it
-pub link_behind : (old mid : List Node) (x : Event) (s : Step old mid x) → link_at mid x.node ≡ Some s.after
+pub link_behind : (old mid : List Node) (x : Event) (s : LinkCalled old mid x) → link_at mid x.node ≡ Some s.after
 link_behind old mid x s = ap (λ ns. link_at ns x.node) s.now ∙ set_same old x.node s.before s.after s.found
 
 -- ---- requests to a node
@@ -56,7 +56,7 @@ requests_other node a (q ∷ qs) rs t ne =
 
 -- ---- from a closed link nothing is taken
 
-quiet_by : (old mid new : List Node) (x : Event) (xs : List Event) → Step old mid x → (a : Address) (s : Seen) → link_at old a ≡ Some s → s.usable ≡ false
+quiet_by : (old mid new : List Node) (x : Event) (xs : List Event) → LinkCalled old mid x → (a : Address) (s : Seen) → link_at old a ≡ Some s → s.usable ≡ false
     → (link_at mid a ≡ Some s → taken_of xs a ≡ []) → (b : Bool) → same_address x.node a ≡ b → cond b (x.taken ++ taken_of xs a) (taken_of xs a) ≡ []
 quiet_by old mid new x xs st a s f u h true t =
     let is : x.node ≡ a = same_true x.node a t in
@@ -74,7 +74,7 @@ quiet old new (x ∷ xs) r a s f u = quiet_by old r.0 new x xs r.1 a s f u (λ m
 abbrev pub MadeAt : List Event → ℕ → Address → Seen → Seen → Type 0
 MadeAt xs place a before after = NodeMade before after (calls_of xs a) (taken_of xs a) (has_lost a (exchanges_of place xs)) (faults_of xs a)
 
-made_by : (old mid new : List Node) (x : Event) (xs : List Event) (place : ℕ) → Step old mid x → Runs mid new xs
+made_by : (old mid new : List Node) (x : Event) (xs : List Event) (place : ℕ) → LinkCalled old mid x → Runs mid new xs
     → (a : Address) (before after : Seen) → (same_address x.node a ≡ true → is_memory_ending x.ending ≡ false) → link_at old a ≡ Some before
     → ((between : Seen) → link_at mid a ≡ Some between → MadeAt xs (place + length x.requests) a between after)
     → (b : Bool) → same_address x.node a ≡ b → MadeAt (x ∷ xs) place a before after
@@ -143,7 +143,7 @@ behind_by rs qs place (answers replies) more m p quiet = (paired_front qs rs mor
 behind_by rs qs place (fails fault) more m p quiet = rw (quiet refl, append-nil) (refl, drop_short rs (reply_count qs) p)
 behind_by rs qs place lacks_memory more m p quiet = absurd (false≢true (sym m))
 
-behind : (old mid new : List Node) (x : Event) (xs : List Event) (place : ℕ) → is_memory_ending x.ending ≡ false → Step old mid x → Runs mid new xs → Behind (replies_of x.taken) x.requests place (replies_of (taken_of xs x.node))
+behind : (old mid new : List Node) (x : Event) (xs : List Event) (place : ℕ) → is_memory_ending x.ending ≡ false → LinkCalled old mid x → Runs mid new xs → Behind (replies_of x.taken) x.requests place (replies_of (taken_of xs x.node))
 behind old mid new x xs place m s r =
     behind_by (replies_of x.taken) x.requests place x.ending (replies_of (taken_of xs x.node)) m (ends_pairs s.before s.after x.requests x.taken x.ending s.some s.ends)
     (λ u. ap replies_of (quiet mid new xs r x.node s.after (link_behind old mid x s) (ends_usable s.before s.after x.requests x.taken x.ending s.ends ∙ u)))

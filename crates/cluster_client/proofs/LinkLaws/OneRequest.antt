@@ -13,9 +13,9 @@ use Rattle.cluster_client.specs.Links.Log.{Exchange, is_moved, is_moved_reply}
 use Rattle.cluster_client.specs.Links.World.{Node, Called, Calls, one_reply, link_at, is_usable, open_links}
 use Rattle.cluster_client.specs.Links.Places.{IsOpenAt}
 use Rattle.cluster_client.specs.Links.Faults.{LinkFault, refusal_by_fault}
-use Rattle.cluster_client.specs.Links.Events.{Event, Ending, answers, fails, lacks_memory, EndsBy, Step, AgreesAt, is_memory_ending, is_answer_ending, exchanges_at, pair_up}
+use Rattle.cluster_client.specs.Links.Events.{Event, Ending, answers, fails, lacks_memory, EndsBy, LinkCalled, AgreesAt, is_memory_ending, is_answer_ending, exchanges_at, pair_up}
 use Rattle.cluster_client.specs.Links.Exchanges.{Exchanges, not_begun, made}
-use Rattle.cluster_client.proofs.LinkLaws.LinkEnds.{ending_of, ending_refusal, ended_refusal, had_memory_by, refusal_agrees, step_at}
+use Rattle.cluster_client.proofs.LinkLaws.LinkEnds.{ending_of, ending_refusal, ended_refusal, had_memory_by, refusal_agrees, link_called_at}
 use Rattle.cluster_client.proofs.LinkLaws.EndLaws.{single_answered, single_failed, ends_usable, ends_was_open}
 use Rattle.cluster_client.proofs.LinkLaws.LinkPlaces.{found, linked, set_open}
 
@@ -34,7 +34,7 @@ RefusedBy (Err refusal) = ending_refusal (ending_of (Err refusal)) ≡ Some refu
 
 pub record OneMade (old new : List Node) (q : Request) (result : Result Tree Refusal) : Type 0 where
   pub taken : List Tree
-  pub step : Step old new (single q taken result)
+  pub called : LinkCalled old new (single q taken result)
   pub refused : RefusedBy result
 
 refused_by : (old new : Seen) (q : Request) (result : Result Tree Refusal) → old.usable ≡ true → Called old new (bytes_of (q ∷ [])) (skipped q.asking) 1 (one_reply result) → RefusedBy result
@@ -44,12 +44,12 @@ refused_by old new q (Err e) open' called = ended_refusal old new (q ∷ []) (sk
 pub one_made : (old new : List Node) (which : ℕ) (q : Request) (result : Result Tree Refusal) → IsOpenAt old q.node which
     → Calls old new which (λ before after. Called before after (bytes_of (q ∷ [])) (skipped q.asking) 1 (one_reply result)) → OneMade old new q result
 one_made old new which q result at calls =
-    let s = step_at old new q.node which (q ∷ []) (skipped q.asking) 1 (one_reply result) at (λ e. cc e) (refl, tt) (omega arith) calls in
+    let s = link_called_at old new q.node which (q ∷ []) (skipped q.asking) 1 (one_reply result) at (λ e. cc e) (refl, tt) (omega arith) calls in
     let f = found old q.node which at.place in
     let same : f.node ≡ calls.before = let a = f.at in let b = calls.found in cc in
     let there : link_at old q.node ≡ Some calls.before.link = f.link ∙ ap (λ (n : Node). Some n.link) same in
     let open' : calls.before.link.usable ≡ true = sym (ap is_usable there) ∙ sym (linked old q.node) ∙ at.linked in
-    record { taken = s.0; step = s.1; refused = refused_by calls.before.link calls.after.link q result open' calls.call }
+    record { taken = s.0; called = s.1; refused = refused_by calls.before.link calls.after.link q result open' calls.call }
 
 -- nothing was done for want of memory, or the request stands in the log and its link call was made
 pub exchanged_one : (old new : List Node) (which : ℕ) (before after : List Request) (q : Request) (result : Result Tree Refusal) → IsOpenAt old q.node which
@@ -66,8 +66,8 @@ failed_reply b a q taken (fails fault) refusal is m ends = single_failed b a q t
 failed_reply b a q taken lacks_memory refusal is m ends = absurd (m (let same : refusal ≡ by_cause Memory = cc in same))
 
 pub one_reply_is : (old new : List Node) (q : Request) (result : Result Tree Refusal) → result ≢ Err (by_cause Memory) → (o : OneMade old new q result) → slice_get (replies_of o.taken) (skipped q.asking) ≡ reply_in result
-one_reply_is old new q (Ok tree) m o = single_answered o.step.before o.step.after q o.taken tree o.step.ends
-one_reply_is old new q (Err e) m o = failed_reply o.step.before o.step.after q o.taken (ending_of (Err e)) e o.refused (λ k. m (ap Err k)) o.step.ends
+one_reply_is old new q (Ok tree) m o = single_answered o.called.before o.called.after q o.taken tree o.called.ends
+one_reply_is old new q (Err e) m o = failed_reply o.called.before o.called.after q o.taken (ending_of (Err e)) e o.refused (λ k. m (ap Err k)) o.called.ends
 
 pub one_had_memory : (old new : List Node) (q : Request) (result : Result Tree Refusal) → result ≢ Err (by_cause Memory) → (o : OneMade old new q result) → is_memory_ending (ending_of (one_reply result)) ≡ false
 one_had_memory old new q (Ok tree) m o = refl
@@ -79,9 +79,9 @@ one_fault old new q e faults m o agrees = refusal_agrees faults q.node (ending_o
 -- after an answered call the same links are open
 pub still_open : (old new : List Node) (q : Request) (tree : Tree) (o : OneMade old new q (Ok tree)) → open_links new ≡ open_links old
 still_open old new q tree o =
-    ap open_links o.step.now
-    ∙ set_open old q.node o.step.before o.step.after o.step.found
-    (ends_usable o.step.before o.step.after (q ∷ []) o.taken (answers (tree ∷ [])) o.step.ends ∙ sym (ends_was_open o.step.before o.step.after (q ∷ []) o.taken (answers (tree ∷ [])) o.step.ends))
+    ap open_links o.called.now
+    ∙ set_open old q.node o.called.before o.called.after o.called.found
+    (ends_usable o.called.before o.called.after (q ∷ []) o.taken (answers (tree ∷ [])) o.called.ends ∙ sym (ends_was_open o.called.before o.called.after (q ∷ []) o.taken (answers (tree ∷ [])) o.called.ends))
 
 -- ---- whether it was answered by MOVED
 
@@ -102,5 +102,5 @@ one_moved result = is_moved_reply (reply_in result)
 pub single_moved : (old new : List Node) (q : Request) (result : Result Tree Refusal) (o : OneMade old new q result)
     → (is_answer_ending (ending_of (one_reply result)) && list_any is_moved (exchanges_at 0 (single q o.taken result))) ≡ one_moved result
 single_moved old new q (Ok tree) o =
-    ap (λ r. is_moved_reply r || false) (single_answered o.step.before o.step.after q o.taken tree o.step.ends) ∙ or_false (is_moved_reply (Some tree))
+    ap (λ r. is_moved_reply r || false) (single_answered o.called.before o.called.after q o.taken tree o.called.ends) ∙ or_false (is_moved_reply (Some tree))
 single_moved old new q (Err e) o = ap (λ b. b && list_any is_moved (exchanges_at 0 (single q o.taken (Err e)))) (not_answered (ending_of (Err e)) e o.refused)

@@ -101,10 +101,10 @@ module _ (old new : World) (node : Address) (linked : is_linked (open_links old.
     abbrev happened : Happened None old new (Refresh node)
     happened = record {
       events = single (slots_to node) o.taken result ∷ [];
-      runs = (new.nodes, o.step, refl);
+      runs = (new.nodes, o.called, refl);
       unsent = [];
       logged = logged;
-      calls = λ a. link_calls_made old.nodes new.nodes (single (slots_to node) o.taken result ∷ []) (slot_map_of node) (new.nodes, o.step, refl) ((slots_to node, refl), tt) a;
+      calls = λ a. link_calls_made old.nodes new.nodes (single (slots_to node) o.taken result ∷ []) (slot_map_of node) (new.nodes, o.called, refl) ((slots_to node, refl), tt) a;
       picks = λ some. picks;
       begins = λ some place. record { later = []; more = []; unsent_first = refl; legal = rw linked refl };
       settings = settings;

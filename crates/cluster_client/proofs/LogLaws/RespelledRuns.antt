@@ -29,7 +29,7 @@ use Rattle.cluster_client.specs.Calls.Replies.{outcome_by, outcomes, policy_in, 
 use Rattle.cluster_client.specs.Calls.Refusals.{refusal_in, refresh_refusal, pipeline_refusal, errors_from, sent_refusal}
 use Rattle.cluster_client.specs.Calls.Answer.{Answer, Read, Range, Claim, answer_in, reply_of, tree_in, unless, answer_of}
 use Rattle.cluster_client.specs.Calls.After.{map_after, links_after, client_after}
-use Rattle.cluster_client.specs.OneServer.Headline.{Turn, turns_from, IsPlayedFrom}
+use Rattle.cluster_client.specs.OneServer.Headline.{PlayedCall, with_replies_from, IsPlayedFrom}
 use Rattle.cluster_client.specs.OneServer.Respelling.{respelling, request_respellings, respellings, SayTheSame}
 use Rattle.cluster_client.proofs.LogLaws.Alike.{AlikeReply, replied, AlikeExchange, any_alike, both_replied, legal_alike, part_refusal_alike, reply_alike}
 use Rattle.cluster_client.proofs.LinkLaws.Addresses.{same_refl}
@@ -227,20 +227,20 @@ exchanged how (q ∷ qs) later queues queues' place h =
 
 -- ---- runs
 
-abbrev calls_of : List Turn → List Call
-calls_of ts = map (λ (t : Turn). t.call) ts
+abbrev calls_of : List PlayedCall → List Call
+calls_of ts = map (λ (t : PlayedCall). t.call) ts
 
-abbrev picks_of : List Turn → List (List Address)
-picks_of ts = map (λ (t : Turn). t.picks) ts
+abbrev picks_of : List PlayedCall → List (List Address)
+picks_of ts = map (λ (t : PlayedCall). t.picks) ts
 
-abbrev logs_of : List Turn → List (List Request)
-logs_of ts = map (λ (t : Turn). t.log) ts
+abbrev logs_of : List PlayedCall → List (List Request)
+logs_of ts = map (λ (t : PlayedCall). t.log) ts
 
-abbrev answers_of : List Turn → List (Result Answer Refusal)
-answers_of ts = map (λ (t : Turn). t.answer) ts
+abbrev answers_of : List PlayedCall → List (Result Answer Refusal)
+answers_of ts = map (λ (t : PlayedCall). t.answer) ts
 
-pub runs_alike : (strategy strategy' : Option Strategy) (client : Client) (faults faults' : Address → LinkFault) (queues queues' : Address → List Tree) (place : ℕ) (ts us : List Turn) → calls_of ts ≡ calls_of us → picks_of ts ≡ picks_of us
-    → IsPlayedFrom strategy client faults (turns_from queues place ts) → IsPlayedFrom strategy' client faults' (turns_from queues' place us)
+pub runs_alike : (strategy strategy' : Option Strategy) (client : Client) (faults faults' : Address → LinkFault) (queues queues' : Address → List Tree) (place : ℕ) (ts us : List PlayedCall) → calls_of ts ≡ calls_of us → picks_of ts ≡ picks_of us
+    → IsPlayedFrom strategy client faults (with_replies_from queues place ts) → IsPlayedFrom strategy' client faults' (with_replies_from queues' place us)
     → ((node : Address) → SayTheSame (respellings node ts) (queues node) (queues' node)) → (logs_of ts ≡ logs_of us) × (answers_of ts ≡ answers_of us)
 runs_alike strategy strategy' client faults faults' queues queues' place [] [] c p left right s = (refl, refl)
 runs_alike strategy strategy' client faults faults' queues queues' place [] (u ∷ us) c p left right s = cc
@@ -259,7 +259,7 @@ runs_alike strategy strategy' client faults faults' queues queues' place (t ∷ 
     let answer : t.answer ≡ u.answer = left.2 ∙ answers_alike client t.picks faults faults' t.call (exchanges queues place t.log) (exchanges queues' place t.log) r.0 ∙ answered ∙ sym right.2 in
     let next : client_after client u.call (exchanges queues' place u.log) ≡ client_after client t.call (exchanges queues place t.log) =
     ap (λ z. client_after client z (exchanges queues' place u.log)) (sym call) ∙ ap (λ z. client_after client t.call (exchanges queues' place z)) (sym log) ∙ sym (client_alike client t.call (exchanges queues place t.log) (exchanges queues' place t.log) r.0) in
-    let later = subst (λ z. IsPlayedFrom strategy' z faults' (turns_from (left_after_all queues' u.log) (place + length u.log) us)) next right.3 in
-    let later' = subst (λ z. IsPlayedFrom strategy' (client_after client t.call (exchanges queues place t.log)) faults' (turns_from (left_after_all queues' z) (place + length z) us)) (sym log) later in
+    let later = subst (λ z. IsPlayedFrom strategy' z faults' (with_replies_from (left_after_all queues' u.log) (place + length u.log) us)) next right.3 in
+    let later' = subst (λ z. IsPlayedFrom strategy' (client_after client t.call (exchanges queues place t.log)) faults' (with_replies_from (left_after_all queues' z) (place + length z) us)) (sym log) later in
     let i = runs_alike strategy strategy' (client_after client t.call (exchanges queues place t.log)) faults faults' (left_after_all queues t.log) (left_after_all queues' t.log) (place + length t.log) ts us calls others left.3 later' r.1 in
     (ap (λ z. z ∷ logs_of ts) log ∙ ap (λ l. u.log ∷ l) i.0, ap (λ z. z ∷ answers_of ts) answer ∙ ap (λ l. u.answer ∷ l) i.1)

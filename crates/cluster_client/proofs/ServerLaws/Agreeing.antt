@@ -10,21 +10,21 @@ use Rattle.cluster_client.specs.Calls.Answer.{Answer, answer_in}
 use Rattle.cluster_client.specs.OneServer.Keyspace.{Keyspace}
 use Rattle.cluster_client.specs.OneServer.Meaning.{Meaning, OneServer}
 use Rattle.cluster_client.specs.OneServer.Commands.{is_on_slots, commands, counting, IsTaskAnswer, IsAnswerBy}
-use Rattle.cluster_client.specs.OneServer.Headline.{TurnMade, all_counting, AsOneServer, AreOnSlots}
+use Rattle.cluster_client.specs.OneServer.Headline.{RepliedCall, all_counting, AsOneServer, AreOnSlots}
 use Rattle.cluster_client.specs.OneServer.Laws.{IsAnswered, IsDeterministic}
 use Rattle.cluster_client.proofs.ServerLaws.Determined.{determined}
 
-calls_of : List TurnMade → List Call
-calls_of ts = map (λ (t : TurnMade). t.call) ts
+calls_of : List RepliedCall → List Call
+calls_of ts = map (λ (t : RepliedCall). t.call) ts
 
-answers_of : List TurnMade → List (Result Answer Refusal)
-answers_of ts = map (λ (t : TurnMade). t.answer) ts
+answers_of : List RepliedCall → List (Result Answer Refusal)
+answers_of ts = map (λ (t : RepliedCall). t.answer) ts
 
 all_commands : List Call → List (List (List ℕ))
 all_commands cs = concat (map commands cs)
 
 -- of answered calls all commands count
-counting_all : (done : ℕ → Bool) (ts : List TurnMade) → AllByRecursion IsAnswered ts → all_counting done ts ≡ all_commands (map (λ (t : TurnMade). t.call) ts)
+counting_all : (done : ℕ → Bool) (ts : List RepliedCall) → AllByRecursion IsAnswered ts → all_counting done ts ≡ all_commands (map (λ (t : RepliedCall). t.call) ts)
 unfolding all_commands
 counting_all done [] h = refl
 counting_all done (t ∷ ts) h = ap (λ a. counting done t.call a t.log ++ all_counting done ts) h.0.1 ∙ ap (λ q. commands t.call ++ q) (counting_all done ts h.1)
@@ -53,37 +53,37 @@ one_answer call (pipeline_of entries) a b trees h k = h ∙ sym k
 one_answer call (several_nodes command) a b trees h k = absurd h
 
 -- call by call
-turn_by_turn : (done done' : ℕ → Bool) (ts us : List TurnMade) (xs ys : List (List Tree)) → map (λ (t : TurnMade). t.call) ts ≡ map (λ (t : TurnMade). t.call) us → AllByRecursion IsAnswered ts → AllByRecursion IsAnswered us
-    → Pairwise (λ (t : TurnMade) here. length here ≡ length (counting done t.call t.answer t.log)) ts xs → Pairwise (λ (t : TurnMade) here. length here ≡ length (counting done' t.call t.answer t.log)) us ys
-    → Pairwise (λ (t : TurnMade) here. IsAnswerBy t.call t.answer here) ts xs → Pairwise (λ (t : TurnMade) here. IsAnswerBy t.call t.answer here) us ys → concat xs ≡ concat ys
-    → map (λ (t : TurnMade). t.answer) ts ≡ map (λ (t : TurnMade). t.answer) us
-turn_by_turn done done' [] [] xs ys e a b m n h k c = refl
-turn_by_turn done done' [] (u ∷ us) xs ys e a b m n h k c = cc
-turn_by_turn done done' (t ∷ ts) [] xs ys e a b m n h k c = cc
-turn_by_turn done done' (t ∷ ts) (u ∷ us) [] ys e a b m n h k c = absurd m
-turn_by_turn done done' (t ∷ ts) (u ∷ us) (x ∷ xs) [] e a b m n h k c = absurd n
-turn_by_turn done done' (t ∷ ts) (u ∷ us) (x ∷ xs) (y ∷ ys) e a b m n h k c =
+call_by_call : (done done' : ℕ → Bool) (ts us : List RepliedCall) (xs ys : List (List Tree)) → map (λ (t : RepliedCall). t.call) ts ≡ map (λ (t : RepliedCall). t.call) us → AllByRecursion IsAnswered ts → AllByRecursion IsAnswered us
+    → Pairwise (λ (t : RepliedCall) here. length here ≡ length (counting done t.call t.answer t.log)) ts xs → Pairwise (λ (t : RepliedCall) here. length here ≡ length (counting done' t.call t.answer t.log)) us ys
+    → Pairwise (λ (t : RepliedCall) here. IsAnswerBy t.call t.answer here) ts xs → Pairwise (λ (t : RepliedCall) here. IsAnswerBy t.call t.answer here) us ys → concat xs ≡ concat ys
+    → map (λ (t : RepliedCall). t.answer) ts ≡ map (λ (t : RepliedCall). t.answer) us
+call_by_call done done' [] [] xs ys e a b m n h k c = refl
+call_by_call done done' [] (u ∷ us) xs ys e a b m n h k c = cc
+call_by_call done done' (t ∷ ts) [] xs ys e a b m n h k c = cc
+call_by_call done done' (t ∷ ts) (u ∷ us) [] ys e a b m n h k c = absurd m
+call_by_call done done' (t ∷ ts) (u ∷ us) (x ∷ xs) [] e a b m n h k c = absurd n
+call_by_call done done' (t ∷ ts) (u ∷ us) (x ∷ xs) (y ∷ ys) e a b m n h k c =
     let call : t.call ≡ u.call = cc in
-    let rest : map (λ (t : TurnMade). t.call) ts ≡ map (λ (t : TurnMade). t.call) us = cc in
+    let rest : map (λ (t : RepliedCall). t.call) ts ≡ map (λ (t : RepliedCall). t.call) us = cc in
     let left : length x ≡ length (commands t.call) = m.0 ∙ ap (λ q. length (counting done t.call q t.log)) a.0.1 in
     let right : length y ≡ length (commands u.call) = n.0 ∙ ap (λ q. length (counting done' u.call q u.log)) b.0.1 in
     let s = same_front x y (concat xs) (concat ys) (left ∙ ap (λ q. length (commands q)) call ∙ sym right) c in
     let here : IsTaskAnswer t.call (task_of t.call) a.0.0 x = subst (λ q. IsAnswerBy t.call q x) a.0.1 h.0 in
     let there : IsTaskAnswer t.call (task_of t.call) b.0.0 x = subst (λ q. IsTaskAnswer q (task_of q) b.0.0 x) (sym call) (subst (λ q. IsTaskAnswer u.call (task_of u.call) b.0.0 q) (sym s.0) (subst (λ q. IsAnswerBy u.call q y) b.0.1 k.0)) in
     let same : t.answer ≡ u.answer = a.0.1 ∙ ap (λ q. Ok q) (one_answer t.call (task_of t.call) a.0.0 b.0.0 x here there) ∙ sym b.0.1 in
-    ap (λ q. q ∷ map (λ (t : TurnMade). t.answer) ts) same ∙ ap (λ q. u.answer ∷ q) (turn_by_turn done done' ts us xs ys rest a.1 b.1 m.1 n.1 h.1 k.1 s.1)
+    ap (λ q. q ∷ map (λ (t : RepliedCall). t.answer) ts) same ∙ ap (λ q. u.answer ∷ q) (call_by_call done done' ts us xs ys rest a.1 b.1 m.1 n.1 h.1 k.1 s.1)
 
-pub servers_agree : (meaning : Meaning) (keys left right : Keyspace) (done done' : ℕ → Bool) (ts us : List TurnMade) → IsDeterministic meaning → map (λ (t : TurnMade). t.call) ts ≡ map (λ (t : TurnMade). t.call) us
+pub servers_agree : (meaning : Meaning) (keys left right : Keyspace) (done done' : ℕ → Bool) (ts us : List RepliedCall) → IsDeterministic meaning → map (λ (t : RepliedCall). t.call) ts ≡ map (λ (t : RepliedCall). t.call) us
     → AllByRecursion IsAnswered ts → AllByRecursion IsAnswered us → AsOneServer meaning keys done ts left → AsOneServer meaning keys done' us right
-    → (map (λ (t : TurnMade). t.answer) ts ≡ map (λ (t : TurnMade). t.answer) us) × ((slot : ℕ) → left slot ≡ right slot)
+    → (map (λ (t : RepliedCall). t.answer) ts ≡ map (λ (t : RepliedCall). t.answer) us) × ((slot : ℕ) → left slot ≡ right slot)
 servers_agree meaning keys left right done done' ts us one e a b h k =
     let same : all_counting done' us ≡ all_counting done ts = counting_all done' us b ∙ ap all_commands (sym e) ∙ sym (counting_all done ts a) in
     let other : OneServer meaning keys (all_counting done ts) (concat k.trees) right = subst (λ q. OneServer meaning keys q (concat k.trees) right) same k.served in
     let d = determined meaning one (all_counting done ts) h.served.0 other.0 (concat h.trees) (concat k.trees) keys left right h.served.1 other.1 h.served.2 other.2 in
-    (turn_by_turn done done' ts us h.trees k.trees e a b h.counts k.counts h.answers k.answers d.0, d.1)
+    (call_by_call done done' ts us h.trees k.trees e a b h.counts k.counts h.answers k.answers d.0, d.1)
 
 -- the same calls are on slots in both runs
-pub on_slots_too : (ts us : List TurnMade) → map (λ (t : TurnMade). t.call) ts ≡ map (λ (t : TurnMade). t.call) us → AreOnSlots ts → AreOnSlots us
+pub on_slots_too : (ts us : List RepliedCall) → map (λ (t : RepliedCall). t.call) ts ≡ map (λ (t : RepliedCall). t.call) us → AreOnSlots ts → AreOnSlots us
 on_slots_too [] [] e h = tt
 on_slots_too [] (u ∷ us) e h = absurd (empty e)
   where
@@ -92,5 +92,5 @@ on_slots_too [] (u ∷ us) e h = absurd (empty e)
 on_slots_too (t ∷ ts) [] e h = tt
 on_slots_too (t ∷ ts) (u ∷ us) e h =
     let call : t.call ≡ u.call = cc in
-    let rest : map (λ (t : TurnMade). t.call) ts ≡ map (λ (t : TurnMade). t.call) us = cc in
+    let rest : map (λ (t : RepliedCall). t.call) ts ≡ map (λ (t : RepliedCall). t.call) us = cc in
     (ap is_on_slots (sym call) ∙ h.0, on_slots_too ts us rest h.1)

@@ -21,7 +21,7 @@ use Rattle.cluster_client.specs.Links.Faults.{LinkFault}
 use Rattle.cluster_client.specs.Calls.Replies.{part_replies, reply_of_parts}
 use Rattle.cluster_client.specs.Calls.Refusals.{part_refusal, sent_refusal}
 use Rattle.cluster_client.specs.Calls.Answer.{Answer, answer_in, reply_of, unless, answer_of}
-use Rattle.cluster_client.specs.OneServer.Keyspace.{Keyspace, Chain}
+use Rattle.cluster_client.specs.OneServer.Keyspace.{Keyspace, History}
 use Rattle.cluster_client.specs.OneServer.Meaning.{Meaning, OneServer}
 use Rattle.cluster_client.specs.OneServer.Honest.{Honest, Accounts, is_counted}
 use Rattle.cluster_client.specs.OneServer.Commands.{task_commands, kept_of, kept_by, split_with, task_kept, counting, IsAnswerBy, IsTaskAnswer}
@@ -37,8 +37,8 @@ pub record CallServed (meaning : Meaning) (keys : Keyspace) (done : ℕ → Bool
   pub answer_is : IsAnswerBy call answer trees
 
 -- no exchange, no change
-pub nothing_done : (meaning : Meaning) (keys keys' : Keyspace) (done : ℕ → Bool) → Honest meaning keys done [] keys' → Chain keys [] keys'
-nothing_done meaning keys keys' done h = subst (λ q. Chain keys (concat q) keys') (pairwise-nil (Accounts meaning done) h.0 h.1) h.2
+pub nothing_done : (meaning : Meaning) (keys keys' : Keyspace) (done : ℕ → Bool) → Honest meaning keys done [] keys' → History keys [] keys'
+nothing_done meaning keys keys' done h = subst (λ q. History keys (concat q) keys') (pairwise-nil (Accounts meaning done) h.0 h.1) h.2
 
 filter_none : (split : Split) → filter (λ t. among nat_eq (tuple_slot t) []) split.tuples ≡ []
 filter_none split = by split.tuples

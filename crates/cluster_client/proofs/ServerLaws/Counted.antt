@@ -56,7 +56,7 @@ passed_reply links budget r hop e = by (budget == 0) e
     by false f = replied r f
 
 -- a part's exchanges: those that were redirected, the last one, and what is behind it
-pub record Chained (args : List (List ℕ)) (Behind : Exchange → List Exchange → Type 0) (xs : List Exchange) : Type 0 where
+pub record OfChain (args : List (List ℕ)) (Behind : Exchange → List Exchange → Type 0) (xs : List Exchange) : Type 0 where
   pub before : List Exchange
   pub last : Exchange
   pub behind : List Exchange
@@ -65,16 +65,16 @@ pub record Chained (args : List (List ℕ)) (Behind : Exchange → List Exchange
   pub args_are : last.request.args ≡ args
   pub rest : Behind last behind
 
-pub chained : (links : List Address) (budget : ℕ) (hop : Hop) (args : List (List ℕ)) (Behind : Exchange → List Exchange → Type 0) (xs : List Exchange)
-    → FollowsRedirects links budget hop args Behind xs → Chained args Behind xs
-chained links budget hop args Behind [] h = absurd h
-chained links budget hop args Behind (x ∷ xs) h = by (next_of links budget x.reply) refl h.1 (λ next g. chained links (budget - 1) next args Behind xs g)
+pub of_chain : (links : List Address) (budget : ℕ) (hop : Hop) (args : List (List ℕ)) (Behind : Exchange → List Exchange → Type 0) (xs : List Exchange)
+    → FollowsRedirects links budget hop args Behind xs → OfChain args Behind xs
+of_chain links budget hop args Behind [] h = absurd h
+of_chain links budget hop args Behind (x ∷ xs) h = by (next_of links budget x.reply) refl h.1 (λ next g. of_chain links (budget - 1) next args Behind xs g)
   where
-    here : Behind x xs → Chained args Behind (x ∷ xs)
+    here : Behind x xs → OfChain args Behind (x ∷ xs)
     here g = record { before = []; last = x; behind = xs; all = refl; passed = tt; args_are = ap (λ q. q.args) h.0; rest = g }
 
     by : (n : Next) → next_of links budget x.reply ≡ n → MatchNext n (Behind x xs) (λ next. FollowsRedirects links (budget - 1) next args Behind xs)
-        → ((next : Hop) → FollowsRedirects links (budget - 1) next args Behind xs → Chained args Behind xs) → Chained args Behind (x ∷ xs)
+        → ((next : Hop) → FollowsRedirects links (budget - 1) next args Behind xs → OfChain args Behind xs) → OfChain args Behind (x ∷ xs)
     by Stays e g ih = here g
     by Lost e g ih = here g
     by (Goes next) e g ih =
@@ -116,8 +116,8 @@ parts_begun client done [] xs h = record { begun = []; later = []; all = refl; a
 parts_begun client done (d ∷ ds) xs h =
     by (is_answered c.last) refl c.rest (is_counted done c.last) refl (λ g. parts_begun client done ds c.behind g)
   where
-    c : Chained d.args (part_behind client ds) xs
-    c = chained client.links client.settings.budget (first_hop d) d.args (part_behind client ds) xs h
+    c : OfChain d.args (part_behind client ds) xs
+    c = of_chain client.links client.settings.budget (first_hop d) d.args (part_behind client ds) xs h
 
     counted : filter (is_counted done) xs ≡ filter (is_counted done) (c.last ∷ c.behind)
     counted = ap (filter (is_counted done)) c.all ∙ passed_over (is_counted done) (passed_uncounted done) c.before (c.last ∷ c.behind) c.passed
@@ -221,8 +221,8 @@ parts_done client faults done [] xs h e = subst (AllDone done []) (sym h) (recor
 parts_done client faults done (d ∷ ds) xs h e =
     by (is_answered c.last) refl c.rest (λ g f. parts_done client faults done ds c.behind g f)
   where
-    c : Chained d.args (part_behind client ds) xs
-    c = chained client.links client.settings.budget (first_hop d) d.args (part_behind client ds) xs h
+    c : OfChain d.args (part_behind client ds) xs
+    c = of_chain client.links client.settings.budget (first_hop d) d.args (part_behind client ds) xs h
 
     -- a last one without an answer refuses
     refused : (ys : List Exchange) → (y : Exchange) × (zs : List Exchange) × (ys ≡ y ∷ zs) → list_any is_answered ys ≡ false → part_refusal client faults (behind_answers ys) ≡ None → ⊥

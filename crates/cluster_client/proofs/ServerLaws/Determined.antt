@@ -8,10 +8,10 @@ use Rattle.resp_args.specs.declared.cmd.Arg.TheVariants.{Simple}
 use Rattle.cluster_routing.specs.Routing.{destination}
 use Rattle.cluster_routing.specs.declared.policy.ResponsePolicy.{ResponsePolicy}
 use Rattle.cluster_client.proofs.LogLaws.PipePlans.{leads_slot}
-use Rattle.cluster_client.specs.OneServer.Keyspace.{Keyspace, Step, Chain, with_cell}
+use Rattle.cluster_client.specs.OneServer.Keyspace.{Keyspace, Step, History, with_cell}
 use Rattle.cluster_client.specs.OneServer.Meaning.{Meaning, DoCommand, DoesTuple, IsWholeStep, AreAllowed, DoAll, tree_of_steps, results}
 use Rattle.cluster_client.specs.OneServer.Laws.{IsDeterministic}
-use Rattle.cluster_client.proofs.ServerLaws.Chains.{chain_split, chain_from}
+use Rattle.cluster_client.proofs.ServerLaws.Histories.{history_split, history_from}
 
 -- two steps of the meaning for one deed on one slot
 record AreTwins (meaning : Meaning) (x y : Step) : Type 0 where
@@ -20,14 +20,14 @@ record AreTwins (meaning : Meaning) (x y : Step) : Type 0 where
   left : Contains meaning x
   right : Contains meaning y
 
--- chains of twins from one keyspace are one chain
-twin_chains : (meaning : Meaning) → IsDeterministic meaning → (xs ys : List Step) (keys left right : Keyspace) → Pairwise (AreTwins meaning) xs ys → Chain keys xs left → Chain keys ys right → (xs ≡ ys) × ((slot : ℕ) → left slot ≡ right slot)
-twin_chains meaning one [] [] keys left right t c d = (refl, λ s. sym (c s) ∙ d s)
-twin_chains meaning one [] (y ∷ ys) keys left right t c d = absurd t
-twin_chains meaning one (x ∷ xs) [] keys left right t c d = absurd t
-twin_chains meaning one (x ∷ xs) (y ∷ ys) keys left right t c d =
+-- histories of twins from one keyspace are one history
+twin_histories : (meaning : Meaning) → IsDeterministic meaning → (xs ys : List Step) (keys left right : Keyspace) → Pairwise (AreTwins meaning) xs ys → History keys xs left → History keys ys right → (xs ≡ ys) × ((slot : ℕ) → left slot ≡ right slot)
+twin_histories meaning one [] [] keys left right t c d = (refl, λ s. sym (c s) ∙ d s)
+twin_histories meaning one [] (y ∷ ys) keys left right t c d = absurd t
+twin_histories meaning one (x ∷ xs) [] keys left right t c d = absurd t
+twin_histories meaning one (x ∷ xs) (y ∷ ys) keys left right t c d =
     let same = one x y t.0.left t.0.right t.0.deed (sym c.0 ∙ ap keys t.0.slot ∙ d.0) in
-    let r = twin_chains meaning one xs ys (with_cell keys x.slot x.after) left right t.1 c.1 (subst (λ (z : Step). Chain (with_cell keys z.slot z.after) ys right) (sym same) d.1) in
+    let r = twin_histories meaning one xs ys (with_cell keys x.slot x.after) left right t.1 c.1 (subst (λ (z : Step). History (with_cell keys z.slot z.after) ys right) (sym same) d.1) in
     (ap (λ z. z ∷ xs) same ∙ ap (λ zs. y ∷ zs) r.0, r.1)
 
 twin_tuples : (meaning : Meaning) (policy : ResponsePolicy) (word : List ℕ) (shared : List (List ℕ)) (ts : List Tuple) (xs ys : List Step) → Pairwise (DoesTuple policy word shared) ts xs → Pairwise (DoesTuple policy word shared) ts ys → AreAllowed meaning xs → AreAllowed meaning ys → Pairwise (AreTwins meaning) xs ys
@@ -67,7 +67,7 @@ twins-append meaning (x ∷ xs) [] us vs h k = absurd h
 twins-append meaning (x ∷ xs) (y ∷ ys) us vs h k = (h.0, twins-append meaning xs ys us vs h.1 k)
 
 pub determined : (meaning : Meaning) → IsDeterministic meaning → (cs : List (List (List ℕ))) (ss rs : List (List Step)) (ts us : List Tree) (keys left right : Keyspace)
-    → DoAll meaning cs ss ts → DoAll meaning cs rs us → Chain keys (concat ss) left → Chain keys (concat rs) right → (ts ≡ us) × ((slot : ℕ) → left slot ≡ right slot)
+    → DoAll meaning cs ss ts → DoAll meaning cs rs us → History keys (concat ss) left → History keys (concat rs) right → (ts ≡ us) × ((slot : ℕ) → left slot ≡ right slot)
 determined meaning one [] [] [] [] [] keys left right h k c d = (refl, λ s. sym (c s) ∙ d s)
 determined meaning one [] [] [] [] (u ∷ us) keys left right h k c d = absurd k
 determined meaning one [] [] (r ∷ rs) [] us keys left right h k c d = absurd k
@@ -78,9 +78,9 @@ determined meaning one (x ∷ cs) (s ∷ ss) rs [] us keys left right h k c d = 
 determined meaning one (x ∷ cs) (s ∷ ss) [] (t ∷ ts) us keys left right h k c d = absurd k
 determined meaning one (x ∷ cs) (s ∷ ss) (r ∷ rs) (t ∷ ts) [] keys left right h k c d = absurd k
 determined meaning one (x ∷ cs) (s ∷ ss) (r ∷ rs) (t ∷ ts) (u ∷ us) keys left right h k c d =
-    let a = chain_split s (concat ss) keys left c in
-    let b = chain_split r (concat rs) keys right d in
+    let a = history_split s (concat ss) keys left c in
+    let b = history_split r (concat rs) keys right d in
     let w = twin_steps meaning x s r t u h.0.0 k.0.0 h.0.1 k.0.1 in
-    let e = twin_chains meaning one s r keys a.0 b.0 w.0 a.1.0 b.1.0 in
-    let rest = determined meaning one cs ss rs ts us a.0 left right h.1 k.1 a.1.1 (chain_from (concat rs) b.0 a.0 right (λ n. sym (e.1 n)) b.1.1) in
+    let e = twin_histories meaning one s r keys a.0 b.0 w.0 a.1.0 b.1.0 in
+    let rest = determined meaning one cs ss rs ts us a.0 left right h.1 k.1 a.1.1 (history_from (concat rs) b.0 a.0 right (λ n. sym (e.1 n)) b.1.1) in
     (ap (λ q. q ∷ ts) (w.1 e.0) ∙ ap (λ q. u ∷ q) rest.0, rest.1)

@@ -8,7 +8,7 @@ use Rattle.cluster_routing.specs.Lists.{concat, among, IsDistinct, Pairwise}
 use Rattle.cluster_routing.specs.Address.{Address}
 use Rattle.cluster_routing.specs.Split.{Split, split_of}
 use Rattle.cluster_routing.specs.Parts.{tuple_slot}
-use Rattle.cluster_client.specs.OneServer.Keyspace.{Keyspace, Step, Chain}
+use Rattle.cluster_client.specs.OneServer.Keyspace.{Keyspace, Step, History}
 use Rattle.cluster_client.specs.OneServer.Meaning.{Meaning, DoesTuple, IsWholeStep, DoCommand, OneServer, tree_of_steps, results}
 use Rattle.cluster_routing.specs.Combine.{combine_by}
 use Rattle.cluster_client.specs.Links.Log.{Exchange, is_answered, is_data_reply, behind_answers}
@@ -61,7 +61,7 @@ module _ (meaning : Meaning) (done : ℕ → Bool) (args : List (List ℕ)) (key
   -- ---- what is kept
 
   whole_kept : (d : Dispatch) → d.args ≡ args → (begun later : List Dispatch) → d ∷ [] ≡ begun ++ later → (xs : List Exchange) → Pairwise (λ (d : Dispatch) (x : Exchange). x.request.args ≡ d.args) begun xs
-      → (sts : List (List Step)) → Pairwise (IsDoneBy meaning) xs sts → Chain keys (concat sts) keys' → (trees_of : List Tree) × OneServer meaning keys (kept_by args None xs) trees_of keys'
+      → (sts : List (List Step)) → Pairwise (IsDoneBy meaning) xs sts → History keys (concat sts) keys' → (trees_of : List Tree) × OneServer meaning keys (kept_by args None xs) trees_of keys'
   whole_kept d e begun later all [] p [] h c = ([], ([], tt, c))
   whole_kept d e begun later all [] p (st ∷ sts) h c = absurd h
   whole_kept d e begun later all (x ∷ xs) p [] h c = absurd h
@@ -84,17 +84,17 @@ module _ (meaning : Meaning) (done : ℕ → Bool) (args : List (List ℕ)) (key
       steps : (ts : List (List Step)) × Pairwise (IsDoneBy meaning) (filter (is_counted done) xs) ts × (concat ts ≡ concat honest.0)
       steps = counted_steps meaning done xs honest.0 honest.1
 
-      chain : Chain keys (concat steps.0) keys'
-      chain = subst (λ q. Chain keys q keys') (sym steps.2) honest.2
+      history : History keys (concat steps.0) keys'
+      history = subst (λ q. History keys q keys') (sym steps.2) honest.2
 
       by : (o : Option Split) → split_of args ≡ o → Sends args ds o → (trees_of : List Tree) × OneServer meaning keys (kept_by args o (filter (is_counted done) xs)) trees_of keys'
-      by None e s = whole_kept s.0 s.2 begun.begun begun.later (sym s.1 ∙ begun.all) (filter (is_counted done) xs) begun.args steps.0 steps.1 chain
+      by None e s = whole_kept s.0 s.2 begun.begun begun.later (sym s.1 ∙ begun.all) (filter (is_counted done) xs) begun.args steps.0 steps.1 history
       by (Some split) e s =
           let parts = parts_done_steps meaning args split e begun.begun (all-front (IsDispatchOf split) begun.begun begun.later (subst (AllByRecursion (IsDispatchOf split)) begun.all s.each))
           (filter (is_counted done) xs) begun.args steps.0 steps.1 in
           kept_served meaning args split e keys keys' (λ t. among nat_eq (tuple_slot t) (map exchange_slot (filter (is_counted done) xs))) steps.0
           (regrouped meaning args split e keys keys' begun.begun (filter (is_counted done) xs) steps.0
-          (distinct-front begun.begun begun.later (subst (λ q. IsDistinct nat_eq (map (λ (d : Dispatch). (args_slot d.args)) q)) begun.all s.distinct)) parts chain)
+          (distinct-front begun.begun begun.later (subst (λ q. IsDistinct nat_eq (map (λ (d : Dispatch). (args_slot d.args)) q)) begun.all s.distinct)) parts history)
 
   -- ---- what is told
 
@@ -116,7 +116,7 @@ module _ (meaning : Meaning) (done : ℕ → Bool) (args : List (List ℕ)) (key
       )
 
   split_told : (split : Split) (e : split_of args ≡ Some split) (ds : List Dispatch) → SendsParts split ds → (xs : List Exchange) → AllDone done ds xs → (sts : List (List Step)) → Pairwise (IsDoneBy meaning) (filter (is_counted done) xs) sts
-      → Chain keys (concat sts) keys' → (tree : Tree) → reply_by_split (Some split) (part_replies xs) ≡ Some tree → OneServer meaning keys (args ∷ []) (tree ∷ []) keys'
+      → History keys (concat sts) keys' → (tree : Tree) → reply_by_split (Some split) (part_replies xs) ≡ Some tree → OneServer meaning keys (args ∷ []) (tree ∷ []) keys'
   split_told split e ds s xs all sts h c tree told =
       let counted = filter (is_counted done) xs in
       let parts = parts_done_steps meaning args split e ds s.each counted all.args sts h in
@@ -136,15 +136,15 @@ module _ (meaning : Meaning) (done : ℕ → Bool) (args : List (List ℕ)) (key
           ),
           tt,
         ),
-        subst (λ q. Chain keys q keys') (sym (append-nil g.steps)) g.chain,
+        subst (λ q. History keys q keys') (sym (append-nil g.steps)) g.history,
       )
 
   whole_told : (d : Dispatch) → d.args ≡ args → (xs : List Exchange) → AllDone done (d ∷ []) xs → (sts : List (List Step)) → Pairwise (IsDoneBy meaning) (filter (is_counted done) xs) sts
-      → Chain keys (concat sts) keys' → (tree : Tree) → reply_by_split None (part_replies xs) ≡ Some tree → OneServer meaning keys (args ∷ []) (tree ∷ []) keys'
+      → History keys (concat sts) keys' → (tree : Tree) → reply_by_split None (part_replies xs) ≡ Some tree → OneServer meaning keys (args ∷ []) (tree ∷ []) keys'
   whole_told d e xs all sts h c tree told =
       by (filter (is_counted done) xs) all.args all.answered sts h c (subst (λ q. reply_by_split None (map (λ x. record { slot = exchange_slot x; tree = reply_or_nil x }) q) ≡ Some tree) all.answers told)
     where
-      by : (ys : List Exchange) → Pairwise (λ (d : Dispatch) (x : Exchange). x.request.args ≡ d.args) (d ∷ []) ys → AllByRecursion (λ x. is_answered x ≡ true) ys → (sts : List (List Step)) → Pairwise (IsDoneBy meaning) ys sts → Chain keys (concat sts) keys'
+      by : (ys : List Exchange) → Pairwise (λ (d : Dispatch) (x : Exchange). x.request.args ≡ d.args) (d ∷ []) ys → AllByRecursion (λ x. is_answered x ≡ true) ys → (sts : List (List Step)) → Pairwise (IsDoneBy meaning) ys sts → History keys (concat sts) keys'
           → reply_by_split None (map (λ x. record { slot = exchange_slot x; tree = reply_or_nil x }) ys) ≡ Some tree → OneServer meaning keys (args ∷ []) (tree ∷ []) keys'
       by [] p a sts h c t = absurd p
       by (y ∷ z ∷ ys) p a sts h c t = absurd p.1
@@ -165,9 +165,9 @@ module _ (meaning : Meaning) (done : ℕ → Bool) (args : List (List ℕ)) (key
       steps : (ts : List (List Step)) × Pairwise (IsDoneBy meaning) (filter (is_counted done) xs) ts × (concat ts ≡ concat honest.0)
       steps = counted_steps meaning done xs honest.0 honest.1
 
-      chain : Chain keys (concat steps.0) keys'
-      chain = subst (λ q. Chain keys q keys') (sym steps.2) honest.2
+      history : History keys (concat steps.0) keys'
+      history = subst (λ q. History keys q keys') (sym steps.2) honest.2
 
       by : (o : Option Split) → split_of args ≡ o → Sends args ds o → reply_by_split o (part_replies xs) ≡ Some tree → OneServer meaning keys (args ∷ []) (tree ∷ []) keys'
-      by None e s t = whole_told s.0 s.2 xs (subst (λ q. AllDone done q xs) s.1 all) steps.0 steps.1 chain tree t
-      by (Some split) e s t = split_told split e ds s xs all steps.0 steps.1 chain tree t
+      by None e s t = whole_told s.0 s.2 xs (subst (λ q. AllDone done q xs) s.1 all) steps.0 steps.1 history tree t
+      by (Some split) e s t = split_told split e ds s xs all steps.0 steps.1 history tree t

@@ -8,7 +8,7 @@ use Rattle.cluster_routing.specs.Combine.{array_of}
 use Rattle.cluster_routing.specs.Lists.{concat, Pairwise, among, IsDistinct, group_by_group, draw, without_front_of, front, rest}
 use Rattle.resp_args.specs.Packed.{sent}
 use Rattle.cluster_routing.specs.Address.{Address, same_address}
-use Rattle.cluster_client.specs.OneServer.Keyspace.{Keyspace, Step, Chain}
+use Rattle.cluster_client.specs.OneServer.Keyspace.{Keyspace, Step, History}
 use Rattle.cluster_client.specs.Calls.Parts.{Part}
 use Rattle.cluster_client.specs.OneServer.Meaning.{Meaning, DoCommand, DoAll, OneServer}
 use Rattle.cluster_client.specs.Links.Log.{Exchange, requests, is_answered, is_unanswered, is_data_reply}
@@ -26,7 +26,7 @@ use Rattle.cluster_client.specs.Calls.Replies.{args_slot, pipeline_reply, not_ig
 use Rattle.cluster_client.specs.Calls.Refusals.{pipeline_refusal, errors_from, with_error}
 use Rattle.resp_core.specs.Parts.{first_error}
 use Rattle.cluster_client.specs.OneServer.Honest.{Honest, Accounts, IsDoneBy, is_counted}
-use Rattle.cluster_client.proofs.ServerLaws.Chains.{chain_same_slots}
+use Rattle.cluster_client.proofs.ServerLaws.Histories.{history_same_slots}
 use Rattle.cluster_client.proofs.ServerLaws.Regroup.{filter-group_by_group}
 use Rattle.cluster_client.proofs.ServerLaws.Distinct.{firsts_distinct, among-firsts}
 use Rattle.cluster_client.proofs.ServerLaws.Draw.{draw_each, drawn_same, draw-map, pairwise-nil}
@@ -243,13 +243,13 @@ module _ (client : Client) (meaning : Meaning) (done : ℕ → Bool) (Q : Exchan
       none : (d : Dispatch) → among same_address (primary_of client (args_slot d.args)) first ≡ false → queue (args_slot d.args) ≡ []
       none d e = pairwise-nil (Matches meaning done Q) (queue (args_slot d.args)) (subst (λ q. Pairwise (Matches meaning done Q) q (queue (args_slot d.args))) (sent_at (args_slot d.args) ∙ ap (λ b. cond b (filter (λ (u : Dispatch). (args_slot d.args) == (args_slot u.args)) ds) []) e) (slotwise (args_slot d.args)))
 
-  -- and account for the same chain
-  honest_order : (keys keys' : Keyspace) → Chain keys (concat (map (λ (z : Exchange × List Step). z.1) zs)) keys' → Honest meaning keys done (map (λ (z : Exchange × List Step). z.0) ws) keys'
+  -- and account for the same history
+  honest_order : (keys keys' : Keyspace) → History keys (concat (map (λ (z : Exchange × List Step). z.1) zs)) keys' → Honest meaning keys done (map (λ (z : Exchange × List Step). z.0) ws) keys'
   unfolding queue
   honest_order keys keys' c = (
     map (λ (z : Exchange × List Step). z.1) ws,
     accounts_of meaning done Q going ws in_order.0,
-    chain_same_slots (concat (map (λ (z : Exchange × List Step). z.1) zs)) (concat (map (λ (z : Exchange × List Step). z.1) ws)) keys keys'
+    history_same_slots (concat (map (λ (z : Exchange × List Step). z.1) zs)) (concat (map (λ (z : Exchange × List Step). z.1) ws)) keys keys'
         (λ s. steps_on_slot (λ (z : Exchange × List Step). exchange_slot z.0) (λ (z : Exchange × List Step). z.1) zs (steps_on meaning done Q _ zs pairs) s
         ∙ ap (λ q. concat (map (λ (z : Exchange × List Step). z.1) q)) (sym (in_order.1 s))
         ∙ sym (steps_on_slot (λ (z : Exchange × List Step). exchange_slot z.0) (λ (z : Exchange × List Step). z.1) ws (steps_on meaning done Q going ws in_order.0) s)) c,
@@ -305,7 +305,7 @@ log_in_order client meaning done Q entries ds facts for_each first distinct xs p
     let s = going client meaning done Q entries ds facts for_each first distinct z.0 m in
     let order : map (λ (z : Exchange × List Step). z.0) w ≡ in_pipeline_order entries xs = order_is client meaning done Q entries ds facts for_each first distinct z.0 m ∙ ap (in_pipeline_order entries) z.1 in
     let f = facts_of meaning done Q s w (in_order client meaning done Q entries ds facts for_each first distinct z.0 m).0 in
-    let h = honest_order client meaning done Q entries ds facts for_each first distinct z.0 m keys keys' (subst (λ q. Chain keys (concat q) keys') (sym z.2) honest.2) in
+    let h = honest_order client meaning done Q entries ds facts for_each first distinct z.0 m keys keys' (subst (λ q. History keys (concat q) keys') (sym z.2) honest.2) in
     record {
       honest = subst (λ q. Honest meaning keys done q keys') order h;
       args = subst (λ q. map (λ (x : Exchange). x.request.args) q ≡ map (λ (d : Dispatch). d.args) s) order f.0;
@@ -383,7 +383,7 @@ pipeline_served client faults meaning keys keys' done picks entries xs gaps smal
         let o = log_in_order client meaning done (λ x. Unit {0}) entries ds f.0 f.1 r.first distinct xs r.pairs (all_true xs) keys keys' honest in
         let c = counted_steps meaning done (in_pipeline_order entries xs) o.honest.0 o.honest.1 in
         let t = counted_trees meaning (filter (is_counted done) (in_pipeline_order entries xs)) c.0 c.1 in
-        record { trees = t.0; served = (c.0, t.1, subst (λ q. Chain keys q keys') (sym c.2) o.honest.2); answer_is = tt }
+        record { trees = t.0; served = (c.0, t.1, subst (λ q. History keys q keys') (sym c.2) o.honest.2); answer_is = tt }
     at_refusal ds f r None e =
         let fine = fine_pipeline faults xs (errors_from 0 (in_pipeline_order entries xs)) e in
         let distinct = distinct-front same_address r.first r.later (subst (IsDistinct same_address) r.all (firsts_distinct same_address (map (λ (d : Dispatch). d.node) ds))) in
@@ -400,7 +400,7 @@ pipeline_served client faults meaning keys keys' done picks entries xs gaps smal
         let args : map (λ (x : Exchange). x.request.args) ys ≡ map (λ (x : Entry). sent x.command) entries = o.args ∙ ap (map (λ (d : Dispatch). d.args)) sent_all ∙ entry_args entries ds f.1 in
         record {
           trees = t.0;
-          served = subst (λ q. OneServer meaning keys q t.0 keys') args (c.0, t.1, subst (λ q. Chain keys q keys') (sym c.2) o.honest.2);
+          served = subst (λ q. OneServer meaning keys q t.0 keys') args (c.0, t.1, subst (λ q. History keys q keys') (sym c.2) o.honest.2);
           answer_is = ap (λ q. Value (array_of (not_ignored entries q))) (t.2 answered);
         }
 

@@ -4,8 +4,8 @@ use Rattle.std.specs.List.{AllByRecursion}
 use Rattle.std.proofs.lemmas.Bool.{false≢true}
 use Rattle.std.proofs.lemmas.List.Elements.{filter-append}
 use Rattle.cluster_routing.specs.Lists.{among, IsDistinct, group_by_group}
-use Rattle.cluster_client.specs.OneServer.Keyspace.{Keyspace, Step, Chain, on_slot}
-use Rattle.cluster_client.proofs.ServerLaws.Chains.{chain_same_slots}
+use Rattle.cluster_client.specs.OneServer.Keyspace.{Keyspace, Step, History, on_slot}
+use Rattle.cluster_client.proofs.ServerLaws.Histories.{history_same_slots}
 
 filter-cond : {X : Type 0} (p : X → Bool) (c : Bool) (xs ys : List X) → filter p (cond c xs ys) ≡ cond c (filter p xs) (filter p ys)
 filter-cond p true xs ys = refl
@@ -66,12 +66,12 @@ module _ {A X : Type 0} (eq : A → A → Bool) (eq_true : (a b : A) → eq a b 
       whole true e = refl
       whole false e = none e xs all
 
--- a chain stays one group by group
-pub grouped_chain : {A : Type 0} (eq : A → A → Bool) → ((a b : A) → eq a b ≡ true → a ≡ b) → (group : ℕ → A) (groups : List A) (keys keys' : Keyspace) (steps : List Step) → IsDistinct eq groups
-    → AllByRecursion (λ (x : Step). among eq (group x.slot) groups ≡ true) steps → Chain keys (group_by_group eq (λ (x : Step). group x.slot) groups steps) keys' ↔ Chain keys steps keys'
-grouped_chain eq eq_true group groups keys keys' steps d all = (
-  chain_same_slots (group_by_group eq (λ (x : Step). group x.slot) groups steps) steps keys keys' same,
-  chain_same_slots steps (group_by_group eq (λ (x : Step). group x.slot) groups steps) keys keys' (λ s. sym (same s)),
+-- a history stays one group by group
+pub grouped_history : {A : Type 0} (eq : A → A → Bool) → ((a b : A) → eq a b ≡ true → a ≡ b) → (group : ℕ → A) (groups : List A) (keys keys' : Keyspace) (steps : List Step) → IsDistinct eq groups
+    → AllByRecursion (λ (x : Step). among eq (group x.slot) groups ≡ true) steps → History keys (group_by_group eq (λ (x : Step). group x.slot) groups steps) keys' ↔ History keys steps keys'
+grouped_history eq eq_true group groups keys keys' steps d all = (
+  history_same_slots (group_by_group eq (λ (x : Step). group x.slot) groups steps) steps keys keys' same,
+  history_same_slots steps (group_by_group eq (λ (x : Step). group x.slot) groups steps) keys keys' (λ s. sym (same s)),
 )
   where
     same : (s : ℕ) → on_slot s (group_by_group eq (λ (x : Step). group x.slot) groups steps) ≡ on_slot s steps

@@ -18,13 +18,13 @@ use Rattle.cluster_client.specs.Calls.Refusals.{refusal_in, sent_refusal}
 use Rattle.cluster_client.specs.Calls.Answer.{Answer, Refreshed, call_answer, unless, answer_of, kind}
 use Rattle.resp_core.specs.Parts.{or_else}
 use Rattle.cluster_client.specs.Calls.After.{client_after}
-use Rattle.cluster_client.specs.OneServer.Keyspace.{Keyspace, Step, Chain}
+use Rattle.cluster_client.specs.OneServer.Keyspace.{Keyspace, Step, History}
 use Rattle.cluster_client.specs.OneServer.Meaning.{Meaning, DoAll, OneServer}
 use Rattle.cluster_client.specs.OneServer.Honest.{Honest, Accounts, HonestRun, AccountsFor}
 use Rattle.cluster_client.specs.OneServer.Commands.{is_on_slots, counting}
-use Rattle.cluster_client.specs.OneServer.Headline.{TurnMade, task_log, command_log, command_logs, all_counting, IsPlayedFrom, AsOneServer, AreOnSlots, RefusedByKind}
+use Rattle.cluster_client.specs.OneServer.Headline.{RepliedCall, task_log, command_log, command_logs, all_counting, IsPlayedFrom, AsOneServer, AreOnSlots, RefusedByKind}
 use Rattle.cluster_client.specs.OneServer.Laws.{GapsNameNoKey}
-use Rattle.cluster_client.proofs.ServerLaws.Chains.{chain_join, chain_split}
+use Rattle.cluster_client.proofs.ServerLaws.Histories.{history_join, history_split}
 use Rattle.cluster_client.proofs.ServerLaws.Calls.{CallServed, command_served, nothing_done}
 use Rattle.cluster_client.proofs.ServerLaws.Pipes.{pipeline_served}
 
@@ -41,7 +41,7 @@ pairwise-split R (a ∷ as') bs (x ∷ xs) h = let r = pairwise-split R as' bs x
 honest-split : (meaning : Meaning) (done : ℕ → Bool) (xs ys : List (Call × Exchange)) (keys keys' : Keyspace) → HonestRun meaning keys done (xs ++ ys) keys' → (mid : Keyspace) × (HonestRun meaning keys done xs mid × HonestRun meaning mid done ys keys')
 honest-split meaning done xs ys keys keys' h =
     let p = pairwise-split (AccountsFor meaning done) xs ys h.0 h.1 in
-    let c = chain_split (concat p.0) (concat p.1) keys keys' (subst (λ q. Chain keys q keys') (ap concat p.2 ∙ concat-append p.0 p.1) h.2) in
+    let c = history_split (concat p.0) (concat p.1) keys keys' (subst (λ q. History keys q keys') (ap concat p.2 ∙ concat-append p.0 p.1) h.2) in
     (c.0, ((p.0, p.3, c.1.0), (p.1, p.4, c.1.1)))
 
 -- of one call's requests the call may be left out
@@ -74,7 +74,7 @@ one_server-join : (meaning : Meaning) (cs ds : List (List (List ℕ))) (ts us : 
 one_server-join meaning cs ds ts us keys mid keys' h k = (
   h.0 ++ k.0,
   do_all-append meaning cs ds h.0 k.0 ts us h.1 k.1,
-  subst (λ q. Chain keys q keys') (sym (concat-append h.0 k.0)) (chain_join (concat h.0) (concat k.0) keys mid keys' h.2 k.2),
+  subst (λ q. History keys q keys') (sym (concat-append h.0 k.0)) (history_join (concat h.0) (concat k.0) keys mid keys' h.2 k.2),
 )
 
 -- each call
@@ -93,7 +93,7 @@ call_served client faults meaning keys keys' done picks (Refresh node) xs gaps s
     by (Ok ds) None = record { trees = []; served = ([], tt, nothing_done meaning keys keys' done honest); answer_is = (refl, refl) }
 
 -- the whole run
-pub run_served : (strategy : Option Strategy) (faults : Address → LinkFault) (meaning : Meaning) (done : ℕ → Bool) (ts : List TurnMade) (client : Client) (keys keys' : Keyspace) → GapsNameNoKey
+pub run_served : (strategy : Option Strategy) (faults : Address → LinkFault) (meaning : Meaning) (done : ℕ → Bool) (ts : List RepliedCall) (client : Client) (keys keys' : Keyspace) → GapsNameNoKey
     → AreOnSlots ts → IsPlayedFrom strategy client faults ts → HonestRun meaning keys done (command_logs ts) keys' → AsOneServer meaning keys done ts keys'
 run_served strategy faults meaning done [] client keys keys' gaps on h honest = record { trees = []; counts = tt; served = ([], tt, nothing_done meaning keys keys' done (none_done honest)); answers = tt }
   where
@@ -123,7 +123,7 @@ kind_is client picks faults call xs = by (plan client picks call) (sent_refusal 
     by (Ok ds) (Some r) a = refl
     by (Ok ds) None a = refl
 
-pub run_refused : (strategy : Option Strategy) (faults : Address → LinkFault) (ts : List TurnMade) (client : Client) → IsPlayedFrom strategy client faults ts → RefusedByKind client faults ts
+pub run_refused : (strategy : Option Strategy) (faults : Address → LinkFault) (ts : List RepliedCall) (client : Client) → IsPlayedFrom strategy client faults ts → RefusedByKind client faults ts
 run_refused strategy faults [] client h = tt
 run_refused strategy faults (t ∷ ts) client h =
     (ap refusal_in h.2 ∙ kind_is client t.picks faults t.call t.log, run_refused strategy faults ts (client_after client t.call t.log) h.3)

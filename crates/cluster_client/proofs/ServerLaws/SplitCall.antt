@@ -6,14 +6,14 @@ use Rattle.cluster_routing.specs.Lists.{concat, among, IsDistinct, Pairwise, dra
 use Rattle.cluster_routing.specs.Parts.{Tuple, tuple_slot}
 use Rattle.cluster_routing.specs.Split.{Split, split_of, part_tuples, sub, join_split}
 use Rattle.cluster_client.specs.Calls.Replies.{slot_by, args_slot, exchange_slot}
-use Rattle.cluster_client.specs.OneServer.Keyspace.{Keyspace, Step, Chain, on_slot}
+use Rattle.cluster_client.specs.OneServer.Keyspace.{Keyspace, Step, History, on_slot}
 use Rattle.cluster_client.specs.OneServer.Meaning.{Meaning, DoesTuple, IsWholeStep, AreAllowed, DoCommand, OneServer, tree_of_steps, results}
 use Rattle.cluster_client.specs.Links.Log.{Exchange}
 use Rattle.cluster_client.specs.Calls.Plan.{Dispatch}
 use Rattle.cluster_client.specs.OneServer.Honest.{IsDoneBy}
 use Rattle.cluster_client.specs.OneServer.Commands.{split_with}
 use Rattle.cluster_client.proofs.ServerLaws.Recut.{split_of_some}
-use Rattle.cluster_client.proofs.ServerLaws.Chains.{chain_same_slots}
+use Rattle.cluster_client.proofs.ServerLaws.Histories.{history_same_slots}
 use Rattle.cluster_client.proofs.ServerLaws.Splits.{DoesAllowed, pairwise-zip, pairwise-left, filter-head, in_argument_order}
 
 -- the dispatch sends a part of the split command
@@ -70,11 +70,11 @@ module _ (meaning : Meaning) (args : List (List ℕ)) (split : Split) (is_split 
     pub steps : List Step
     pub does : Pairwise (DoesTuple split.splitting.policy split.word split.shared) us steps
     pub allowed : AreAllowed meaning steps
-    pub chain : Chain keys steps keys'
+    pub history : History keys steps keys'
     pub drawn_from : steps ≡ draw (map tuple_slot us) (λ s. on_slot s (concat sts))
     pub same : (s : ℕ) → on_slot s steps ≡ on_slot s (concat sts)
 
-  pub regrouped : (keys keys' : Keyspace) (ds : List Dispatch) (xs : List Exchange) (sts : List (List Step)) → IsDistinct nat_eq (map (λ (d : Dispatch). (args_slot d.args)) ds) → PartsDone ds xs sts → Chain keys (concat sts) keys'
+  pub regrouped : (keys keys' : Keyspace) (ds : List Dispatch) (xs : List Exchange) (sts : List (List Step)) → IsDistinct nat_eq (map (λ (d : Dispatch). (args_slot d.args)) ds) → PartsDone ds xs sts → History keys (concat sts) keys'
       → Regrouped keys keys' (filter (λ t. among nat_eq (tuple_slot t) (map exchange_slot xs)) split.tuples) sts
   regrouped keys keys' ds xs sts distinct h c =
       subst (λ slots. Regrouped keys keys' (filter (λ t. among nat_eq (tuple_slot t) slots) split.tuples) sts) (sym h.slots)
@@ -89,7 +89,7 @@ module _ (meaning : Meaning) (args : List (List ℕ)) (split : Split) (is_split 
         allowed = both.1;
         drawn_from = refl;
         same = r.1;
-        chain = chain_same_slots (concat sts) steps keys keys' (λ s. sym (r.1 s)) c;
+        history = history_same_slots (concat sts) steps keys keys' (λ s. sym (r.1 s)) c;
       })
 
   -- a split command with some of the tuples, done by these steps
@@ -106,8 +106,8 @@ module _ (meaning : Meaning) (args : List (List ℕ)) (split : Split) (is_split 
   kept_served keys keys' q sts r = by (filter q split.tuples) refl r
     where
       by : (us : List Tuple) → filter q split.tuples ≡ us → Regrouped keys keys' us sts → (trees_of : List Tree) × OneServer meaning keys (split_with split us) trees_of keys'
-      by [] e r = ([], ([], tt, subst (λ s. Chain keys s keys') r.drawn_from r.chain))
+      by [] e r = ([], ([], tt, subst (λ s. History keys s keys') r.drawn_from r.history))
       by (t ∷ ts) e r = (
         tree_of_steps (split.splitting.policy) (results r.steps) ∷ [],
-        (r.steps ∷ [], ((does_some (t ∷ ts) q t ts e r.steps r.does, r.allowed), tt), subst (λ s. Chain keys s keys') (sym (append-nil r.steps)) r.chain),
+        (r.steps ∷ [], ((does_some (t ∷ ts) q t ts e r.steps r.does, r.allowed), tt), subst (λ s. History keys s keys') (sym (append-nil r.steps)) r.history),
       )

@@ -57,7 +57,7 @@ AllTo node (q ∷ qs) = (q.node ≡ node) × AllTo node qs
 -- ---- runs of link calls
 
 -- one link call among the nodes: its node's link did so, and all others stay
-pub record Step (old new : List Node) (x : Event) : Type 0 where
+pub record LinkCalled (old new : List Node) (x : Event) : Type 0 where
   pub before : Seen
   pub after : Seen
   pub found : link_at old x.node ≡ Some before
@@ -68,7 +68,7 @@ pub record Step (old new : List Node) (x : Event) : Type 0 where
 
 abbrev pub Runs : List Node → List Node → List Event → Type 0
 Runs old new [] = new ≡ old
-Runs old new (x ∷ xs) = (mid : List Node) × Step old mid x × Runs mid new xs
+Runs old new (x ∷ xs) = (mid : List Node) × LinkCalled old mid x × Runs mid new xs
 
 -- ---- what a run of link calls adds up to
 

@@ -25,32 +25,32 @@ use Rattle.cluster_client.specs.OneServer.Commands.{is_on_slots, counting, IsAns
 -- ---- runs
 
 -- a call of a run as `play` shows it: the picks that were made for it, what it answered, and its requests
-pub record Turn : Type 0 where
+pub record PlayedCall : Type 0 where
   pub call : Call
   pub picks : List Address
   pub answer : Result Answer Refusal
   pub log : List Request
 
 -- the same with the replies
-pub record TurnMade : Type 0 where
+pub record RepliedCall : Type 0 where
   pub call : Call
   pub picks : List Address
   pub answer : Result Answer Refusal
   pub log : List Exchange
 
 -- each request of the run with its reply: the next one that was taken from its node and not by a request before
-abbrev pub turns_from : (Address → List Tree) → ℕ → List Turn → List TurnMade
-turns_from queues place [] = []
-turns_from queues place (t ∷ ts) =
+abbrev pub with_replies_from : (Address → List Tree) → ℕ → List PlayedCall → List RepliedCall
+with_replies_from queues place [] = []
+with_replies_from queues place (t ∷ ts) =
     record { call = t.call; picks = t.picks; answer = t.answer; log = exchanges queues place t.log }
-    ∷ turns_from (left_after_all queues t.log) (place + length t.log) ts
+    ∷ with_replies_from (left_after_all queues t.log) (place + length t.log) ts
 
 -- over what link calls took from each node
-abbrev pub turns_made : (Address → List Tree) → List Turn → List TurnMade
-turns_made taken turns = turns_from (replies taken) 0 turns
+abbrev pub with_replies : (Address → List Tree) → List PlayedCall → List RepliedCall
+with_replies taken calls = with_replies_from (replies taken) 0 calls
 
 -- each call is legal where the ones before it left the client, and answers what its replies give
-abbrev pub IsPlayedFrom : Option Strategy → Client → (Address → LinkFault) → List TurnMade → Type 0
+abbrev pub IsPlayedFrom : Option Strategy → Client → (Address → LinkFault) → List RepliedCall → Type 0
 IsPlayedFrom strategy client faults [] = ⊤
 IsPlayedFrom strategy client faults (t ∷ ts) =
     ArePicks strategy client t.call t.picks
@@ -66,37 +66,37 @@ task_log (slot_map_of node) xs = []
 task_log _ xs = xs
 
 -- each with its call
-abbrev pub command_log : TurnMade → List (Call × Exchange)
+abbrev pub command_log : RepliedCall → List (Call × Exchange)
 command_log t = map (λ x. (t.call, x)) (task_log (task_of t.call) t.log)
 
-abbrev pub command_logs : List TurnMade → List (Call × Exchange)
+abbrev pub command_logs : List RepliedCall → List (Call × Exchange)
 command_logs ts = concat (map command_log ts)
 
-abbrev pub all_counting : (ℕ → Bool) → List TurnMade → List (List (List ℕ))
-all_counting done ts = concat (map (λ (t : TurnMade). counting done t.call t.answer t.log) ts)
+abbrev pub all_counting : (ℕ → Bool) → List RepliedCall → List (List (List ℕ))
+all_counting done ts = concat (map (λ (t : RepliedCall). counting done t.call t.answer t.log) ts)
 
 -- the answers and the keyspace are those of one server that is given the commands that count, one after another
-pub record AsOneServer (meaning : Meaning) (keys : Keyspace) (done : ℕ → Bool) (ts : List TurnMade) (keys' : Keyspace) : Type 0 where
+pub record AsOneServer (meaning : Meaning) (keys : Keyspace) (done : ℕ → Bool) (ts : List RepliedCall) (keys' : Keyspace) : Type 0 where
   pub trees : List (List Tree)
   -- each call has as many trees as commands that count
-  pub counts : Pairwise (λ (t : TurnMade) here. length here ≡ length (counting done t.call t.answer t.log)) ts trees
+  pub counts : Pairwise (λ (t : RepliedCall) here. length here ≡ length (counting done t.call t.answer t.log)) ts trees
   pub served : OneServer meaning keys (all_counting done ts) (concat trees) keys'
-  pub answers : Pairwise (λ (t : TurnMade) here. IsAnswerBy t.call t.answer here) ts trees
+  pub answers : Pairwise (λ (t : RepliedCall) here. IsAnswerBy t.call t.answer here) ts trees
 
-abbrev pub AreOnSlots : List TurnMade → Type 0
-AreOnSlots ts = AllByRecursion (λ (t : TurnMade). is_on_slots t.call ≡ true) ts
+abbrev pub AreOnSlots : List RepliedCall → Type 0
+AreOnSlots ts = AllByRecursion (λ (t : RepliedCall). is_on_slots t.call ≡ true) ts
 
 -- over honest servers a run is as good as one server
 abbrev pub AnswersAndKeyspace : Type 0
 AnswersAndKeyspace =
-    (strategy : Option Strategy) (client : Client) (faults : Address → LinkFault) (ts : List TurnMade) (meaning : Meaning) (keys keys' : Keyspace) (done : ℕ → Bool)
+    (strategy : Option Strategy) (client : Client) (faults : Address → LinkFault) (ts : List RepliedCall) (meaning : Meaning) (keys keys' : Keyspace) (done : ℕ → Bool)
     → AreOnSlots ts → IsPlayedFrom strategy client faults ts → HonestRun meaning keys done (command_logs ts) keys' → AsOneServer meaning keys done ts keys'
 
 -- each call is refused exactly where and as its kind says
-abbrev pub RefusedByKind : Client → (Address → LinkFault) → List TurnMade → Type 0
+abbrev pub RefusedByKind : Client → (Address → LinkFault) → List RepliedCall → Type 0
 RefusedByKind client faults [] = ⊤
 RefusedByKind client faults (t ∷ ts) =
     (refusal_in t.answer ≡ kind client t.picks faults t.call t.log) × RefusedByKind (client_after client t.call t.log) faults ts
 
 abbrev pub Refusals : Type 0
-Refusals = (strategy : Option Strategy) (client : Client) (faults : Address → LinkFault) (ts : List TurnMade) → IsPlayedFrom strategy client faults ts → RefusedByKind client faults ts
+Refusals = (strategy : Option Strategy) (client : Client) (faults : Address → LinkFault) (ts : List RepliedCall) → IsPlayedFrom strategy client faults ts → RefusedByKind client faults ts

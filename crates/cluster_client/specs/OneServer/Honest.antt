@@ -4,7 +4,7 @@ use Rattle.resp_core.specs.Trees.{Tree}
 use Rattle.cluster_routing.specs.Lists.{concat, Pairwise}
 use Rattle.cluster_client.specs.Links.Log.{Exchange, is_answered, is_unanswered}
 use Rattle.cluster_client.specs.Calls.Call.{Call}
-use Rattle.cluster_client.specs.OneServer.Keyspace.{Keyspace, Step, Chain}
+use Rattle.cluster_client.specs.OneServer.Keyspace.{Keyspace, Step, History}
 use Rattle.cluster_client.specs.OneServer.Meaning.{Meaning, DoCommand, AreAllowed}
 
 -- the requests that count for the keyspace: the answered ones, and of the unanswered ones those that were done
@@ -25,7 +25,7 @@ Accounts meaning done x steps = MatchBool (is_counted done x) (IsDoneBy meaning 
 -- over the requests of one call
 abbrev pub Honest : Meaning → Keyspace → (ℕ → Bool) → List Exchange → Keyspace → Type 0
 Honest meaning keys done xs keys' =
-    (steps : List (List Step)) × Pairwise (Accounts meaning done) xs steps × Chain keys (concat steps) keys'
+    (steps : List (List Step)) × Pairwise (Accounts meaning done) xs steps × History keys (concat steps) keys'
 
 -- over the requests of a run, each with its call
 abbrev pub AccountsFor : Meaning → (ℕ → Bool) → Call × Exchange → List Step → Type 0
@@ -33,4 +33,4 @@ AccountsFor meaning done x steps = Accounts meaning done x.1 steps
 
 abbrev pub HonestRun : Meaning → Keyspace → (ℕ → Bool) → List (Call × Exchange) → Keyspace → Type 0
 HonestRun meaning keys done xs keys' =
-    (steps : List (List Step)) × Pairwise (AccountsFor meaning done) xs steps × Chain keys (concat steps) keys'
+    (steps : List (List Step)) × Pairwise (AccountsFor meaning done) xs steps × History keys (concat steps) keys'

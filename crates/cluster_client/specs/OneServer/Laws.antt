@@ -20,11 +20,11 @@ use Rattle.cluster_client.specs.Calls.Legal.{IsLegalCall}
 use Rattle.cluster_client.specs.Links.Faults.{LinkFault}
 use Rattle.cluster_client.specs.Calls.Refusals.{sent_refusal}
 use Rattle.cluster_client.specs.Calls.Answer.{Answer}
-use Rattle.cluster_client.specs.OneServer.Keyspace.{Keyspace, Step, Chain, Leads, on_slot}
+use Rattle.cluster_client.specs.OneServer.Keyspace.{Keyspace, Step, History, Leads, on_slot}
 use Rattle.cluster_client.specs.OneServer.Meaning.{Meaning, OneServer}
 use Rattle.cluster_client.specs.OneServer.Honest.{HonestRun}
 use Rattle.cluster_client.specs.OneServer.Commands.{has_small_cursor}
-use Rattle.cluster_client.specs.OneServer.Headline.{TurnMade, IsPlayedFrom, command_logs, AreOnSlots}
+use Rattle.cluster_client.specs.OneServer.Headline.{RepliedCall, IsPlayedFrom, command_logs, AreOnSlots}
 
 -- ---- how many requests a call makes
 
@@ -80,21 +80,21 @@ abbrev pub GapsNameNoKey : Type 0
 GapsNameNoKey = (command : Command) (read_only : List (List ℕ)) (route : Route) → has_small_cursor command ≡ true
     → destination command.args read_only ≡ Some (to_route route) → destination (map (λ bytes. Simple bytes) (sent command)) read_only ≡ Some (to_route route)
 
--- ---- chains of steps
+-- ---- histories of steps
 
--- a list is a chain exactly if each slot's steps, in order, lead from its first cell to its last
-abbrev pub ChainsAreBySlot : Type 0
-ChainsAreBySlot = (keys keys' : Keyspace) (steps : List Step) → Chain keys steps keys' ↔ ((slot : ℕ) → Leads (keys slot) (on_slot slot steps) (keys' slot))
+-- a list is a history exactly if each slot's steps, in order, lead from its first cell to its last
+abbrev pub HistoriesAreBySlot : Type 0
+HistoriesAreBySlot = (keys keys' : Keyspace) (steps : List Step) → History keys steps keys' ↔ ((slot : ℕ) → Leads (keys slot) (on_slot slot steps) (keys' slot))
 
--- sent part by part, each part one slot, in any order of the parts, steps are a chain exactly as in argument order
-abbrev pub PartsKeepChains : Type 0
-PartsKeepChains = (parts : List ℕ) (keys keys' : Keyspace) (steps : List Step) → IsDistinct nat_eq parts → AllByRecursion (λ (x : Step). among nat_eq x.slot parts ≡ true) steps
-    → Chain keys (group_by_group nat_eq (λ (x : Step). x.slot) parts steps) keys' ↔ Chain keys steps keys'
+-- sent part by part, each part one slot, in any order of the parts, steps are a history exactly as in argument order
+abbrev pub PartsKeepHistories : Type 0
+PartsKeepHistories = (parts : List ℕ) (keys keys' : Keyspace) (steps : List Step) → IsDistinct nat_eq parts → AllByRecursion (λ (x : Step). among nat_eq x.slot parts ≡ true) steps
+    → History keys (group_by_group nat_eq (λ (x : Step). x.slot) parts steps) keys' ↔ History keys steps keys'
 
--- sent node by node, each slot at one node, steps are a chain exactly as in pipeline order
-abbrev pub NodesKeepChains : Type 0
-NodesKeepChains = (node_of : ℕ → Address) (nodes : List Address) (keys keys' : Keyspace) (steps : List Step) → IsDistinct same_address nodes → AllByRecursion (λ (x : Step). among same_address (node_of x.slot) nodes ≡ true) steps
-    → Chain keys (group_by_group same_address (λ (x : Step). node_of x.slot) nodes steps) keys' ↔ Chain keys steps keys'
+-- sent node by node, each slot at one node, steps are a history exactly as in pipeline order
+abbrev pub NodesKeepHistories : Type 0
+NodesKeepHistories = (node_of : ℕ → Address) (nodes : List Address) (keys keys' : Keyspace) (steps : List Step) → IsDistinct same_address nodes → AllByRecursion (λ (x : Step). among same_address (node_of x.slot) nodes ≡ true) steps
+    → History keys (group_by_group same_address (λ (x : Step). node_of x.slot) nodes steps) keys' ↔ History keys steps keys'
 
 -- ---- one outcome
 
@@ -107,14 +107,14 @@ abbrev pub OneServerIsDetermined : Type 0
 OneServerIsDetermined = (meaning : Meaning) (keys left right : Keyspace) (commands : List (List (List ℕ))) (ts us : List Tree) → IsDeterministic meaning
     → OneServer meaning keys commands ts left → OneServer meaning keys commands us right → (ts ≡ us) × ((slot : ℕ) → left slot ≡ right slot)
 
-abbrev pub IsAnswered : TurnMade → Type 0
+abbrev pub IsAnswered : RepliedCall → Type 0
 IsAnswered t = (answer : Answer) × (t.answer ≡ Ok answer)
 
 -- two runs of the same calls, all answered, get the same answers and leave the same keyspace, whatever maps, orders of nodes and picks
 abbrev pub RunsAgree : Type 0
-RunsAgree = (strategy strategy' : Option Strategy) (client client' : Client) (faults faults' : Address → LinkFault) (ts us : List TurnMade)
+RunsAgree = (strategy strategy' : Option Strategy) (client client' : Client) (faults faults' : Address → LinkFault) (ts us : List RepliedCall)
     (meaning : Meaning) (keys left right : Keyspace) (done done' : ℕ → Bool) → IsDeterministic meaning
-    → map (λ (t : TurnMade). t.call) ts ≡ map (λ (t : TurnMade). t.call) us → AreOnSlots ts → AllByRecursion IsAnswered ts → AllByRecursion IsAnswered us
+    → map (λ (t : RepliedCall). t.call) ts ≡ map (λ (t : RepliedCall). t.call) us → AreOnSlots ts → AllByRecursion IsAnswered ts → AllByRecursion IsAnswered us
     → IsPlayedFrom strategy client faults ts → IsPlayedFrom strategy' client' faults' us
     → HonestRun meaning keys done (command_logs ts) left → HonestRun meaning keys done' (command_logs us) right
-    → (map (λ (t : TurnMade). t.answer) ts ≡ map (λ (t : TurnMade). t.answer) us) × ((slot : ℕ) → left slot ≡ right slot)
+    → (map (λ (t : RepliedCall). t.answer) ts ≡ map (λ (t : RepliedCall). t.answer) us) × ((slot : ℕ) → left slot ≡ right slot)

@@ -12,7 +12,7 @@ use Rattle.cluster_routing.specs.declared.policy.AggregateOp.TheVariants.{Sum}
 use Rattle.cluster_routing.specs.Lists.{concat, Pairwise}
 use Rattle.cluster_routing.specs.Split.{split_of}
 use Rattle.cluster_routing.specs.Combine.{array_of}
-use Rattle.cluster_client.specs.OneServer.Keyspace.{Keyspace, Step, Whole, PartOf, Chain}
+use Rattle.cluster_client.specs.OneServer.Keyspace.{Keyspace, Step, Whole, PartOf, History}
 
 -- a meaning: the steps that a server may make
 abbrev pub Meaning : Type 0
@@ -80,4 +80,4 @@ DoAll meaning _ _ _ = ⊥
 -- one server that is given the commands one after another may answer these trees and go from one keyspace to the other
 abbrev pub OneServer : Meaning → Keyspace → List (List (List ℕ)) → List Tree → Keyspace → Type 0
 OneServer meaning keys commands trees keys' =
-    (steps : List (List Step)) × DoAll meaning commands steps trees × Chain keys (concat steps) keys'
+    (steps : List (List Step)) × DoAll meaning commands steps trees × History keys (concat steps) keys'

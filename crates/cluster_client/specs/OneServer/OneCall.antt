@@ -18,17 +18,17 @@ use Rattle.cluster_client.specs.OneServer.Keyspace.{Keyspace}
 use Rattle.cluster_client.specs.OneServer.Meaning.{Meaning}
 use Rattle.cluster_client.specs.OneServer.Commands.{is_on_slots}
 use Rattle.cluster_client.specs.OneServer.Honest.{HonestRun}
-use Rattle.cluster_client.specs.OneServer.Headline.{Turn, turns_made, command_logs, AsOneServer}
+use Rattle.cluster_client.specs.OneServer.Headline.{PlayedCall, with_replies, command_logs, AsOneServer}
 
 -- a run of this one call
-abbrev pub one_turn : World → Call → Result Answer Refusal → List Turn
-one_turn new call answer = record { call = call; picks = new.picked; answer = answer; log = new.log } ∷ []
+abbrev pub run_of_one : World → Call → Result Answer Refusal → List PlayedCall
+run_of_one new call answer = record { call = call; picks = new.picked; answer = answer; log = new.log } ∷ []
 
 -- a call that was made, and was not refused for want of memory, is as good as its commands on one server
 abbrev pub OneCallAsOnOneServer : Type 0
 OneCallAsOnOneServer = (strategy : Option Strategy) (old new : World) (call : Call) (answer : Result Answer Refusal) (made : CallMade strategy old new call answer) → answer ≢ Err (by_cause Memory) → is_on_slots call ≡ true
-    → (meaning : Meaning) (keys keys' : Keyspace) (done : ℕ → Bool) → HonestRun meaning keys done (command_logs (turns_made (taken_of made.happened.events) (one_turn new call answer))) keys'
-    → AsOneServer meaning keys done (turns_made (taken_of made.happened.events) (one_turn new call answer)) keys'
+    → (meaning : Meaning) (keys keys' : Keyspace) (done : ℕ → Bool) → HonestRun meaning keys done (command_logs (with_replies (taken_of made.happened.events) (run_of_one new call answer))) keys'
+    → AsOneServer meaning keys done (with_replies (taken_of made.happened.events) (run_of_one new call answer)) keys'
 
 -- the log of a call is determined by its client, its picks and the replies
 abbrev pub RepliesDetermineLogs : Type 0

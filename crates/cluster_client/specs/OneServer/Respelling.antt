@@ -9,7 +9,7 @@ use Rattle.cluster_client.specs.Links.Log.{replies}
 use Rattle.cluster_client.specs.Calls.Call.{StreamCall, Xread, Xrange, Xclaim, Call, OnStreams}
 use Rattle.cluster_client.specs.Calls.Plan.{Client}
 use Rattle.cluster_client.specs.Links.Faults.{LinkFault}
-use Rattle.cluster_client.specs.OneServer.Headline.{Turn, turns_made, IsPlayedFrom}
+use Rattle.cluster_client.specs.OneServer.Headline.{PlayedCall, with_replies, IsPlayedFrom}
 
 -- whether the reply to a call may be respelled, and how
 abbrev pub stream_respelling : StreamCall → Option Respellable
@@ -27,11 +27,11 @@ abbrev pub request_respellings : Option Respellable → Request → List (Option
 request_respellings how q = if q.asking then None ∷ how ∷ [] else how ∷ []
 
 -- for each reply of a node to a run
-abbrev pub turn_respellings : Address → Turn → List (Option Respellable)
-turn_respellings node t = flat_map (request_respellings (respelling t.call)) (requests_to node t.log)
+abbrev pub call_respellings : Address → PlayedCall → List (Option Respellable)
+call_respellings node t = flat_map (request_respellings (respelling t.call)) (requests_to node t.log)
 
-abbrev pub respellings : Address → List Turn → List (Option Respellable)
-respellings node ts = flat_map (turn_respellings node) ts
+abbrev pub respellings : Address → List PlayedCall → List (Option Respellable)
+respellings node ts = flat_map (call_respellings node) ts
 
 abbrev pub SaysTheSame : Option Respellable → Tree → Tree → Type 0
 SaysTheSame None t u = t ≡ u
@@ -46,8 +46,8 @@ SayTheSame _ _ _ = ⊥
 -- Runs of equal calls and picks on equal clients, each request with its reply, and node by node the replies say the same: they send the
 -- same and answer the same.
 abbrev pub RespelledRuns : Type 0
-RespelledRuns = (strategy strategy' : Option Strategy) (client : Client) (faults faults' : Address → LinkFault) (taken taken' : Address → List Tree) (ts us : List Turn)
-    → map (λ (t : Turn). t.call) ts ≡ map (λ (t : Turn). t.call) us → map (λ (t : Turn). t.picks) ts ≡ map (λ (t : Turn). t.picks) us
-    → IsPlayedFrom strategy client faults (turns_made taken ts) → IsPlayedFrom strategy' client faults' (turns_made taken' us)
+RespelledRuns = (strategy strategy' : Option Strategy) (client : Client) (faults faults' : Address → LinkFault) (taken taken' : Address → List Tree) (ts us : List PlayedCall)
+    → map (λ (t : PlayedCall). t.call) ts ≡ map (λ (t : PlayedCall). t.call) us → map (λ (t : PlayedCall). t.picks) ts ≡ map (λ (t : PlayedCall). t.picks) us
+    → IsPlayedFrom strategy client faults (with_replies taken ts) → IsPlayedFrom strategy' client faults' (with_replies taken' us)
     → ((node : Address) → SayTheSame (respellings node ts) (replies taken node) (replies taken' node))
-    → (map (λ (t : Turn). t.log) ts ≡ map (λ (t : Turn). t.log) us) × (map (λ (t : Turn). t.answer) ts ≡ map (λ (t : Turn). t.answer) us)
+    → (map (λ (t : PlayedCall). t.log) ts ≡ map (λ (t : PlayedCall). t.log) us) × (map (λ (t : PlayedCall). t.answer) ts ≡ map (λ (t : PlayedCall). t.answer) us)
