@@ -98,6 +98,7 @@ pub(crate) fn open_row(alloc: Global, marker: Marker, count: u64) -> Opened
     }
 }
 
+#[inline(always)]
 fn put_into_array(
     alloc: Global,
     items: &mut Vec<Value>,
@@ -209,7 +210,19 @@ fn name(alloc: Global, value: Value, to_come: u64) -> Result<Opened, Stop>
 
 impl Frame {
     /// Puts in the value that was being read, and answers what is whole by that, if it was the last.
+    #[inline(always)]
     pub(crate) fn put(&mut self, alloc: Global, value: Value) -> Result<Option<Value>, Stop>
+        ensures { (k : ℕ) → (bs : List ℕ) → Puts k bs result self.new (rest_of k self.old (view value, bs)) }
+    {
+        match self {
+            Frame::Array(items, to_come) => put_into_array(alloc, items, to_come, value),
+            _ => self.put_into_any(alloc, value),
+        }
+    }
+
+    // The same of every row. It is apart so that the compiled way of arrays is free of the other rows.
+    #[inline(never)]
+    fn put_into_any(&mut self, alloc: Global, value: Value) -> Result<Option<Value>, Stop>
         ensures { (k : ℕ) → (bs : List ℕ) → Puts k bs result self.new (rest_of k self.old (view value, bs)) }
     {
         match self {

@@ -24,6 +24,7 @@ pub(crate) enum Progress {
 }
 
 /// Puts a whole value into the innermost row, and what is whole by that into the next one, and so on.
+#[inline(always)]
 pub(crate) fn settle(alloc: Global, frames: &mut Vec<Frame>, value: Value) -> Result<Progress, Stop>
     ensures settles { (levels : ℕ) → Settles levels result (λ bs. Ok (view value, bs)) frames.old.items frames.new.items }
     ensures leaves_line { LeavesLine result }
