@@ -27,3 +27,8 @@ pub mod Placed
 pub mod Drawn
 pub mod SlotPlaces
 pub mod CutInto
+pub mod NodeReplies
+pub mod Flags
+pub mod Counting
+pub mod Joined
+pub mod CountsInTurn

@@ -1,56 +1,80 @@
--- Range maps as ordered maps.
-use Rattle.std.proofs.Common.{◌≡◌, ℕ, Bool, true, false, not, nat_lt, ◌==◌, if◌then◌else◌, cond, List, [], ◌∷◌, filter, refl, sym, ap, ◌∙◌, Option, Some, None, option_map, arith, map, ◌<◌}
+-- Places in lists of ranges.
+use Rattle.std.proofs.Common.{◌≡◌, ℕ, zero, suc, ◌<◌, ◌≤◌, ◌-◌, Bool, true, false, nat_lt, ◌==◌, if◌then◌else◌, List, [], ◌∷◌, length, set, Some, None, slice_get, refl, sym, ap, arith}
+use mathlib.Core.Bool.{false≢true}
+use Rattle.std.specs.List.{insert}
+use Rattle.std.specs.List.Sorted.{IsNonDecreasingBy, IsPartitionPoint}
 use Rattle.std.proofs.lemmas.Bool.Decides.{nat_tests}
-use Rattle.std.proofs.lemmas.Bool.{eqb-true}
-use Rattle.std.specs.Option.{MatchOption}
-use Rattle.std.specs.Ordering.{nat_cmp, is_le, match_ordering}
-use Rattle.std.specs.declared.cmp.Ordering.TheVariants.{Less, Equal, Greater}
-use Rattle.std.specs.BTreeMap.{insert_entry}
-use denote.Ref.{Bor}
-use Rattle.std.specs.List.Sorted.{IsStrictlySortedBy}
-use Rattle.cluster_routing.specs.Ranges.{Entry, put, first_from, IsAscending}
+use Rattle.std.proofs.lemmas.Grind.{common_steps}
+use Rattle.std.proofs.lemmas.Option.{gets}
+use Rattle.cluster_routing.specs.RangePlaces.{ends_at, place_from}
+use Rattle.cluster_routing.specs.Ranges.{Entry, put, first_from, IsAscending, IsBelowEnds}
 
-pub put_is : {V : Type 0} (es : List (Entry V)) (e : Entry V) → insert_entry nat_cmp es e.0 e.1 ≡ put es e
-put_is [] e = refl
-put_is {V} (q ∷ qs) e = ap (λ l. match_ordering (nat_cmp e.0 q.0) (e ∷ (q ∷ qs)) ((q.0, e.1) ∷ qs) (q ∷ l)) (put_is qs e) ∙ by (nat_lt e.0 q.0) (e.0 == q.0) (λ t. sym (eqb-true _ _ t))
+-- the ends rise from place to place
+pub ends_rise : {V : Type 0} (es : List (Entry V)) → IsAscending es → IsNonDecreasingBy (λ e. e.0) es
+ends_rise [] h i j d le within = absurd (omega (arith, within))
+ends_rise (q ∷ qs) h zero zero d le within = omega arith
+ends_rise (q ∷ []) h zero (suc j) d le within = absurd (omega (arith, within))
+ends_rise (q ∷ r ∷ qs) h zero (suc j) d le within = omega (arith, h.0, ends_rise (r ∷ qs) h.1 zero j d (omega arith) (omega (arith, within)))
+ends_rise (q ∷ qs) h (suc i) zero d le within = absurd (omega (arith, le))
+ends_rise (q ∷ qs) h (suc i) (suc j) d le within = ends_rise qs h.1 i j d (omega (arith, le)) (omega (arith, within))
+
+-- where the ends before a place are below the slot, and no other is, that is the place
+pub place_is : {V : Type 0} (slot : ℕ) (es : List (Entry V)) (k : ℕ) → k ≤ length es → IsPartitionPoint (λ e. nat_lt e.0 slot ≡ true) (λ e. nat_lt e.0 slot ≡ false) es k → k ≡ place_from slot es
+place_is slot [] k within h = omega (arith, within)
+place_is slot (q ∷ qs) zero within h = rw (h.1 zero q (omega arith) (omega arith)) refl
+place_is slot (q ∷ qs) (suc k) within h = rw (h.0 zero q (omega arith) (omega arith)) (ap suc (place_is slot qs k (omega (arith, within)) (λ i d a b. h.0 (suc i) d (omega arith) (omega (arith, b)), λ i d a b. h.1 (suc i) d (omega (arith, a)) (omega (arith, b)))))
+
+-- the place behind the last, where the last end is below the slot
+pub behind_last : {V : Type 0} (slot : ℕ) (es : List (Entry V)) (x : Entry V) → IsAscending es → Some x ≡ slice_get es (length es - 1) → x.0 < slot → length es ≡ place_from slot es
+behind_last slot es x h e l = place_is slot es (length es) (omega arith) (λ i d a b. grind (arith, nat_tests, common_steps, gets, ends_rise es h i (length es - 1) d), λ i d a b. absurd (omega (arith, a, b)))
+
+pub none_last : {V : Type 0} (slot : ℕ) (es : List (Entry V)) → None ≡ slice_get es (length es - 1) → 0 ≡ place_from slot es
+none_last slot [] e = refl
+none_last slot (q ∷ qs) e = grind (arith, common_steps, gets)
+
+-- what stands at the place
+pub reached : {V : Type 0} (slot : ℕ) (es : List (Entry V)) → slice_get es (place_from slot es) ≡ first_from slot es
+reached slot [] = refl
+reached slot (q ∷ qs) = by (nat_lt q.0 slot) (reached slot qs)
   where
-    by : (a b : Bool) → (b ≡ true → q.0 ≡ e.0) → match_ordering (cond a Less (cond b Equal Greater)) (e ∷ (q ∷ qs)) ((q.0, e.1) ∷ qs) (q ∷ put qs e) ≡ (if a then e ∷ (q ∷ qs) else (if b then e ∷ qs else q ∷ put qs e))
-    by true b h = refl
-    by false true h = ap (λ n. (n, e.1) ∷ qs) (h refl)
-    by false false h = refl
+    by : (b : Bool) → slice_get qs (place_from slot qs) ≡ first_from slot qs → slice_get (q ∷ qs) (if b then suc (place_from slot qs) else 0) ≡ (if b then first_from slot qs else Some q)
+    by true h = h
+    by false h = refl
 
-pub reaches : (slot end : ℕ) → is_le (nat_cmp slot end) ≡ not (nat_lt end slot)
-reaches slot end = grind (arith, nat_tests)
+pub within : {V : Type 0} (slot : ℕ) (es : List (Entry V)) → place_from slot es ≤ length es
+within slot [] = omega arith
+within slot (q ∷ qs) = grind (arith, nat_tests, within slot qs)
 
-pub entry_is : {V : Type 0} (slot : ℕ) (p : Entry V → Bool) → ((e : Entry V) → p e ≡ not (nat_lt e.0 slot)) → (es : List (Entry V)) (r : Option (Bor ℕ × Bor (ℕ × V))) (left : List (Entry V))
-    → MatchOption r ((filter p es ≡ []) × (left ≡ [])) (λ x. filter p es ≡ (x.0.now, x.1.now) ∷ left) → option_map (λ e. (e.0.now, e.1.now)) r ≡ first_from slot es
-entry_is slot p h [] None left m = refl
-entry_is slot p h [] (Some x) left m = cc
-entry_is {V} slot p h (q ∷ qs) r left m = by (nat_lt q.0 slot) (h q) m (λ k. entry_is slot p h qs r left k)
+-- an entry with an equal end is replaced
+pub put_over : {V : Type 0} (es : List (Entry V)) (e : Entry V) (k : ℕ) → k ≡ place_from e.0 es → true ≡ ends_at e.0 (slice_get es k) → set es k e ≡ put es e
+put_over [] e k p h = absurd (false≢true (sym h))
+put_over (q ∷ qs) e zero p h = grind (arith, nat_tests)
+put_over (q ∷ qs) e (suc k) p h = grind (arith, nat_tests, put_over qs e k)
+
+-- another is put between those with lower ends and those with higher ones
+pub put_between : {V : Type 0} (es : List (Entry V)) (e : Entry V) (k : ℕ) → k ≡ place_from e.0 es → false ≡ ends_at e.0 (slice_get es k) → insert es k e ≡ put es e
+put_between [] e k p h = rw p refl
+put_between (q ∷ qs) e zero p h = grind (arith, nat_tests)
+put_between (q ∷ qs) e (suc k) p h = grind (arith, nat_tests, put_between qs e k)
+
+below-put : {V : Type 0} (n : ℕ) (es : List (Entry V)) (e : Entry V) → n < e.0 → IsBelowEnds n es → IsBelowEnds n (put es e)
+below-put n [] e l h = l
+below-put n (q ∷ qs) e l h = by (nat_lt e.0 q.0) (e.0 == q.0)
   where
-    by : (b : Bool) → p q ≡ not b → MatchOption r (((if p q then q ∷ filter p qs else filter p qs) ≡ []) × (left ≡ [])) (λ x. (if p q then q ∷ filter p qs else filter p qs) ≡ (x.0.now, x.1.now) ∷ left)
-        → (MatchOption r ((filter p qs ≡ []) × (left ≡ [])) (λ x. filter p qs ≡ (x.0.now, x.1.now) ∷ left) → option_map (λ e. (e.0.now, e.1.now)) r ≡ first_from slot qs)
-        → option_map (λ e. (e.0.now, e.1.now)) r ≡ (if b then first_from slot qs else Some q)
-    by true k m next = next (let n = rw k at m in n)
-    by false k m next = here r (let n = rw k at m in n)
-      where
-        here : (o : Option (Bor ℕ × Bor (ℕ × V))) → MatchOption o ((q ∷ filter p qs ≡ []) × (left ≡ [])) (λ x. q ∷ filter p qs ≡ (x.0.now, x.1.now) ∷ left) → option_map (λ e. (e.0.now, e.1.now)) o ≡ Some q
-        here None m = cc
-        here (Some x) m = let e : q ≡ (x.0.now, x.1.now) = cc in ap (λ y. Some y) (sym e)
+    by : (a b : Bool) → IsBelowEnds n (if a then e ∷ (q ∷ qs) else (if b then e ∷ qs else q ∷ put qs e))
+    by true b = l
+    by false true = l
+    by false false = h
 
--- the order of an ordered map's keys
-cmp-less : (x y : ℕ) → nat_cmp x y ≡ Less → x < y
-cmp-less x y h = elim (nat_lt x y) as (λ a. a ≡ nat_lt x y → cond a Less (cond (x == y) Equal Greater) ≡ Less → x < y) [
-  | true ↦ λ k e. grind (arith, nat_tests, k)
-  | false ↦ λ k e. absurd (not_less (x == y) e)
-] refl h
+below-more : {V : Type 0} (m n : ℕ) (es : List (Entry V)) → m ≤ n → IsBelowEnds n es → IsBelowEnds m es
+below-more m n [] l h = tt
+below-more m n (q ∷ qs) l h = omega (arith, l, h)
+
+pub put_ascends : {V : Type 0} (es : List (Entry V)) (e : Entry V) → IsAscending es → IsAscending (put es e)
+put_ascends [] e h = (tt, tt)
+put_ascends (q ∷ qs) e h = by (put_ascends qs e h.1) (nat_lt e.0 q.0) (e.0 == q.0) refl refl
   where
-    not_less : (b : Bool) → cond b Equal Greater ≡ Less → ⊥
-    not_less true e = cc
-    not_less false e = cc
-
-pub ascends : {V : Type 0} (es : List (Entry V)) → IsStrictlySortedBy nat_cmp (map (λ e. e.0) es) → IsAscending es
-unfolding Rattle.std.specs.List.Sorted.IsStrictlySortedBy
-ascends [] h = tt
-ascends (q ∷ []) h = (tt, tt)
-ascends (q ∷ r ∷ qs) h = (cmp-less q.0 r.0 h.0.0, ascends (r ∷ qs) h.1)
+    by : IsAscending (put qs e) → (a b : Bool) → a ≡ nat_lt e.0 q.0 → b ≡ (e.0 == q.0) → IsAscending (if a then e ∷ (q ∷ qs) else (if b then e ∷ qs else q ∷ put qs e))
+    by r true b k l = (grind (arith, nat_tests, k), h)
+    by r false true k l = (below-more e.0 q.0 qs (grind (arith, nat_tests, l)) h.0, h.1)
+    by r false false k l = (below-put q.0 qs e (grind (arith, nat_tests, k, l)) h.0, r)

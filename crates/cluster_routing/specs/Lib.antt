@@ -3,6 +3,7 @@ pub mod HashSlot
 pub mod Register
 pub mod Address
 pub mod Ranges
+pub mod RangePlaces
 pub mod SlotMap
 pub mod AllNodes
 pub mod Topology
@@ -24,4 +25,6 @@ pub mod ExampleRoutes
 pub mod Split
 pub mod Combine
 pub mod Policies
+pub mod Outcomes
+pub mod Counted
 pub mod CombineLaws

@@ -3,7 +3,7 @@
 
 ghost use Rattle.std.specs.Prelude.{◌≡◌, fold, option_map, true, IfOk};
 ghost use Rattle.cluster_routing.specs.Address.{address_cmp, hashed_address, same_address};
-ghost use Rattle.cluster_routing.specs.CombineLaws.{OneSlotIsTheWhole, SplitWordsAreNames, SubsAreAtTheirPlaces};
+ghost use Rattle.cluster_routing.specs.CombineLaws.{CountsInAnyOrder, OneSlotIsTheWhole, SplitWordsAreNames, SubsAreAtTheirPlaces};
 ghost use Rattle.cluster_routing.specs.Info.{same_redirection, shown_info, shown_redirect, texts};
 ghost use Rattle.cluster_routing.specs.Routing.{destination};
 ghost use Rattle.cluster_routing.specs.Laws.{CaseOfTheWord, EachAddressOnce, EachNameHasItsRow, EqualTags, OneRange, OrderAgrees, PartsShareThePlaces, RoundTrip, RoutesAsOnTheWire, TopologyServes};
@@ -142,4 +142,9 @@ pub fn the_part_of_one_slot_is_the_whole()
 /// The name of a split command is its word alone, so that its role is that of its word.
 pub fn split_words_are_names()
     ensures { SplitWordsAreNames }
+{}
+
+/// The counts of the same replies make the same map, whatever order the replies come in.
+pub fn counts_are_added_in_any_order()
+    ensures { CountsInAnyOrder }
 {}

@@ -25,7 +25,10 @@ mod topology;
 
 pub use address::NodeAddress;
 pub use candidates::{AnyNodeCandidates, ReadCandidates, Replicas, ReplicasOnlyCandidates};
-pub use combine::{aggregate, combine_and_sort_array_results, combine_parts, is_permutation};
+pub use combine::{
+    aggregate, combine_and_sort_array_results, combine_array_results, combine_map_results,
+    combine_nodes, combine_parts, is_permutation, logical_aggregate,
+};
 pub use policy::{AggregateOp, LogicalAggregateOp, MultiSlotArgPattern, ResponsePolicy};
 pub use range::{SlotAddrs, SlotAddrsIter, SlotRange};
 pub use range_map::{SlotRangeMap, SlotRangeValues, SlotRanges};

@@ -1,12 +1,13 @@
 //! Values by ranges of slots.
 
-ghost use Rattle.std.specs.Prelude.{◌≡◌, [], map, MatchResult, option_copied, option_map};
+ghost use Rattle.std.specs.Prelude.{◌≡◌, [], map, MatchResult, option_copied, slice_get};
+ghost use Rattle.std.specs.Slice.Iter.{iter_rest};
+ghost use Rattle.cluster_routing.specs.RangePlaces.{ends_at, place_from};
 ghost use Rattle.cluster_routing.specs.Ranges.{first_from, put, value_at, IsAscending};
 
 use std::alloc::{AllocError, Global};
-use std::collections::BTreeMap;
-use std::collections::btree_map::Iter;
 use std::marker::Model;
+use std::slice::Iter;
 
 /// Values by ranges of slots: a list by ascending distinct ends.
 ///
@@ -14,15 +15,18 @@ use std::marker::Model;
 /// an entry answers for no slot, and hides the entries behind it from the slots up to its end.
 #[derive(Drop)]
 pub struct SlotRangeMap<V> {
-    by_end: BTreeMap<u16, (u16, V)>,
+    entries: Vec<(u16, (u16, V))>,
 }
 
 impl<V> Model for SlotRangeMap<V> {
     ghost use Rattle.std.specs.Prelude.{List, ℕ};
+    ghost use Rattle.cluster_routing.specs.Ranges.{IsAscending};
 
     ghost Value = { List (ℕ × (ℕ × V)) };
 
-    ghost view = { λ m. m.by_end.entries };
+    ghost view = { λ m. m.entries.items };
+
+    ghost invariant = { λ m. IsAscending m.entries.items };
 }
 
 impl<V: Drop> SlotRangeMap<V> {
@@ -31,7 +35,7 @@ impl<V: Drop> SlotRangeMap<V> {
         ensures { result ≡ [] }
     {
         SlotRangeMap {
-            by_end: BTreeMap::new(alloc),
+            entries: Vec::new(alloc),
         }
     }
 
@@ -42,15 +46,20 @@ impl<V: Drop> SlotRangeMap<V> {
     pub fn insert(&mut self, start: u16, end: u16, value: V) -> Result<(), AllocError>
         ensures { MatchResult result (λ _. self.new ≡ put self.old (end, (start, value))) (λ _. self.new ≡ self.old) }
     {
-        self.by_end.insert(end, (start, value))?;
-        Ok(())
+        let place = self.place_from(end);
+        if self.ends_at(place, end) {
+            self.entries[place] = (end, (start, value));
+            Ok(())
+        } else {
+            Ok(self.entries.insert(place, (end, (start, value)))?)
+        }
     }
 
     /// Forgets all ranges.
     pub fn clear(&mut self)
         ensures { self.new ≡ [] }
     {
-        self.by_end.clear();
+        self.entries.clear();
     }
 }
 
@@ -70,7 +79,7 @@ impl<V> SlotRangeMap<V> {
         ensures ascending { IsAscending self.now }
     {
         SlotRanges {
-            left: self.by_end.iter(),
+            left: self.entries.iter(),
         }
     }
 
@@ -80,29 +89,51 @@ impl<V> SlotRangeMap<V> {
         ensures ascending { IsAscending self.now }
     {
         SlotRangeValues {
-            left: self.by_end.iter(),
+            left: self.entries.iter(),
         }
     }
 
-    fn entry_from(&self, slot: u16) -> Option<(&u16, &(u16, V))>
-        ensures { option_map (λ e. (e.0.now, e.1.now)) result ≡ first_from slot self.now }
+    fn entry_from(&self, slot: u16) -> Option<&(u16, (u16, V))>
+        ensures { option_copied result ≡ first_from slot self.now }
     {
-        self.by_end.range(slot..).next()
+        self.entries.get(self.place_from(slot))
+    }
+
+    fn ends_at(&self, place: usize, slot: u16) -> bool
+        ensures { result ≡ ends_at slot (slice_get self.now place) }
+    {
+        match self.entries.get(place) {
+            None => false,
+            Some(entry) => entry.0 == slot,
+        }
+    }
+
+    /// The place of the first entry whose end is not below the slot, behind the last where there is
+    /// none. It is found by one look where all ends are below the slot, and else by halving.
+    fn place_from(&self, slot: u16) -> usize
+        ensures { result ≡ place_from slot self.now }
+    {
+        match self.entries.last() {
+            None => 0,
+            Some(last) if last.0 < slot => self.entries.len(),
+            Some(_) => self.entries.partition_point(|entry| entry.0 < slot),
+        }
     }
 }
 
 /// Ranges as `(start, end, value)`, by ascending ends.
 #[derive(Drop)]
 pub struct SlotRanges<'a, V> {
-    left: Iter<'a, u16, (u16, V)>,
+    left: Iter<'a, (u16, (u16, V))>,
 }
 
 impl<'a, V> Model for SlotRanges<'a, V> {
     ghost use Rattle.std.specs.Prelude.{List, ℕ};
+    ghost use Rattle.std.specs.Slice.Iter.{iter_rest};
 
     ghost Value = { List (ℕ × (ℕ × V)) };
 
-    ghost view = { λ e. e.left };
+    ghost view = { λ e. iter_rest e.left };
 }
 
 impl<'a, V> Iterator for SlotRanges<'a, V> {
@@ -123,15 +154,16 @@ impl<'a, V> Iterator for SlotRanges<'a, V> {
 /// The values of ranges, by ascending ends.
 #[derive(Drop)]
 pub struct SlotRangeValues<'a, V> {
-    left: Iter<'a, u16, (u16, V)>,
+    left: Iter<'a, (u16, (u16, V))>,
 }
 
 impl<'a, V> Model for SlotRangeValues<'a, V> {
     ghost use Rattle.std.specs.Prelude.{List, map};
+    ghost use Rattle.std.specs.Slice.Iter.{iter_rest};
 
     ghost Value = { List V };
 
-    ghost view = { λ e. map (λ x. x.1.1) e.left };
+    ghost view = { λ e. map (λ x. x.1.1) (iter_rest e.left) };
 }
 
 impl<'a, V> Iterator for SlotRangeValues<'a, V> {

@@ -76,7 +76,7 @@ fn total(values: &[Value]) -> Option<i128>
     Some(sum)
 }
 
-fn int_in(value: &Value) -> Option<i64>
+pub(super) fn int_in(value: &Value) -> Option<i64>
     ensures { result ≡ int_in (view value.now) }
 {
     match value {

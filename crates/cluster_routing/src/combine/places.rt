@@ -153,7 +153,7 @@ fn push_all(places: &mut Vec<usize>, more: &[usize]) -> Result<(), AllocError>
 }
 
 /// The items of all arrays, one after another.
-fn items_in(alloc: Global, values: Vec<Value>) -> Result<Vec<Value>, AllocError>
+pub(super) fn items_in(alloc: Global, values: Vec<Value>) -> Result<Vec<Value>, AllocError>
     ensures { IfOk result (λ v. map view v.items ≡ flat_map items_or_none (map view values.items)) }
 {
     let mut items = Vec::new(alloc);
