@@ -25,7 +25,7 @@ xtrim_writes = written _ _ _ refl refl refl
 
 pub xread_writes : XreadWrites
 unfolding equal digits
-xread_writes = (written _ _ _ refl refl refl, written _ _ _ refl refl refl)
+xread_writes = (written _ _ _ refl refl refl, written _ _ _ refl refl refl, written _ _ _ refl refl refl)
 
 pub xrange_writes : XrangeWrites
 unfolding equal digits
@@ -49,4 +49,4 @@ xinfo_writes = (written _ _ _ refl refl refl, written _ _ _ refl refl refl, writ
 
 pub xdelex_writes : XdelexWrites
 unfolding equal digits
-xdelex_writes = written _ _ _ refl refl refl
+xdelex_writes = (written _ _ _ refl refl refl, written _ _ _ refl refl refl)

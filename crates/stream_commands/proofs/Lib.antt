@@ -6,3 +6,4 @@ pub mod Lookups
 pub mod FieldCopies
 pub mod Respellings
 pub mod RespelledErrors
+mod WholeCommands

@@ -46,6 +46,9 @@ mine = record { group = codes "mygroup" ∷ []; consumer = codes "Alice" ∷ [] 
 abbrev pub read_for_a_group : ReadSettings
 read_for_a_group = record { group = Some mine; block = Some 100; count = Some 2; noack = true; claim = Some 7 }
 
+abbrev pub read_plainly : ReadSettings
+read_plainly = record { group = None; block = None; count = None; noack = false; claim = None }
+
 abbrev pub claim_all_set : ClaimSettings
 claim_all_set = record { idle = Some 1; time = Some 2; retry = Some 3; force = true; justid = true; lastid = Some (codes "9-0") }
 
@@ -68,7 +71,8 @@ XaddWrites =
 abbrev pub XtrimWrites : Type 0
 XtrimWrites = Writes (xtrim (codes "mystream") about_ten) (codes "XTRIM mystream MAXLEN ~ 10 LIMIT 5 ACKED") (codes "XTRIM mystream ACKED MAXLEN ~ 10 LIMIT 5")
 
--- all keys stand before all ids, behind STREAMS; a group gives the command its other name, and NOACK and CLAIM are for a group alone
+-- all keys stand before all ids, behind STREAMS; a group gives the command its other name, and NOACK and CLAIM are for a group alone;
+-- a key may itself be that word
 abbrev pub XreadWrites : Type 0
 XreadWrites =
     Writes (xread read_alone (codes "writers" ∷ codes "mystream" ∷ []) two_ids)
@@ -77,6 +81,7 @@ XreadWrites =
     × Writes (xread read_for_a_group (codes "mystream" ∷ []) (codes ">" ∷ []))
     (codes "XREADGROUP GROUP mygroup Alice BLOCK 100 COUNT 2 NOACK CLAIM 7 STREAMS mystream >")
     (codes "XREADGROUP STREAMS mystream > GROUP mygroup Alice BLOCK 100 COUNT 2 NOACK CLAIM 7")
+    × Writes (xread read_plainly (codes "STREAMS" ∷ []) (codes "0" ∷ [])) (codes "XREAD STREAMS STREAMS 0") (codes "XREAD STREAMS 0 STREAMS")
 
 abbrev pub XrangeWrites : Type 0
 XrangeWrites = Writes (xrange (codes "mystream") (codes "1-0") (codes "2-0")) (codes "XRANGE mystream 1-0 2-0") (codes "XRANGE mystream 2-0 1-0")
@@ -105,4 +110,6 @@ XinfoWrites =
 
 -- the policy stands before IDS, and the number of the ids before them
 abbrev pub XdelexWrites : Type 0
-XdelexWrites = Writes (xdelex (codes "mystream") DelRef two_ids) (codes "XDELEX mystream DELREF IDS 2 1-0 2-0") (codes "XDELEX mystream IDS 2 1-0 2-0 DELREF")
+XdelexWrites =
+    Writes (xdelex (codes "mystream") DelRef two_ids) (codes "XDELEX mystream DELREF IDS 2 1-0 2-0") (codes "XDELEX mystream IDS 2 1-0 2-0 DELREF")
+    × Writes (xdelex (codes "a") KeepRef two_ids) (codes "XDELEX a KEEPREF IDS 2 1-0 2-0") (codes "XDELEX a IDS 2 1-0 2-0 KEEPREF")
