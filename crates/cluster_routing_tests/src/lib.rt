@@ -6,6 +6,8 @@ mod combine;
 #[cfg(test)]
 mod copies;
 #[cfg(test)]
+mod many_nodes;
+#[cfg(test)]
 mod maps;
 #[cfg(test)]
 mod memory;
@@ -16,6 +18,6 @@ mod nodes;
 #[cfg(test)]
 mod routes;
 #[cfg(test)]
-mod split;
+mod texts;
 #[cfg(test)]
 mod topology;

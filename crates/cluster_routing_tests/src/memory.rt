@@ -3,16 +3,17 @@
 //! A test prints a line `refused CALL` where a call is refused, sees what then stands, and goes on;
 //! no further call may be refused.
 
-use crate::nodes::is_node;
-use crate::routes::{cmd, to_slot};
-use crate::topology::is_shard;
+use crate::routes::{TO_A, cmd};
+use crate::texts::text;
+use crate::topology::topology_text;
 use cluster_routing::{
-    ClusterTopology, MultiSlotArgPattern, MultipleNodeRoutingInfo, NodeAddress, ResponsePolicy,
-    Route, RoutingInfo, SlotAddr, SlotMap, SlotRange, SlotRangeMap, parse_slots,
+    ClusterTopology, NodeAddress, Route, RoutingInfo, SlotAddr, SlotMap, SlotRange, SlotRangeMap,
+    parse_slots,
 };
 use resp_args::Cmd;
-use resp_core::{Parser, Value};
+use resp_core::{Value, parse_redis_value};
 use std::alloc::{AllocError, Global};
+use std::fmt::Debug;
 use std::io::Print;
 use std::process::Abort;
 use std::test::Fail;
@@ -20,37 +21,33 @@ use std::test::Fail;
 const SLOTS: &[u8] =
     b"*3\r\n*3\r\n:0\r\n:99\r\n*2\r\n$0\r\n\r\n:7001\r\n*4\r\n:100\r\n:300\r\n*2\r\n$2\r\nn2\r\n:7002\r\n*2\r\n$2\r\nn3\r\n:7003\r\n*3\r\n:400\r\n:16383\r\n*2\r\n_\r\n:7004\r\n";
 
-/// The value that bytes spell.
-pub(crate) fn parsed(alloc: Global, bytes: &[u8]) -> Option<Value> {
-    let mut parser = Parser::new(alloc);
-    parser.feed(bytes).ok()?;
-    parser.take_value().ok()?
+const RANGES: &str =
+    "[SlotRange { start: 0, end: 99, nodes: SlotAddrs { primary: NodeAddress { host: \"n1\", port: 7001 }, replicas: [] } }, SlotRange { start: 100, end: 300, nodes: SlotAddrs { primary: NodeAddress { host: \"n2\", port: 7002 }, replicas: [NodeAddress { host: \"n3\", port: 7003 }] } }, SlotRange { start: 400, end: 16383, nodes: SlotAddrs { primary: NodeAddress { host: \"n1\", port: 7004 }, replicas: [] } }]";
+
+fn shows<T: Debug, R: Abort + Print>(
+    rt: &R,
+    alloc: Global,
+    shown: &T,
+    wanted: &str,
+) -> Result<(), Fail> {
+    match text(alloc, shown) {
+        Ok(text) => assert_eq!(rt; text.as_str(), wanted),
+        Err(_) => {
+            println!(rt; "refused format")?;
+            assert_eq!(rt; text(alloc, shown)?.as_str(), wanted);
+        }
+    }
+    Ok(())
 }
 
 fn slots_reply<R: Print>(rt: &R, alloc: Global) -> Result<Value, Fail> {
-    match parsed(alloc, SLOTS) {
-        Some(value) => Ok(value),
-        None => {
+    match parse_redis_value(alloc, SLOTS) {
+        Ok(value) => Ok(value),
+        Err(_) => {
             println!(rt; "refused reply")?;
-            Ok(parsed(alloc, SLOTS).ok_or("no whole value")?)
+            Ok(parse_redis_value(alloc, SLOTS)?)
         }
     }
-}
-
-fn is_range<R: Abort>(rt: &R, range: &SlotRange, slots: (u16, u16), nodes: &[(&str, u16)]) {
-    assert_eq!(rt; (range.start(), range.end()), slots);
-    let mut found = range.addrs().into_iter();
-    for (host, port) in nodes {
-        is_node(rt, found.next(), host, *port);
-    }
-    assert!(rt; found.next().is_none());
-}
-
-fn are_ranges<R: Abort>(rt: &R, ranges: &[SlotRange]) {
-    assert_eq!(rt; ranges.len(), 3);
-    is_range(rt, &ranges[0], (0, 99), &[("n1", 7001)]);
-    is_range(rt, &ranges[1], (100, 300), &[("n2", 7002), ("n3", 7003)]);
-    is_range(rt, &ranges[2], (400, 16383), &[("n1", 7004)]);
 }
 
 fn ranges_of<R: Print>(rt: &R, alloc: Global, reply: &Value) -> Result<Vec<SlotRange>, Fail> {
@@ -63,35 +60,55 @@ fn ranges_of<R: Print>(rt: &R, alloc: Global, reply: &Value) -> Result<Vec<SlotR
     }
 }
 
+// The primaries of slots, and a replica.
+fn nodes_text(alloc: Global, map: &SlotMap) -> Result<String, AllocError> {
+    let mut all = String::new(alloc);
+    for slot in [99, 100, 350, 16383] {
+        let route = Route::new(slot, SlotAddr::Master);
+        all.push_str(text(alloc, &map.slot_addr_for_route(route, 0, None))?.as_str())?;
+    }
+    let replica = Route::new(200, SlotAddr::ReplicaRequired);
+    all.push_str(text(alloc, &map.slot_addr_for_route(replica, 0, None))?.as_str())?;
+    Ok(all)
+}
+
+const NODES: &str =
+    "Some(NodeAddress { host: \"n1\", port: 7001 })Some(NodeAddress { host: \"n2\", port: 7002 })NoneSome(NodeAddress { host: \"n1\", port: 7004 })Some(NodeAddress { host: \"n3\", port: 7003 })";
+
+fn leads<R: Abort + Print>(rt: &R, alloc: Global, map: &SlotMap) -> Result<(), Fail> {
+    match nodes_text(alloc, map) {
+        Ok(text) => assert_eq!(rt; text.as_str(), NODES),
+        Err(_) => {
+            println!(rt; "refused text of nodes")?;
+            assert_eq!(rt; nodes_text(alloc, map)?.as_str(), NODES);
+        }
+    }
+    Ok(())
+}
+
 #[test]
 fn slots_of_a_reply(rt: HostRuntime) -> Result<(), Fail> {
     let reply = slots_reply(&rt, rt.alloc())?;
     let ranges = ranges_of(&rt, rt.alloc(), &reply)?;
-    are_ranges(&rt, &ranges);
-    let map = match SlotMap::from_slots(rt.alloc(), ranges) {
-        Ok(map) => map,
+    shows(&rt, rt.alloc(), &ranges, RANGES)?;
+    match SlotMap::from_slots(rt.alloc(), ranges) {
+        Ok(map) => leads(&rt, rt.alloc(), &map),
         Err(_) => {
             println!(rt; "refused from_slots")?;
-            SlotMap::from_slots(rt.alloc(), parse_slots(rt.alloc(), &reply, "n1")?)?
+            let ranges = parse_slots(rt.alloc(), &reply, "n1")?;
+            leads(&rt, rt.alloc(), &SlotMap::from_slots(rt.alloc(), ranges)?)
         }
-    };
-    let at = |slot| map.slot_addr_for_route(Route::new(slot, SlotAddr::Master), 0, None);
-    is_node(&rt, at(99), "n1", 7001);
-    is_node(&rt, at(100), "n2", 7002);
-    is_node(&rt, at(16383), "n1", 7004);
-    assert!(rt; at(350).is_none());
-    let replica = Route::new(200, SlotAddr::ReplicaRequired);
-    is_node(&rt, map.slot_addr_for_route(replica, 0, None), "n3", 7003);
-    Ok(())
+    }
 }
 
 // The map has one range of ten slots for each number below the count, and no more.
 fn has_ranges<R: Abort>(rt: &R, map: &SlotRangeMap<u16>, count: u16) {
-    let mut found = map.iter();
-    for n in 0..count.min(40) {
-        assert!(rt; found.next() == Some((n * 10, n * 10 + 9, &n)));
+    for n in 0..40u16 {
+        let expected = if n < count { Some(n) } else { None };
+        assert_eq!(rt; map.get(n * 10).copied(), expected);
+        assert_eq!(rt; map.get(n * 10 + 9).copied(), expected);
     }
-    assert!(rt; found.next().is_none());
+    assert!(rt; map.get(400).is_none());
 }
 
 #[test]
@@ -118,53 +135,34 @@ fn command<R: Print>(rt: &R, alloc: Global, words: &[&str]) -> Result<Cmd, Fail>
     }
 }
 
-fn route<R: Print>(rt: &R, alloc: Global, words: &[&str]) -> Result<Option<RoutingInfo>, Fail> {
-    let command = command(rt, alloc, words)?;
-    match RoutingInfo::for_routable(alloc, &command, &[]) {
-        Ok(info) => Ok(info),
+// The command goes there.
+fn goes<R: Abort + Print>(rt: &R, alloc: Global, command: &Cmd, wanted: &str) -> Result<(), Fail> {
+    match RoutingInfo::for_routable(alloc, command, &[]) {
+        Ok(info) => shows(rt, alloc, &info, wanted),
         Err(_) => {
             println!(rt; "refused for_routable")?;
-            Ok(RoutingInfo::for_routable(alloc, &command, &[])?)
+            shows(
+                rt,
+                alloc,
+                &RoutingInfo::for_routable(alloc, command, &[])?,
+                wanted,
+            )
         }
-    }
-}
-
-// `MGET a b a`: the slot of the first and third key, then that of the second.
-fn is_split<R: Abort>(rt: &R, parts: &[(Route, Vec<usize>)]) {
-    assert_eq!(rt; parts.len(), 2);
-    assert!(rt; parts[0].0 == Route::new(15495, SlotAddr::Master));
-    assert_eq!(rt; parts[0].1.as_slice(), [0, 2].as_slice());
-    assert!(rt; parts[1].0 == Route::new(3300, SlotAddr::Master));
-    assert_eq!(rt; parts[1].1.as_slice(), [1].as_slice());
-}
-
-fn is_split_read<R: Abort>(rt: &R, nodes: &MultipleNodeRoutingInfo) {
-    match nodes {
-        MultipleNodeRoutingInfo::MultiSlot((parts, pattern)) => {
-            assert!(rt; *pattern == MultiSlotArgPattern::KeysOnly);
-            is_split(rt, parts);
-        }
-        _ => assert!(rt; false),
     }
 }
 
 #[test]
 fn split_command(rt: HostRuntime) -> Result<(), Fail> {
-    let info = route(&rt, rt.alloc(), &["MGET", "a", "b", "a"])?;
-    match &info {
-        Some(RoutingInfo::MultiNode((nodes, policy))) => {
-            assert!(rt; *policy == Some(ResponsePolicy::CombineArrays));
-            is_split_read(&rt, nodes);
-        }
-        _ => assert!(rt; false),
-    }
-    Ok(())
+    let command = command(&rt, rt.alloc(), &["MGET", "a", "b", "a"])?;
+    let wanted =
+        "Some(MultiNode((MultiSlot(([(Route { slot: 15495, slot_addr: Master }, [0, 2]), (Route { slot: 3300, slot_addr: Master }, [1])], KeysOnly)), Some(CombineArrays))))";
+    goes(&rt, rt.alloc(), &command, wanted)
 }
 
 #[test]
 fn family(rt: HostRuntime) -> Result<(), Fail> {
-    assert!(rt; route(&rt, rt.alloc(), &["xinfo", "stream", "a"])? == to_slot(15495));
-    Ok(())
+    let command = command(&rt, rt.alloc(), &["xinfo", "stream", "a"])?;
+    goes(&rt, rt.alloc(), &command, TO_A)
 }
 
 fn node(alloc: Global, host: &str, port: u16) -> Result<NodeAddress, AllocError> {
@@ -172,54 +170,53 @@ fn node(alloc: Global, host: &str, port: u16) -> Result<NodeAddress, AllocError>
 }
 
 // The slots from 0 to 99 and from 200 to 299 have equal nodes, those between other ones.
-fn three_ranges(alloc: Global) -> Result<Vec<SlotRange>, AllocError> {
+fn three_ranges(alloc: Global) -> Result<SlotMap, AllocError> {
     let mut ranges = Vec::new(alloc);
     for (start, end, host) in [(0, 99, "n1"), (100, 199, "n3"), (200, 299, "n1")] {
         let replicas = vec![in alloc; node(alloc, "n2", 7002)?]?;
         ranges.push(SlotRange::new(start, end, node(alloc, host, 7001)?, replicas))?;
     }
-    Ok(ranges)
+    SlotMap::from_slots(alloc, ranges)
 }
 
 fn map_of<R: Print>(rt: &R, alloc: Global) -> Result<SlotMap, Fail> {
-    let ranges = match three_ranges(alloc) {
-        Ok(ranges) => ranges,
-        Err(_) => {
-            println!(rt; "refused ranges")?;
-            three_ranges(alloc)?
-        }
-    };
-    match SlotMap::from_slots(alloc, ranges) {
+    match three_ranges(alloc) {
         Ok(map) => Ok(map),
         Err(_) => {
-            println!(rt; "refused from_slots")?;
-            Ok(SlotMap::from_slots(alloc, three_ranges(alloc)?)?)
+            println!(rt; "refused map")?;
+            Ok(three_ranges(alloc)?)
         }
     }
 }
 
-fn are_shards<R: Abort>(rt: &R, topology: &ClusterTopology) {
-    let (n1, n2, n3) = (("n1", 7001), ("n2", 7002), ("n3", 7001));
-    let both = [(0, 99), (200, 299)];
-    let mut shards = topology.shards();
-    is_shard(rt, shards.next(), &both, n1, &[n2]);
-    is_shard(rt, shards.next(), &[(100, 199)], n3, &[n2]);
-    assert!(rt; shards.next().is_none());
-    is_shard(rt, topology.shard_for_slot(250), &both, n1, &[n2]);
-    is_shard(rt, topology.shard_for_slot(100), &[(100, 199)], n3, &[n2]);
+const SHARDS: &str =
+    "[(0, 99), (200, 299)] n1:7001 [NodeAddress { host: \"n2\", port: 7002 }]\n[(100, 199)] n3:7001 [NodeAddress { host: \"n2\", port: 7002 }]\n";
+
+fn has_shards<R: Abort + Print>(
+    rt: &R,
+    alloc: Global,
+    topology: &ClusterTopology,
+) -> Result<(), Fail> {
+    match topology_text(alloc, topology) {
+        Ok(text) => assert_eq!(rt; text.as_str(), SHARDS),
+        Err(_) => {
+            println!(rt; "refused text of shards")?;
+            assert_eq!(rt; topology_text(alloc, topology)?.as_str(), SHARDS);
+        }
+    }
+    assert!(rt; topology.shard_for_slot(250).is_some());
     assert!(rt; topology.shard_for_slot(300).is_none());
+    Ok(())
 }
 
 #[test]
 fn topology(rt: HostRuntime) -> Result<(), Fail> {
     let map = map_of(&rt, rt.alloc())?;
-    let topology = match map.topology(rt.alloc()) {
-        Ok(topology) => topology,
+    match map.topology(rt.alloc()) {
+        Ok(topology) => has_shards(&rt, rt.alloc(), &topology),
         Err(_) => {
             println!(rt; "refused topology")?;
-            map.topology(rt.alloc())?
+            has_shards(&rt, rt.alloc(), &map.topology(rt.alloc())?)
         }
-    };
-    are_shards(&rt, &topology);
-    Ok(())
+    }
 }

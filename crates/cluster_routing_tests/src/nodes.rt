@@ -1,76 +1,52 @@
 //! Addresses, slots and routes.
 
+use crate::texts::{is_text, shows};
 use cluster_routing::{NodeAddress, Route, Slot, SlotAddr};
-use resp_core::ErrorKind;
-use std::process::Abort;
+use std::alloc::{AllocError, Global};
 use std::test::Fail;
 
-pub(crate) fn is_node<R: Abort>(rt: &R, node: Option<&NodeAddress>, host: &str, port: u16) {
-    match node {
-        Some(node) => {
-            assert_eq!(rt; node.host(), host);
-            assert_eq!(rt; node.port(), port);
-        }
-        None => assert!(rt; false),
-    }
-}
-
-pub(crate) fn are_nodes<R: Abort>(rt: &R, nodes: &[NodeAddress], expected: &[(&str, u16)]) {
-    assert_eq!(rt; nodes.len(), expected.len());
-    for (node, (host, port)) in nodes.iter().zip(expected) {
-        is_node(rt, Some(node), host, *port);
+// The address as it is written, or the number of the refusal.
+fn address_text(alloc: Global, text: &str) -> Result<String, AllocError> {
+    match NodeAddress::try_from(alloc, text) {
+        Ok(address) => address.to_string(alloc),
+        Err(e) => format!(in alloc; "{}", e.number()),
     }
 }
 
 #[test]
-fn reads_and_prints_addresses(rt: HostRuntime) -> Result<(), Fail> {
-    let bracketed = NodeAddress::try_from(rt.alloc(), "[::1]:7001")?;
-    assert_eq!(rt; bracketed.host(), "::1");
-    assert_eq!(rt; bracketed.port(), 7001);
-    let text = bracketed.to_string(rt.alloc())?;
-    assert_eq!(rt; text.as_str(), "::1:7001");
-    let again = NodeAddress::try_from(rt.alloc(), text.as_str())?;
-    assert!(rt; again == bracketed);
-    let signed = NodeAddress::try_from(rt.alloc(), "n1:+07001")?;
-    let plain = NodeAddress::new(String::from_str(rt.alloc(), "n1")?, 7001);
-    assert!(rt; signed == plain);
-    Ok(())
-}
-
-#[test]
-fn refuses_texts_that_are_no_address(rt: HostRuntime) -> Result<(), Fail> {
-    for text in [":0", "[]:6379", "n1", "n1:", "n1:65536", "n1:7001x"] {
-        match NodeAddress::try_from(rt.alloc(), text) {
-            Ok(_) => assert!(rt; false, "{text} was read"),
-            Err(e) => {
-                assert_eq!(rt; e.number(), 1);
-                assert_eq!(rt; e.kind(), ErrorKind::InvalidClientConfig);
-            }
-        }
+fn reads_and_writes_addresses(rt: HostRuntime) {
+    let rows = [
+        ("[::1]:7001", "::1:7001"),
+        ("::1:7001", "::1:7001"),
+        ("n1:+07001", "n1:7001"),
+        (":0", "1"),
+        ("[]:6379", "1"),
+        ("n1", "1"),
+        ("n1:", "1"),
+        ("n1:65536", "1"),
+        ("n1:7001x", "1"),
+    ];
+    for (text, wanted) in rows {
+        is_text(&rt, address_text(rt.alloc(), text), wanted);
     }
-    Ok(())
 }
 
 #[test]
 fn orders_addresses(rt: HostRuntime) -> Result<(), Fail> {
-    let texts = ["n1:999", "n1:7001", "n1:10000", "n10:1", "n2:0"];
-    let mut before = NodeAddress::empty(rt.alloc());
-    assert_eq!(rt; before.host(), "");
-    assert_eq!(rt; before.port(), 0);
-    for text in texts {
-        let next = NodeAddress::try_from(rt.alloc(), text)?;
+    let alloc = rt.alloc();
+    let mut before = NodeAddress::empty(alloc);
+    for text in ["n1:999", "n1:7001", "n1:10000", "n10:1", "n2:0"] {
+        let next = NodeAddress::try_from(alloc, text)?;
         assert!(rt; before < next, "{text} comes later");
         before = next;
     }
-    let copy = before.clone()?;
-    assert!(rt; copy == before);
-    let made = NodeAddress::from_parts(String::from_str(rt.alloc(), "n2")?, 0);
+    let made = NodeAddress::from_parts(String::from_str(alloc, "n2")?, 0);
     assert!(rt; made == before);
     Ok(())
 }
 
 #[test]
-fn knows_slots(rt: HostRuntime) -> Result<(), Fail> {
+fn knows_slots(rt: HostRuntime) {
     let known: [(&[u8], u16); 12] = [
         (b"foo", 12182),
         (b"123456789", 12739),
@@ -86,15 +62,12 @@ fn knows_slots(rt: HostRuntime) -> Result<(), Fail> {
         (b"{}a", 10875),
     ];
     for (key, slot) in known {
-        let route = Route::with_key(key, SlotAddr::Master);
-        assert_eq!(rt; route.slot(), slot);
-        assert_eq!(rt; route.slot_addr(), SlotAddr::Master);
-        assert!(rt; Slot::new(slot) == Some(Slot::for_key(key)));
+        assert_eq!(rt; Route::with_key(key, SlotAddr::Master).slot(), slot);
     }
-    assert!(rt; Slot::new(16384).is_none());
-    let last = Slot::new(16383).ok_or("a slot")?;
-    assert_eq!(rt; last.number(), 16383);
-    let route = Route::with_slot(last, SlotAddr::ReplicaRequired);
-    assert!(rt; route == Route::new(16383, SlotAddr::ReplicaRequired));
-    Ok(())
+    let slots = [Slot::new(16383), Slot::new(16384)];
+    let wanted = "[Some(Slot { number: 16383 }), None]";
+    shows(&rt, rt.alloc(), &slots, wanted);
+    let route = Route::with_slot(Slot::for_key(b"a"), SlotAddr::ReplicaRequired);
+    let wanted = "Route { slot: 15495, slot_addr: ReplicaRequired }";
+    shows(&rt, rt.alloc(), &route, wanted);
 }

@@ -1,13 +1,14 @@
-//! Where single commands go.
+//! Where commands go.
 
-use crate::memory::parsed;
+use crate::texts::{is_text, shows};
 use cluster_routing::{
-    AggregateOp, MultiSlotArgPattern, MultipleNodeRoutingInfo, ResponsePolicy, Routable, Route,
-    RoutingInfo, SingleNodeRoutingInfo, SlotAddr,
+    ResponsePolicy, Route, RoutingInfo, SingleNodeRoutingInfo, SlotAddr, SplitParts,
+    command_for_multi_slot_indices,
 };
 use resp_args::Cmd;
-use resp_core::Value;
+use resp_core::parse_redis_value;
 use std::alloc::{AllocError, Global};
+use std::process::Abort;
 use std::test::Fail;
 
 pub(crate) fn cmd(alloc: Global, words: &[&str]) -> Result<Cmd, AllocError> {
@@ -18,119 +19,39 @@ pub(crate) fn cmd(alloc: Global, words: &[&str]) -> Result<Cmd, AllocError> {
     Ok(cmd)
 }
 
-pub(crate) fn route(alloc: Global, words: &[&str]) -> Result<Option<RoutingInfo>, AllocError> {
-    RoutingInfo::for_routable(alloc, &cmd(alloc, words)?, &[])
-}
-
-/// The place of the first command that has another route.
-pub(crate) fn first_elsewhere(
+/// The text of where a command goes.
+pub(crate) fn route_text(
     alloc: Global,
-    commands: &[&[&str]],
-    expected: &Option<RoutingInfo>,
-) -> Result<Option<usize>, AllocError> {
-    for (place, words) in commands.iter().enumerate() {
-        if route(alloc, words)? != *expected {
-            return Ok(Some(place));
-        }
+    words: &[&str],
+    read_only: &[Vec<u8>],
+) -> Result<String, AllocError> {
+    let info = RoutingInfo::for_routable(alloc, &cmd(alloc, words)?, read_only)?;
+    format!(in alloc; "{info:?}")
+}
+
+/// All these commands go there, if none only reads.
+pub(crate) fn all_go<R: Abort>(rt: &R, alloc: Global, commands: &[&[&str]], wanted: &str) {
+    for words in commands {
+        is_text(rt, route_text(alloc, words, &[]), wanted);
     }
-    Ok(None)
 }
 
-pub(crate) fn to_slot(slot: u16) -> Option<RoutingInfo> {
-    Some(RoutingInfo::SingleNode(SingleNodeRoutingInfo::SpecificNode(Route::new(
-        slot,
-        SlotAddr::Master,
-    ))))
-}
-
-pub(crate) fn to_random() -> Option<RoutingInfo> {
-    Some(RoutingInfo::SingleNode(SingleNodeRoutingInfo::Random))
-}
+pub(crate) const TO_A: &str =
+    "Some(SingleNode(SpecificNode(Route { slot: 15495, slot_addr: Master })))";
 
 #[test]
-fn goes_to_the_key(rt: HostRuntime) -> Result<(), Fail> {
+fn splits_by_slot(rt: HostRuntime) {
     let alloc = rt.alloc();
-    let keyed: [&[&str]; 5] = [
-        &["XREAD", "COUNT", "5", "STREAMS", "a", "0"],
-        &["xinfo", "stream", "a"],
-        &["EVAL", "s", "1", "a"],
-        &["LMPOP", "+1", "a", "LEFT"],
-        &["MGET", "a", "{a}x"],
-    ];
-    assert_eq!(rt; first_elsewhere(alloc, &keyed, &to_slot(15495))?, None);
-    let nowhere: [&[&str]; 5] = [
-        &["EVAL", "s", "1"],
-        &["LMPOP", "0", "a", "LEFT"],
-        &["OBJECT"],
-        &[],
-        &["GET"],
-    ];
-    assert_eq!(rt; first_elsewhere(alloc, &nowhere, &None)?, None);
-    assert!(rt; route(alloc, &["EVAL", "s", "0"])? == to_random());
-    Ok(())
-}
-
-// The route of a command with keys `a` and `b` at these places.
-fn in_two_parts(
-    alloc: Global,
-    places: [&[usize]; 2],
-    pattern: MultiSlotArgPattern,
-    policy: ResponsePolicy,
-) -> Result<Option<RoutingInfo>, AllocError> {
-    let mut parts = Vec::new(alloc);
-    for (slot, of_slot) in [15495, 3300].into_iter().zip(places) {
-        let of_slot = Vec::from_slice(alloc, of_slot)?;
-        parts.push((Route::new(slot, SlotAddr::Master), of_slot))?;
-    }
-    let nodes = MultipleNodeRoutingInfo::MultiSlot((parts, pattern));
-    Ok(Some(RoutingInfo::MultiNode((nodes, Some(policy)))))
-}
-
-#[test]
-fn splits_keys_by_slot(rt: HostRuntime) -> Result<(), Fail> {
-    let pattern = MultiSlotArgPattern::KeysOnly;
-    let policy = ResponsePolicy::CombineArrays;
-    let expected = in_two_parts(rt.alloc(), [&[0, 2], &[1]], pattern, policy)?;
-    assert!(rt; route(rt.alloc(), &["MGET", "a", "b", "a"])? == expected);
-    Ok(())
-}
-
-#[test]
-fn splits_pairs_by_slot(rt: HostRuntime) -> Result<(), Fail> {
-    let pattern = MultiSlotArgPattern::KeyValuePairs;
-    let policy = ResponsePolicy::AllSucceeded;
-    let expected = in_two_parts(rt.alloc(), [&[0, 1], &[2, 3]], pattern, policy)?;
-    assert!(rt; route(rt.alloc(), &["MSET", "a", "1", "b", "2"])? == expected);
-    Ok(())
-}
-
-#[test]
-fn splits_keys_before_a_path_by_slot(rt: HostRuntime) -> Result<(), Fail> {
-    let pattern = MultiSlotArgPattern::KeysAndLastArg;
-    let policy = ResponsePolicy::CombineArrays;
-    let expected = in_two_parts(rt.alloc(), [&[0], &[1]], pattern, policy)?;
-    assert!(rt; route(rt.alloc(), &["JSON.MGET", "a", "b", "$"])? == expected);
-    Ok(())
-}
-
-#[test]
-fn splits_no_broken_tuple(rt: HostRuntime) -> Result<(), Fail> {
-    let broken: [&[&str]; 4] = [
-        &["MSET", "a"],
-        &["JSON.MGET", "a"],
-        &["JSON.MSET", "a", "$"],
-        &["MGET"],
-    ];
-    assert_eq!(rt; first_elsewhere(rt.alloc(), &broken, &None)?, None);
-    Ok(())
-}
-
-#[test]
-fn splits_no_gap(rt: HostRuntime) -> Result<(), Fail> {
-    let mut gap = cmd(rt.alloc(), &["MGET", "a"])?;
-    gap.cursor_arg(0)?;
-    assert!(rt; RoutingInfo::for_routable(rt.alloc(), &gap, &[])?.is_none());
-    Ok(())
+    let keys =
+        "Some(MultiNode((MultiSlot(([(Route { slot: 15495, slot_addr: Master }, [0, 2]), (Route { slot: 3300, slot_addr: Master }, [1])], KeysOnly)), Some(CombineArrays))))";
+    all_go(&rt, alloc, &[&["MGET", "a", "b", "a"]], keys);
+    let pairs =
+        "Some(MultiNode((MultiSlot(([(Route { slot: 15495, slot_addr: Master }, [0, 1]), (Route { slot: 3300, slot_addr: Master }, [2, 3])], KeyValuePairs)), Some(AllSucceeded))))";
+    all_go(&rt, alloc, &[&["MSET", "a", "1", "b", "2"]], pairs);
+    let before_a_path =
+        "Some(MultiNode((MultiSlot(([(Route { slot: 15495, slot_addr: Master }, [0]), (Route { slot: 3300, slot_addr: Master }, [1])], KeysAndLastArg)), Some(CombineArrays))))";
+    all_go(&rt, alloc, &[&["JSON.MGET", "a", "b", "$"]], before_a_path);
+    all_go(&rt, alloc, &[&["MGET", "a", "{a}x"]], TO_A);
 }
 
 fn read_names(alloc: Global) -> Result<Vec<Vec<u8>>, AllocError> {
@@ -141,74 +62,66 @@ fn read_names(alloc: Global) -> Result<Vec<Vec<u8>>, AllocError> {
     Ok(names)
 }
 
-fn read_route(alloc: Global, words: &[&str]) -> Result<Option<RoutingInfo>, AllocError> {
-    RoutingInfo::for_routable(alloc, &cmd(alloc, words)?, &read_names(alloc)?)
-}
-
 #[test]
 fn reads_may_go_to_replicas(rt: HostRuntime) -> Result<(), Fail> {
-    let alloc = rt.alloc();
-    let read = Some(RoutingInfo::SingleNode(SingleNodeRoutingInfo::SpecificNode(Route::new(
-        15495,
-        SlotAddr::ReplicaOptional,
-    ))));
-    assert!(rt; read_route(alloc, &["GET", "a"])? == read);
-    assert!(rt; read_route(alloc, &["object", "freq", "a"])? == read);
-    assert!(rt; read_route(alloc, &["SET", "a"])? == to_slot(15495));
+    let names = read_names(rt.alloc())?;
+    let read = "Some(SingleNode(SpecificNode(Route { slot: 15495, slot_addr: ReplicaOptional })))";
+    let rows: [(&[&str], &str); 3] = [
+        (&["GET", "a"], read),
+        (&["object", "freq", "a"], read),
+        (&["SET", "a"], TO_A),
+    ];
+    for (words, wanted) in rows {
+        is_text(&rt, route_text(rt.alloc(), words, &names), wanted);
+    }
     Ok(())
 }
 
-fn scan(alloc: Global) -> Result<Cmd, AllocError> {
-    let mut scan = cmd(alloc, &["xinfo", "Stream"])?;
-    scan.cursor_arg(7)?;
-    Ok(scan)
+// A reply is looked at as a command: its parts, their commands, and one for places that it has in
+// part.
+fn parts_of_a_reply(alloc: Global, bytes: &[u8]) -> Result<String, Fail> {
+    let items = parse_redis_value(alloc, bytes)?;
+    match SplitParts::for_routable(alloc, &items, &[])? {
+        None => Err("no parts".into()),
+        Some(parts) => {
+            let mut commands = parts.commands(alloc, &items)?;
+            commands.push(command_for_multi_slot_indices(alloc, &items, &[1, 7])?)?;
+            Ok(commands_text(alloc, &parts, &commands)?)
+        }
+    }
+}
+
+fn commands_text(
+    alloc: Global,
+    parts: &SplitParts,
+    commands: &[Cmd],
+) -> Result<String, AllocError> {
+    let mut all = format!(in alloc; "{parts:?}")?;
+    for command in commands {
+        let args = command.wire_args()?;
+        all.push_str(format!(in alloc; " {args:?}")?.as_str())?;
+    }
+    Ok(all)
 }
 
 #[test]
-fn looks_at_arguments(rt: HostRuntime) -> Result<(), Fail> {
-    let scan = scan(rt.alloc())?;
-    assert!(rt; scan.arg_idx(1) == Some(b"Stream".as_slice()));
-    assert!(rt; scan.arg_idx(2).is_none());
-    assert!(rt; scan.arg_idx(3).is_none());
-    assert_eq!(rt; scan.position(b"STREAM"), Some(1));
-    assert!(rt; scan.arguments(rt.alloc())?.is_none());
-    let name = scan.command(rt.alloc())?.ok_or("a name")?;
-    assert!(rt; name.as_slice() == b"XINFO STREAM".as_slice());
-    Ok(())
-}
-
-// The second item is a gap.
-const ITEMS: &[u8] = b"*3\r\n$3\r\nGet\r\n:1\r\n$1\r\na\r\n";
-
-#[test]
-fn looks_at_items(rt: HostRuntime) -> Result<(), Fail> {
-    let value = parsed(rt.alloc(), ITEMS).ok_or("a value")?;
-    assert!(rt; value.arg_idx(0) == Some(b"Get".as_slice()));
-    assert!(rt; value.arg_idx(1).is_none());
-    assert_eq!(rt; value.position(b"A"), Some(2));
-    Ok(())
-}
-
-#[test]
-fn gathers_items(rt: HostRuntime) -> Result<(), Fail> {
-    let value = parsed(rt.alloc(), ITEMS).ok_or("a value")?;
-    assert!(rt; value.arguments(rt.alloc())?.is_none());
-    assert!(rt; Value::Nil.arguments(rt.alloc())?.is_some());
-    let name = value.command(rt.alloc())?.ok_or("a name")?;
-    assert!(rt; name.as_slice() == b"GET".as_slice());
+fn splits_a_reply_as_a_command(rt: HostRuntime) -> Result<(), Fail> {
+    let items = b"*3\r\n$4\r\nMget\r\n$1\r\na\r\n$1\r\nb\r\n";
+    let wanted =
+        "SplitParts { routes: [(Route { slot: 15495, slot_addr: Master }, [0]), (Route { slot: 3300, slot_addr: Master }, [1])], pattern: KeysOnly, policy: CombineArrays } [[77, 103, 101, 116], [97]] [[77, 103, 101, 116], [98]] [[77, 103, 101, 116], [98]]";
+    let found = parts_of_a_reply(rt.alloc(), items)?;
+    assert_eq!(rt; found.as_str(), wanted);
     Ok(())
 }
 
 #[test]
 fn makes_single_nodes(rt: HostRuntime) {
-    let route = Route::new(7, SlotAddr::Master);
-    assert!(rt;
-        SingleNodeRoutingInfo::from(Some(route)) == SingleNodeRoutingInfo::SpecificNode(route)
-    );
-    assert!(rt; SingleNodeRoutingInfo::from(None) == SingleNodeRoutingInfo::Random);
-    assert!(rt; ResponsePolicy::for_command(b"script exists").is_some());
-    assert!(rt;
-        ResponsePolicy::for_command(b"DBSIZE") == Some(ResponsePolicy::Aggregate(AggregateOp::Sum))
-    );
-    assert!(rt; ResponsePolicy::for_command(b"GET").is_none());
+    let alloc = rt.alloc();
+    let route = SingleNodeRoutingInfo::from(Some(Route::new(7, SlotAddr::Master)));
+    let wanted = "SpecificNode(Route { slot: 7, slot_addr: Master })";
+    shows(&rt, alloc, &route, wanted);
+    shows(&rt, alloc, &SingleNodeRoutingInfo::from(None), "Random");
+    let names: [&[u8]; 2] = [b"script exists", b"GET"];
+    let policies = names.map(ResponsePolicy::for_command);
+    shows(&rt, alloc, &policies, "[Some(AggregateLogical(And)), None]");
 }

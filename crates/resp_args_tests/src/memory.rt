@@ -2,10 +2,10 @@
 //!
 //! A test prints a line `refused CALL` where a call is refused, sees what then stands, and goes on;
 //! no further call may be refused.
-use crate::conversions::parse;
+use crate::conversions::shown;
 use indexmap::IndexMap;
-use resp_args::{Arg, Cmd, from_redis_value, from_redis_value_ref};
-use resp_core::{RedisError, Value};
+use resp_args::{Cmd, from_redis_value, from_redis_value_ref};
+use resp_core::{ParsingError, RedisError, Value, parse_redis_value};
 use std::alloc::Global;
 use std::io::Print;
 use std::process::Abort;
@@ -19,33 +19,35 @@ const PACKED: &[u8] =
     b"x*10\r\n$3\r\none\r\n$3\r\ntwo\r\n$5\r\nthree\r\n$4\r\nfour\r\n$4\r\nfive\r\n$3\r\nsix\r\n$5\r\nseven\r\n$5\r\neight\r\n$4\r\nnine\r\n$2\r\n10\r\n";
 
 // The command has this many of the words, in order, and no more.
-fn has_words<R: Abort>(rt: &R, command: &Cmd, count: usize) {
-    let mut found = command.args_iter();
-    for word in WORDS.iter().take(count) {
-        assert!(rt; found.next() == Some(Arg::Simple(word.as_bytes())));
+fn has_words<R: Abort>(rt: &R, command: &Cmd, count: usize) -> Result<(), Fail> {
+    let args = command.wire_args()?;
+    assert_eq!(rt; args.len(), count);
+    for (place, arg) in args.iter().enumerate() {
+        match WORDS.get(place) {
+            Some(word) => assert_eq!(rt; arg.as_slice(), word.as_bytes()),
+            None => assert!(rt; false, "there are more"),
+        }
     }
-    assert!(rt; found.next().is_none());
     assert!(rt; !command.in_scan_mode());
+    Ok(())
 }
 
 fn add_words<R: Abort + Print>(rt: &R, command: &mut Cmd) -> Result<(), Fail> {
-    let mut count = 0;
-    for word in WORDS.iter().take(7) {
+    for (count, word) in WORDS[..7].iter().enumerate() {
         if command.arg(*word).is_err() {
             println!(rt; "refused arg")?;
-            has_words(rt, command, count);
+            has_words(rt, command, count)?;
             command.arg(*word)?;
         }
-        count = if count < 7 { count + 1 } else { count };
     }
     if command.arg((WORDS[7], WORDS[8])).is_err() {
         println!(rt; "refused arg of two")?;
-        has_words(rt, command, 7);
+        has_words(rt, command, 7)?;
         command.arg((WORDS[7], WORDS[8]))?;
     }
     if command.cursor_arg(10).is_err() {
         println!(rt; "refused cursor_arg")?;
-        has_words(rt, command, 9);
+        has_words(rt, command, 9)?;
         command.cursor_arg(10)?;
     }
     Ok(())
@@ -90,63 +92,58 @@ type Nested = IndexMap<String, Vec<(i64, String)>>;
 const TEXT: &str = "{\"a\": [(1, \"x\"), (2, \"7\")], \"b\": []}";
 
 fn is_nested<R: Abort + Print>(rt: &R, alloc: Global, fields: &Nested) -> Result<(), Fail> {
-    match format!(in alloc; "{fields:?}") {
+    match shown(alloc, fields) {
         Ok(text) => assert_eq!(rt; text.as_str(), TEXT),
         Err(_) => {
             println!(rt; "refused format")?;
-            assert_eq!(rt; format!(in alloc; "{fields:?}")?.as_str(), TEXT);
+            assert_eq!(rt; shown(alloc, fields)?.as_str(), TEXT);
         }
     }
     Ok(())
 }
 
 fn nested_reply<R: Print>(rt: &R, alloc: Global) -> Result<Value, Fail> {
-    match parse(alloc, NESTED) {
-        Some(value) => Ok(value),
-        None => {
-            println!(rt; "refused reply")?;
-            Ok(parse(alloc, NESTED).ok_or("no whole value")?)
-        }
-    }
-}
-
-fn copy<R: Print>(rt: &R, value: &Value) -> Result<Value, Fail> {
-    match value.clone() {
-        Ok(copy) => Ok(copy),
+    match parse_redis_value(alloc, NESTED) {
+        Ok(value) => Ok(value),
         Err(_) => {
-            println!(rt; "refused clone")?;
-            Ok(value.clone()?)
+            println!(rt; "refused reply")?;
+            Ok(parse_redis_value(alloc, NESTED)?)
         }
     }
 }
 
-fn converts_owned<R: Abort + Print>(rt: &R, alloc: Global, value: &Value) -> Result<(), Fail> {
-    match from_redis_value::<Nested>(alloc, copy(rt, value)?) {
+// The number of a refusal for want of memory.
+fn is_starved<R: Abort>(rt: &R, e: ParsingError) {
+    assert_eq!(rt; RedisError::from(e).number(), 17);
+}
+
+fn converts_owned<R: Abort + Print>(rt: &R, alloc: Global) -> Result<(), Fail> {
+    let value = nested_reply(rt, alloc)?;
+    match from_redis_value::<Nested>(alloc, value) {
         Ok(fields) => is_nested(rt, alloc, &fields),
         Err(e) => {
             println!(rt; "refused from_redis_value")?;
-            assert_eq!(rt; RedisError::from(e).number(), 17);
-            let fields = from_redis_value(alloc, value.clone()?)?;
-            is_nested(rt, alloc, &fields)
+            is_starved(rt, e);
+            let value = nested_reply(rt, alloc)?;
+            is_nested(rt, alloc, &from_redis_value(alloc, value)?)
         }
     }
 }
 
-fn converts_lent<R: Abort + Print>(rt: &R, alloc: Global, value: &Value) -> Result<(), Fail> {
-    match from_redis_value_ref::<Nested>(alloc, value) {
+fn converts_lent<R: Abort + Print>(rt: &R, alloc: Global) -> Result<(), Fail> {
+    let value = nested_reply(rt, alloc)?;
+    match from_redis_value_ref::<Nested>(alloc, &value) {
         Ok(fields) => is_nested(rt, alloc, &fields),
         Err(e) => {
             println!(rt; "refused from_redis_value_ref")?;
-            assert_eq!(rt; RedisError::from(e).number(), 17);
-            let fields = from_redis_value_ref(alloc, value)?;
-            is_nested(rt, alloc, &fields)
+            is_starved(rt, e);
+            is_nested(rt, alloc, &from_redis_value_ref(alloc, &value)?)
         }
     }
 }
 
 #[test]
 fn nested_conversion(rt: HostRuntime) -> Result<(), Fail> {
-    let value = nested_reply(&rt, rt.alloc())?;
-    converts_owned(&rt, rt.alloc(), &value)?;
-    converts_lent(&rt, rt.alloc(), &value)
+    converts_owned(&rt, rt.alloc())?;
+    converts_lent(&rt, rt.alloc())
 }

@@ -1,5 +1,6 @@
-//! Texts of refusals, each with its kind and its number.
-use crate::texts::{prints, server_error_of};
+//! What refusals tell: their texts, each with its kind and its number, redirects, another try, and
+//! the errors of a pipeline.
+use crate::texts::{is_text, prints, server_error_of, shown};
 use resp_core::*;
 use std::alloc::{AllocError, Global};
 use std::process::Abort;
@@ -78,15 +79,14 @@ const CAUSES: &[(Cause, &str)] = &[
 ];
 
 #[test]
-fn causes(rt: HostRuntime) -> Result<(), Fail> {
+fn causes(rt: HostRuntime) {
     for (cause, text) in CAUSES {
-        prints(&rt, rt.alloc(), &RedisError::from(*cause), text)?;
+        prints(&rt, rt.alloc(), &RedisError::from(*cause), text);
     }
-    Ok(())
 }
 
 #[test]
-fn kinds_without_a_cause(rt: HostRuntime) -> Result<(), Fail> {
+fn kinds_without_a_cause(rt: HostRuntime) {
     let rows = [
         (ErrorKind::AuthenticationFailed, "authentication failed"),
         (
@@ -105,12 +105,10 @@ fn kinds_without_a_cause(rt: HostRuntime) -> Result<(), Fail> {
         (ErrorKind::RESP3NotSupported, "the server knows no RESP3"),
     ];
     for (kind, text) in rows {
-        prints(&rt, rt.alloc(), &kind, text)?;
+        prints(&rt, rt.alloc(), &kind, text);
     }
-    Ok(())
 }
 
-// The lines of errors, the last without a name.
 const LINES: &[(&str, &str)] = &[
     ("ERR a", "the server answered ERR (refusal 13): ERR a"),
     (
@@ -159,43 +157,123 @@ const LINES: &[(&str, &str)] = &[
     ("moved", "the server answered an error (refusal 13): moved"),
 ];
 
+// The refusal by a copy of the server's error of this line.
+fn refusal_by(alloc: Global, line: &str) -> Result<RedisError, RedisError> {
+    let copy = server_error_of(alloc, line)?.clone()?;
+    Ok(RedisError::from(copy))
+}
+
+fn line_text(alloc: Global, line: &str) -> Result<String, RedisError> {
+    Ok(refusal_by(alloc, line)?.to_string(alloc)?)
+}
+
 #[test]
-fn server_errors(rt: HostRuntime) -> Result<(), Fail> {
+fn server_errors(rt: HostRuntime) {
     for (line, text) in LINES {
-        let error = server_error_of(rt.alloc(), line)?;
-        prints(&rt, rt.alloc(), &RedisError::from(error), text)?;
+        is_text(&rt, line_text(rt.alloc(), line), text);
     }
-    Ok(())
+}
+
+// Where a refusal leads, and how its call may be tried again.
+fn ways_on(alloc: Global, e: &RedisError) -> Result<String, AllocError> {
+    shown(alloc, (e.redirect_node(), e.retry_method()))
+}
+
+fn ways_on_behind(alloc: Global, line: &str) -> Result<String, RedisError> {
+    Ok(ways_on(alloc, &refusal_by(alloc, line)?)?)
+}
+
+const WAYS_ON: &[(&str, &str)] = &[
+    (
+        "MOVED 15495 n1:7001",
+        "(Some((\"n1:7001\", 15495)), MovedRedirect)",
+    ),
+    (
+        "MOVED 20000 n2:7002 more",
+        "(Some((\"n2:7002\", 20000)), MovedRedirect)",
+    ),
+    ("ASK +7\t n2:1", "(Some((\"n2:1\", 7)), AskRedirect)"),
+    ("MOVED 99999 n2:7002", "(None, MovedRedirect)"),
+    ("MOVED 15495", "(None, MovedRedirect)"),
+    ("MOVED", "(None, MovedRedirect)"),
+    ("ERR 15495 n1:7001", "(None, NoRetry)"),
+    ("TRYAGAIN", "(None, WaitAndRetry)"),
+    ("LOADING", "(None, WaitAndRetry)"),
+    ("CLUSTERDOWN", "(None, WaitAndRetry)"),
+    ("MASTERDOWN", "(None, WaitAndRetry)"),
+    ("OTHER", "(None, NoRetry)"),
+];
+
+#[test]
+fn ways_on_behind_a_server_error(rt: HostRuntime) {
+    for (line, wanted) in WAYS_ON {
+        is_text(&rt, ways_on_behind(rt.alloc(), line), wanted);
+    }
 }
 
 #[test]
-fn copies_of_an_error(rt: HostRuntime) -> Result<(), Fail> {
-    let copy = server_error_of(rt.alloc(), "ERR a b")?.clone()?;
-    prints(&rt, rt.alloc(), &copy, "ERR a b")?;
+fn ways_on_behind_a_cause(rt: HostRuntime) {
+    let rows = [
+        (Cause::Io, "(None, Reconnect)"),
+        (Cause::Parse, "(None, Reconnect)"),
+        (Cause::NoLink, "(None, ReconnectFromInitialConnections)"),
+        (Cause::NoNode, "(None, ReconnectFromInitialConnections)"),
+        (Cause::Memory, "(None, NoRetry)"),
+    ];
+    for (cause, wanted) in rows {
+        let e = RedisError::from(cause);
+        is_text(&rt, ways_on(rt.alloc(), &e), wanted);
+    }
+}
+
+// The text, then the errors at their positions.
+fn is_refusal<R: Abort>(rt: &R, alloc: Global, e: RedisError, text: &str, errors: &str) {
+    prints(rt, alloc, &e, text);
+    is_text(rt, errors_in(alloc, e), errors);
+}
+
+fn errors_in(alloc: Global, e: RedisError) -> Result<String, AllocError> {
+    shown(alloc, e.into_server_errors(alloc)?)
+}
+
+fn two_errors(alloc: Global) -> Result<RedisError, RedisError> {
+    let first = server_error_of(alloc, "MOVED 1 n1:1")?;
+    let more = vec![in alloc; (2, server_error_of(alloc, "ERR b")?)]?;
+    Ok(RedisError::by_servers((0, first), more))
+}
+
+#[test]
+fn errors_of_a_pipeline(rt: HostRuntime) -> Result<(), Fail> {
+    let alloc = rt.alloc();
+    let alone = refusal_by(alloc, "ERR b")?;
+    let text = "the server answered ERR (refusal 13): ERR b";
+    let errors = "[(0, ServerError { code: \"ERR\", detail: Some(\"b\") })]";
+    is_refusal(&rt, alloc, alone, text, errors);
+    let two = two_errors(alloc)?;
+    let text =
+        "the server answered MOVED (refusal 13): command 0 of the pipeline: MOVED 1 n1:1, and 1 more errors";
+    let errors =
+        "[(0, ServerError { code: \"MOVED\", detail: Some(\"1 n1:1\") }), (2, ServerError { code: \"ERR\", detail: Some(\"b\") })]";
+    is_refusal(&rt, alloc, two, text, errors);
+    let text = "the command can not be sent so (refusal 12): command 3 of the pipeline";
+    is_refusal(&rt, alloc, RedisError::at_position(3), text, "[]");
     Ok(())
 }
 
-fn is_unreadable<R: Abort>(
-    rt: &R,
-    alloc: Global,
-    e: ParsingError,
-    text: &str,
-) -> Result<(), AllocError> {
-    let whole = format!(in alloc; "the reply has an unexpected type (refusal 16): {text}")?;
-    prints(rt, alloc, &RedisError::from(e), whole.as_str())
+fn is_unreadable<R: Abort>(rt: &R, alloc: Global, e: ParsingError, text: &str) {
+    prints(rt, alloc, &RedisError::from(e), text);
 }
 
 #[test]
 fn unreadable_replies(rt: HostRuntime) -> Result<(), Fail> {
     let alloc = rt.alloc();
-    is_unreadable(&rt, alloc, ParsingError::fixed("no text"), "no text")?;
-    is_unreadable(
-        &rt,
-        alloc,
-        ParsingError::numbered("no status: ", -2),
-        "no status: -2",
-    )?;
-    let made = ParsingError::from(String::from_str(alloc, "no number")?);
-    is_unreadable(&rt, alloc, made, "no number")?;
+    let made = format!(in alloc; "no number")?;
+    let text = "the reply has an unexpected type (refusal 16): no number";
+    is_unreadable(&rt, alloc, ParsingError::from(made), text);
+    let text = "the reply has an unexpected type (refusal 16): no text";
+    is_unreadable(&rt, alloc, ParsingError::fixed("no text"), text);
+    let numbered = ParsingError::numbered("no status: ", -2);
+    let text = "the reply has an unexpected type (refusal 16): no status: -2";
+    is_unreadable(&rt, alloc, numbered, text);
     Ok(())
 }

@@ -4,17 +4,11 @@
 #[cfg(test)]
 mod errors;
 #[cfg(test)]
-mod grammar;
-#[cfg(test)]
 mod known;
 #[cfg(test)]
 mod machine;
 #[cfg(test)]
 mod memory;
-#[cfg(test)]
-mod reading;
-#[cfg(test)]
-mod refusals;
 #[cfg(test)]
 mod texts;
 #[cfg(test)]

@@ -1,30 +1,30 @@
 //! Texts that are told, beside those that are wanted.
 use resp_core::*;
 use std::alloc::{AllocError, Global};
-use std::fmt::Display;
+use std::fmt::{Debug, Display};
 use std::process::Abort;
-use std::test::*;
 
-pub(crate) fn is_text<R: Abort>(rt: &R, found: String, wanted: &str) {
-    assert_eq!(rt; found.as_str(), wanted);
+pub(crate) fn shown<T: Debug + Drop>(alloc: Global, value: T) -> Result<String, AllocError> {
+    format!(in alloc; "{value:?}")
 }
 
-pub(crate) fn prints<R: Abort, T: Display>(
-    rt: &R,
-    alloc: Global,
-    shown: &T,
-    wanted: &str,
-) -> Result<(), AllocError> {
-    is_text(rt, shown.to_string(alloc)?, wanted);
-    Ok(())
+pub(crate) fn is_text<R: Abort, E: Drop>(rt: &R, found: Result<String, E>, wanted: &str) {
+    match found {
+        Ok(text) => assert_eq!(rt; text.as_str(), wanted),
+        Err(_) => assert!(rt; false, "there is no text"),
+    }
+}
+
+pub(crate) fn prints<R: Abort, T: Display>(rt: &R, alloc: Global, shown: &T, wanted: &str) {
+    is_text(rt, shown.to_string(alloc), wanted);
 }
 
 /// The server's error of this line.
-pub(crate) fn server_error_of(alloc: Global, line: &str) -> Result<ServerError, Fail> {
+pub(crate) fn server_error_of(alloc: Global, line: &str) -> Result<ServerError, RedisError> {
     let bytes = format!(in alloc; "-{line}\r\n")?;
     match parse_redis_value(alloc, bytes.as_bytes())? {
         Value::ServerError(error) => Ok(error),
-        _ => Err("no error".into()),
+        _ => Err(RedisError::from(Cause::UnexpectedReturnType)),
     }
 }
 

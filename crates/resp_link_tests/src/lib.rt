@@ -5,3 +5,5 @@
 mod links;
 #[cfg(test)]
 mod over_std;
+#[cfg(test)]
+mod values;

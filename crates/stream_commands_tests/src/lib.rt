@@ -6,9 +6,13 @@ mod add;
 #[cfg(test)]
 mod claims;
 #[cfg(test)]
+mod commands;
+#[cfg(test)]
 mod config;
 #[cfg(test)]
 mod read;
+#[cfg(test)]
+mod real_replies;
 #[cfg(test)]
 mod records;
 #[cfg(test)]

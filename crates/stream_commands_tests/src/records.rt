@@ -1,255 +1,283 @@
 //! Records by examples, from the bytes of replies.
+use crate::writing::text;
 use resp_args::{FromRedisValue, from_redis_value, from_redis_value_ref};
-use resp_core::{Value, parse_redis_value};
-use std::alloc::Global;
+use resp_core::{ParsingError, RedisError, parse_redis_value};
+use std::alloc::{AllocError, Global};
+use std::fmt::Debug;
 use std::process::Abort;
-use std::test::*;
 use stream_commands::*;
 
-fn reply(alloc: Global, bytes: &[u8]) -> Result<Value, Fail> {
-    match parse_redis_value(alloc, bytes) {
-        Ok(value) => Ok(value),
-        Err(_) => Err("no whole value")?,
+fn shown<T: Debug + Drop>(alloc: Global, value: T) -> Result<String, AllocError> {
+    format!(in alloc; "{value:?}")
+}
+
+// The record, or that the reply was refused, and whether for want of memory.
+fn told<T: Debug + Drop>(
+    alloc: Global,
+    outcome: Result<T, ParsingError>,
+) -> Result<String, AllocError> {
+    match outcome {
+        Ok(record) => shown(alloc, record),
+        Err(e) => text(alloc, if e.is_memory() { "memory" } else { "refused" }),
     }
 }
 
-// The record of the reply, after the lent form was read too.
-fn read<T: FromRedisValue>(alloc: Global, bytes: &[u8]) -> Result<T, Fail> {
-    let value = reply(alloc, bytes)?;
-    let lent: T = from_redis_value_ref(alloc, &value)?;
-    drop(lent);
-    Ok(from_redis_value(alloc, value)?)
+// What the owned form gives, and the lent one where that is another.
+fn read<T: FromRedisValue + Debug>(alloc: Global, bytes: &[u8]) -> Result<String, RedisError> {
+    let value = parse_redis_value(alloc, bytes)?;
+    let lent = told(alloc, from_redis_value_ref::<T>(alloc, &value))?;
+    let owned = told(alloc, from_redis_value::<T>(alloc, value))?;
+    if lent == owned {
+        return Ok(owned);
+    }
+    Ok(format!(in alloc; "{owned} but lent {lent}")?)
 }
 
-fn refuses<T: FromRedisValue>(alloc: Global, bytes: &[u8]) -> Result<(), Fail> {
-    match from_redis_value::<T>(alloc, reply(alloc, bytes)?) {
-        Ok(_) => Err("a reply was read")?,
-        Err(e) => {
-            if e.is_memory() {
-                Err("memory was refused")?
-            } else {
-                Ok(())
-            }
-        }
-    }
-}
-
-// The entry is 1-0 with the field f, which is v.
-fn is_first<R: Abort>(entry: &StreamId, rt: &R) -> Result<(), Fail> {
-    assert_eq!(rt; entry.id.as_str(), "1-0");
-    assert_eq!(rt; entry.len(), 1);
-    assert!(rt; entry.contains_key("f"));
-    let found = entry.get::<String>("f")?;
-    match found {
-        Some(text) => assert_eq!(rt; text.as_str(), "v"),
-        None => Err("no field f")?,
-    }
-    Ok(())
+// The reply is read as the record with this text.
+fn reads<T: FromRedisValue + Debug, R: Abort>(rt: &R, alloc: Global, bytes: &[u8], expected: &str) {
+    is_text(rt, read::<T>(alloc, bytes), expected);
 }
 
 const CLAIMED: &[u8] =
     b"*1\r\n*2\r\n$1\r\na\r\n*1\r\n*4\r\n$3\r\n1-0\r\n*2\r\n$1\r\nf\r\n$1\r\nv\r\n:5\r\n:1\r\n";
 
+const CLAIMED_TEXT: &str =
+    "StreamReadReply { keys: [StreamKey { key: \"a\", ids: [StreamId { id: \"1-0\", map: {\"f\": BulkString([118])}, milliseconds_elapsed_from_delivery: Some(5), delivered_count: Some(1) }] }] }";
+
+// The same with a null in place of the number of deliveries.
 const WITH_A_NULL: &[u8] =
     b"*1\r\n*2\r\n$1\r\na\r\n*1\r\n*4\r\n$3\r\n1-0\r\n*2\r\n$1\r\nf\r\n$1\r\nv\r\n:5\r\n$-1\r\n";
 
+const TWO_ENTRIES_TEXT: &str =
+    "StreamReadReply { keys: [StreamKey { key: \"a\", ids: [StreamId { id: \"1-0\", map: {\"f\": BulkString([118])}, milliseconds_elapsed_from_delivery: None, delivered_count: None }, StreamId { id: \"5\", map: {}, milliseconds_elapsed_from_delivery: None, delivered_count: None }] }] }";
+
+const RANGE: &[u8] = b"*1\r\n*2\r\n$3\r\n1-0\r\n*2\r\n$1\r\nf\r\n$1\r\nv\r\n";
+
+// One range in three spellings.
+const RANGES: &[&[u8]] = &[
+    RANGE,
+    b"*1\r\n*2\r\n$3\r\n1-0\r\n%1\r\n$1\r\nf\r\n$1\r\nv\r\n",
+    b"%1\r\n$3\r\n1-0\r\n%1\r\n$1\r\nf\r\n$1\r\nv\r\n",
+];
+
+const RANGE_TEXT: &str =
+    "StreamRangeReply { ids: [StreamId { id: \"1-0\", map: {\"f\": BulkString([118])}, milliseconds_elapsed_from_delivery: None, delivered_count: None }] }";
+
 #[test]
-fn claim_form(rt: HostRuntime) -> Result<(), Fail> {
+fn entries(rt: HostRuntime) {
     let alloc = rt.alloc();
-    let read: StreamReadReply = read(alloc, CLAIMED)?;
-    assert_eq!(rt; read.keys.len(), 1);
-    for row in read.keys.iter() {
-        assert_eq!(rt; row.key.as_str(), "a");
-        assert_eq!(rt; row.ids.len(), 1);
-        for entry in row.ids.iter() {
-            is_first(entry, &rt)?;
-            assert!(rt; entry.milliseconds_elapsed_from_delivery == Some(5));
-            assert!(rt; entry.delivered_count == Some(1));
-        }
+    reads::<StreamReadReply, _>(&rt, alloc, CLAIMED, CLAIMED_TEXT);
+    reads::<StreamReadReply, _>(&rt, alloc, WITH_A_NULL, TWO_ENTRIES_TEXT);
+    for bytes in RANGES {
+        reads::<StreamRangeReply, _>(&rt, alloc, bytes, RANGE_TEXT);
     }
-    Ok(())
+    reads::<StreamRangeReply, _>(&rt, alloc, b":1\r\n", "refused");
+    let claim =
+        "StreamClaimReply { ids: [StreamId { id: \"1-0\", map: {\"f\": BulkString([118])}, milliseconds_elapsed_from_delivery: None, delivered_count: None }] }";
+    reads::<StreamClaimReply, _>(&rt, alloc, RANGE, claim);
+    reads::<StreamClaimReply, _>(&rt, alloc, b"*1\r\n$3\r\n1-0\r\n", "refused");
 }
+
+const CLAIMS: &[(&[u8], &str)] = &[
+    (b"*1\r\n$3\r\n0-0\r\n", "refused"),
+    (
+        b"*3\r\n$3\r\n0-0\r\n*0\r\n*0\r\n",
+        "StreamAutoClaimReply { next_stream_id: \"0-0\", claimed: [], deleted_ids: [], invalid_entries: false }",
+    ),
+    (
+        b"*3\r\n$3\r\n5-0\r\n*1\r\n$-1\r\n*0\r\n",
+        "StreamAutoClaimReply { next_stream_id: \"5-0\", claimed: [], deleted_ids: [], invalid_entries: true }",
+    ),
+    (
+        b"*2\r\n$3\r\n5-0\r\n*2\r\n$3\r\n1-0\r\n$-1\r\n",
+        "StreamAutoClaimReply { next_stream_id: \"5-0\", claimed: [StreamId { id: \"1-0\", map: {}, milliseconds_elapsed_from_delivery: None, delivered_count: None }], deleted_ids: [], invalid_entries: true }",
+    ),
+];
 
 #[test]
-fn standard_form_first(rt: HostRuntime) -> Result<(), Fail> {
-    let alloc = rt.alloc();
-    let read: StreamReadReply = read(alloc, WITH_A_NULL)?;
-    assert_eq!(rt; read.keys.len(), 1);
-    for row in read.keys.iter() {
-        match row.ids.as_slice() {
-            [first, second] => {
-                is_first(first, &rt)?;
-                assert!(rt; first.delivered_count == None);
-                assert_eq!(rt; second.id.as_str(), "5");
-                assert!(rt; second.is_empty());
-            }
-            _ => Err("not two entries")?,
-        }
-    }
-    Ok(())
-}
-
-#[test]
-fn one_range_in_three_spellings(rt: HostRuntime) -> Result<(), Fail> {
-    let alloc = rt.alloc();
-    for bytes in [
-        b"*1\r\n*2\r\n$3\r\n1-0\r\n*2\r\n$1\r\nf\r\n$1\r\nv\r\n".as_slice(),
-        b"*1\r\n*2\r\n$3\r\n1-0\r\n%1\r\n$1\r\nf\r\n$1\r\nv\r\n",
-        b"%1\r\n$3\r\n1-0\r\n%1\r\n$1\r\nf\r\n$1\r\nv\r\n",
-    ] {
-        let range: StreamRangeReply = read(alloc, bytes)?;
-        assert_eq!(rt; range.ids.len(), 1);
-        for entry in range.ids.iter() {
-            is_first(entry, &rt)?;
-        }
-    }
-    refuses::<StreamRangeReply>(alloc, b":1\r\n")?;
-    refuses::<StreamClaimReply>(alloc, b"*1\r\n$3\r\n1-0\r\n")
-}
-
-#[test]
-fn automatic_claims(rt: HostRuntime) -> Result<(), Fail> {
-    let alloc = rt.alloc();
-    refuses::<StreamAutoClaimReply>(alloc, b"*1\r\n$3\r\n0-0\r\n")?;
-    let none: StreamAutoClaimReply = read(alloc, b"*3\r\n$3\r\n0-0\r\n*0\r\n*0\r\n")?;
-    assert!(rt; none.claimed.is_empty());
-    assert!(rt; !none.invalid_entries);
-    let null: StreamAutoClaimReply = read(alloc, b"*3\r\n$3\r\n5-0\r\n*1\r\n$-1\r\n*0\r\n")?;
-    assert!(rt; null.claimed.is_empty());
-    assert!(rt; null.invalid_entries);
-    let one: StreamAutoClaimReply = read(alloc, b"*2\r\n$3\r\n5-0\r\n*2\r\n$3\r\n1-0\r\n$-1\r\n")?;
-    assert_eq!(rt; one.next_stream_id.as_str(), "5-0");
-    assert_eq!(rt; one.claimed.len(), 1);
-    assert!(rt; one.deleted_ids.is_empty());
-    assert!(rt; one.invalid_entries);
-    Ok(())
-}
-
-#[test]
-fn pending(rt: HostRuntime) -> Result<(), Fail> {
-    let alloc = rt.alloc();
-    let none: StreamPendingReply = read(alloc, b"*4\r\n:0\r\n$-1\r\n$-1\r\n*-1\r\n")?;
-    assert_eq!(rt; none.count(), 0);
-    let two: StreamPendingReply = read(
-        alloc,
-        b"*4\r\n:2\r\n$3\r\n1-0\r\n$3\r\n2-0\r\n*2\r\n*2\r\n$1\r\nc\r\n$1\r\n2\r\n$-1\r\n",
-    )?;
-    match two {
-        StreamPendingReply::Data(data) => {
-            assert_eq!(rt; data.count, 2);
-            assert_eq!(rt; data.end_id.as_str(), "2-0");
-            assert_eq!(rt; data.consumers.len(), 1);
-            for consumer in data.consumers.iter() {
-                assert_eq!(rt; consumer.name.as_str(), "c");
-                assert_eq!(rt; consumer.pending, 2);
-                assert_eq!(rt; consumer.idle, 0);
-            }
-        }
-        StreamPendingReply::Empty => Err("nothing pending")?,
-    }
-    refuses::<StreamPendingCountReply>(alloc, b"*1\r\n*4\r\n$3\r\n1-0\r\n$1\r\nc\r\n:-1\r\n:1\r\n")
-}
-
-#[test]
-fn information(rt: HostRuntime) -> Result<(), Fail> {
-    let alloc = rt.alloc();
-    let info: StreamInfoStreamReply = read(
-        alloc,
-        b"%1\r\n$11\r\nfirst-entry\r\n*2\r\n$3\r\n1-0\r\n*2\r\n$1\r\nf\r\n$1\r\nv\r\n",
-    )?;
-    is_first(&info.first_entry, &rt)?;
-    assert_eq!(rt; info.length, 0);
-    assert!(rt; info.last_entry.is_empty());
-    refuses::<StreamInfoGroupsReply>(alloc, b"*1\r\n:1\r\n")?;
-    refuses::<StreamInfoConsumersReply>(alloc, b"*1\r\n:1\r\n")
-}
-
-#[test]
-fn status_codes(rt: HostRuntime) -> Result<(), Fail> {
-    let alloc = rt.alloc();
-    let codes: Vec<XDelExStatusCode> = read(alloc, b"*2\r\n:1\r\n:-1\r\n")?;
-    match codes.as_slice() {
-        [first, second] => {
-            assert!(rt; *first == XDelExStatusCode::Deleted);
-            assert!(rt; *second == XDelExStatusCode::IdNotFound);
-        }
-        _ => Err("not two codes")?,
-    }
-    refuses::<Vec<XDelExStatusCode>>(alloc, b"*2\r\n:3\r\n:-1\r\n")?;
-    let code: XAckDelStatusCode = read(alloc, b":2\r\n")?;
-    assert!(rt; code == XAckDelStatusCode::AcknowledgedNotDeletedStillReferenced);
-    Ok(())
-}
-
-// The text with which a reply is refused.
-fn refusal<T: FromRedisValue>(alloc: Global, reply: Value) -> Result<String, Fail> {
-    match from_redis_value::<T>(alloc, reply) {
-        Ok(_) => Err("a reply was read")?,
-        Err(e) => Ok(format!(in alloc; "{e}")?),
+fn automatic_claims(rt: HostRuntime) {
+    for (bytes, expected) in CLAIMS {
+        reads::<StreamAutoClaimReply, _>(&rt, rt.alloc(), bytes, expected);
     }
 }
 
+const TWO_PENDING: &[u8] =
+    b"*4\r\n:2\r\n$3\r\n1-0\r\n$3\r\n2-0\r\n*2\r\n*2\r\n$1\r\nc\r\n$1\r\n2\r\n$-1\r\n";
+
+const TWO_PENDING_TEXT: &str =
+    "Data(StreamPendingData { count: 2, start_id: \"1-0\", end_id: \"2-0\", consumers: [StreamInfoConsumer { name: \"c\", pending: 2, idle: 0 }] })";
+
 #[test]
-fn status_numbers_and_texts(rt: HostRuntime) -> Result<(), Fail> {
+fn pending(rt: HostRuntime) {
     let alloc = rt.alloc();
-    assert_eq!(rt; XDelExStatusCode::IdNotFound as i64, -1);
-    assert_eq!(rt; XDelExStatusCode::Deleted as i64, 1);
-    assert_eq!(rt;
+    let none = b"*4\r\n:0\r\n$-1\r\n$-1\r\n*-1\r\n";
+    reads::<StreamPendingReply, _>(&rt, alloc, none, "Empty");
+    reads::<StreamPendingReply, _>(&rt, alloc, TWO_PENDING, TWO_PENDING_TEXT);
+    let one = b"*1\r\n*4\r\n$3\r\n1-0\r\n$1\r\nc\r\n:7\r\n:1\r\n";
+    let text =
+        "StreamPendingCountReply { ids: [StreamPendingId { id: \"1-0\", consumer: \"c\", last_delivered_ms: 7, times_delivered: 1 }] }";
+    reads::<StreamPendingCountReply, _>(&rt, alloc, one, text);
+    let negative = b"*1\r\n*4\r\n$3\r\n1-0\r\n$1\r\nc\r\n:-1\r\n:1\r\n";
+    reads::<StreamPendingCountReply, _>(&rt, alloc, negative, "refused");
+}
+
+const FIRST_ENTRY: &[u8] =
+    b"%1\r\n$11\r\nfirst-entry\r\n*2\r\n$3\r\n1-0\r\n*2\r\n$1\r\nf\r\n$1\r\nv\r\n";
+
+const FIRST_ENTRY_TEXT: &str =
+    "StreamInfoStreamReply { last_generated_id: \"\", radix_tree_keys: 0, groups: 0, length: 0, first_entry: StreamId { id: \"1-0\", map: {\"f\": BulkString([118])}, milliseconds_elapsed_from_delivery: None, delivered_count: None }, last_entry: StreamId { id: \"\", map: {}, milliseconds_elapsed_from_delivery: None, delivered_count: None } }";
+
+const IDEMPOTENT: &[u8] =
+    b"*6\r\n$13\r\nidmp-duration\r\n:100\r\n$12\r\npids-tracked\r\n$1\r\n3\r\n$6\r\nlength\r\n:7\r\n";
+
+const IDEMPOTENT_TEXT: &str =
+    "StreamInfoStreamReplyWithIdempotency { base: StreamInfoStreamReply { last_generated_id: \"\", radix_tree_keys: 0, groups: 0, length: 7, first_entry: StreamId { id: \"\", map: {}, milliseconds_elapsed_from_delivery: None, delivered_count: None }, last_entry: StreamId { id: \"\", map: {}, milliseconds_elapsed_from_delivery: None, delivered_count: None } }, idmp_duration: 100, idmp_maxsize: 0, pids_tracked: 3, iids_tracked: 0, iids_added: 0, iids_duplicates: 0 }";
+
+#[test]
+fn information(rt: HostRuntime) {
+    let alloc = rt.alloc();
+    reads::<StreamInfoStreamReply, _>(&rt, alloc, FIRST_ENTRY, FIRST_ENTRY_TEXT);
+    reads::<StreamInfoStreamReplyWithIdempotency, _>(&rt, alloc, IDEMPOTENT, IDEMPOTENT_TEXT);
+    let consumer = b"*1\r\n%2\r\n$4\r\nname\r\n$1\r\nc\r\n$7\r\npending\r\n:2\r\n";
+    let text =
+        "StreamInfoConsumersReply { consumers: [StreamInfoConsumer { name: \"c\", pending: 2, idle: 0 }] }";
+    reads::<StreamInfoConsumersReply, _>(&rt, alloc, consumer, text);
+    let group =
+        b"*1\r\n*6\r\n$4\r\nname\r\n$1\r\ng\r\n$12\r\nentries-read\r\n:4\r\n$3\r\nlag\r\n$-1\r\n";
+    let text =
+        "StreamInfoGroupsReply { groups: [StreamInfoGroup { name: \"g\", consumers: 0, pending: 0, last_delivered_id: \"\", entries_read: Some(4), lag: None }] }";
+    reads::<StreamInfoGroupsReply, _>(&rt, alloc, group, text);
+    reads::<StreamInfoGroupsReply, _>(&rt, alloc, b"*1\r\n:1\r\n", "refused");
+}
+
+#[test]
+fn status_codes(rt: HostRuntime) {
+    let alloc = rt.alloc();
+    let codes = b"*3\r\n:1\r\n:-1\r\n:2\r\n";
+    let text = "[Deleted, IdNotFound, NotDeletedUnacknowledgedOrStillReferenced]";
+    reads::<Vec<XDelExStatusCode>, _>(&rt, alloc, codes, text);
+    let text = "[AcknowledgedAndDeleted, IdNotFound, AcknowledgedNotDeletedStillReferenced]";
+    reads::<Vec<XAckDelStatusCode>, _>(&rt, alloc, codes, text);
+    reads::<Vec<XDelExStatusCode>, _>(&rt, alloc, b"*1\r\n:3\r\n", "refused");
+    assert!(rt; XDelExStatusCode::Deleted != XDelExStatusCode::IdNotFound);
+    assert!(rt; XAckDelStatusCode::IdNotFound == XAckDelStatusCode::IdNotFound);
+}
+
+// The text with which a reply is refused, or the record.
+fn refusal<T: FromRedisValue + Debug>(alloc: Global, bytes: &[u8]) -> Result<String, RedisError> {
+    let reply = parse_redis_value(alloc, bytes)?;
+    Ok(match from_redis_value::<T>(alloc, reply) {
+        Ok(record) => shown(alloc, record)?,
+        Err(e) => e.to_string(alloc)?,
+    })
+}
+
+fn is_text<R: Abort, E: Drop>(rt: &R, found: Result<String, E>, expected: &str) {
+    match found {
+        Ok(text) => assert_eq!(rt; text.as_str(), expected),
+        Err(_) => assert!(rt; false, "there is no text"),
+    }
+}
+
+// The value is shown so.
+fn shows<T: Debug + Drop, R: Abort>(rt: &R, alloc: Global, value: T, expected: &str) {
+    is_text(rt, shown(alloc, value), expected);
+}
+
+#[test]
+fn status_numbers_and_texts(rt: HostRuntime) {
+    let alloc = rt.alloc();
+    let numbers = [
+        XDelExStatusCode::IdNotFound as i64,
+        XDelExStatusCode::Deleted as i64,
         XDelExStatusCode::NotDeletedUnacknowledgedOrStillReferenced as i64,
-        2
-    );
-    assert_eq!(rt; XAckDelStatusCode::IdNotFound as i64, -1);
-    assert_eq!(rt; XAckDelStatusCode::AcknowledgedAndDeleted as i64, 1);
-    assert_eq!(rt;
+        XAckDelStatusCode::IdNotFound as i64,
+        XAckDelStatusCode::AcknowledgedAndDeleted as i64,
         XAckDelStatusCode::AcknowledgedNotDeletedStillReferenced as i64,
-        2
-    );
-    let number = refusal::<XDelExStatusCode>(alloc, Value::Int(3))?;
-    assert_eq!(rt; number.as_str(), "Invalid XDelExStatusCode status code: 3");
-    let null = refusal::<XAckDelStatusCode>(alloc, Value::Nil)?;
-    assert_eq!(rt;
-        null.as_str(),
-        "Response type not XAckDelStatusCode compatible"
-    );
-    Ok(())
+    ];
+    shows(&rt, alloc, numbers, "[-1, 1, 2, -1, 1, 2]");
+    let number = refusal::<XDelExStatusCode>(alloc, b":3\r\n");
+    is_text(&rt, number, "Invalid XDelExStatusCode status code: 3");
+    let null = refusal::<XAckDelStatusCode>(alloc, b"_\r\n");
+    is_text(&rt, null, "Response type not XAckDelStatusCode compatible");
+}
+
+const NO_STREAM_TEXT: &str =
+    "StreamInfoStreamReply { last_generated_id: \"\", radix_tree_keys: 0, groups: 0, length: 0, first_entry: StreamId { id: \"\", map: {}, milliseconds_elapsed_from_delivery: None, delivered_count: None }, last_entry: StreamId { id: \"\", map: {}, milliseconds_elapsed_from_delivery: None, delivered_count: None } }";
+
+#[test]
+fn empty_records(rt: HostRuntime) {
+    let alloc = rt.alloc();
+    let reply = StreamReadReply::empty(alloc);
+    shows(&rt, alloc, reply, "StreamReadReply { keys: [] }");
+    let row = "StreamKey { key: \"\", ids: [] }";
+    shows(&rt, alloc, StreamKey::empty(alloc), row);
+    let reply = StreamRangeReply::empty(alloc);
+    shows(&rt, alloc, reply, "StreamRangeReply { ids: [] }");
+    let reply = StreamClaimReply::empty(alloc);
+    shows(&rt, alloc, reply, "StreamClaimReply { ids: [] }");
+    let reply = StreamAutoClaimReply::empty(alloc);
+    let text =
+        "StreamAutoClaimReply { next_stream_id: \"\", claimed: [], deleted_ids: [], invalid_entries: false }";
+    shows(&rt, alloc, reply, text);
+    shows(&rt, alloc, StreamPendingReply::empty(), "Empty");
+    let text = "StreamPendingData { count: 0, start_id: \"\", end_id: \"\", consumers: [] }";
+    shows(&rt, alloc, StreamPendingData::empty(alloc), text);
+    let reply = StreamPendingCountReply::empty(alloc);
+    shows(&rt, alloc, reply, "StreamPendingCountReply { ids: [] }");
+    let text =
+        "StreamPendingId { id: \"\", consumer: \"\", last_delivered_ms: 0, times_delivered: 0 }";
+    shows(&rt, alloc, StreamPendingId::empty(alloc), text);
 }
 
 #[test]
-fn empty_records(rt: HostRuntime) -> Result<(), Fail> {
+fn empty_information(rt: HostRuntime) {
     let alloc = rt.alloc();
-    assert!(rt; StreamReadReply::empty(alloc).keys.is_empty());
-    assert!(rt; StreamKey::empty(alloc).ids.is_empty());
-    assert!(rt; StreamRangeReply::empty(alloc).ids.is_empty());
-    assert!(rt; StreamClaimReply::empty(alloc).ids.is_empty());
-    assert!(rt; StreamAutoClaimReply::empty(alloc).claimed.is_empty());
-    assert!(rt; StreamPendingCountReply::empty(alloc).ids.is_empty());
-    assert!(rt; StreamInfoConsumersReply::empty(alloc).consumers.is_empty());
-    assert!(rt; StreamInfoGroupsReply::empty(alloc).groups.is_empty());
-    assert_eq!(rt; StreamPendingReply::empty().count(), 0);
-    assert_eq!(rt; StreamPendingData::empty(alloc).count, 0);
-    assert_eq!(rt; StreamPendingId::empty(alloc).times_delivered, 0);
-    assert_eq!(rt; StreamInfoConsumer::empty(alloc).idle, 0);
-    assert_eq!(rt; StreamInfoGroup::empty(alloc).pending, 0);
-    assert_eq!(rt; StreamInfoStreamReply::empty(alloc).length, 0);
-    assert_eq!(rt;
-        StreamInfoStreamReplyWithIdempotency::empty(alloc).iids_added,
-        0
-    );
-    Ok(())
+    let reply = StreamInfoConsumersReply::empty(alloc);
+    let text = "StreamInfoConsumersReply { consumers: [] }";
+    shows(&rt, alloc, reply, text);
+    let text = "StreamInfoConsumer { name: \"\", pending: 0, idle: 0 }";
+    shows(&rt, alloc, StreamInfoConsumer::empty(alloc), text);
+    let reply = StreamInfoGroupsReply::empty(alloc);
+    shows(&rt, alloc, reply, "StreamInfoGroupsReply { groups: [] }");
+    let text =
+        "StreamInfoGroup { name: \"\", consumers: 0, pending: 0, last_delivered_id: \"\", entries_read: None, lag: None }";
+    shows(&rt, alloc, StreamInfoGroup::empty(alloc), text);
+    let reply = StreamInfoStreamReply::empty(alloc);
+    shows(&rt, alloc, reply, NO_STREAM_TEXT);
+    let iids_added = StreamInfoStreamReplyWithIdempotency::empty(alloc).iids_added;
+    assert_eq!(rt; iids_added, 0);
+}
+
+fn copy_text(alloc: Global, bytes: &[u8]) -> Result<String, RedisError> {
+    let value = parse_redis_value(alloc, bytes)?;
+    let reply: StreamReadReply = from_redis_value(alloc, value)?;
+    Ok(shown(alloc, reply.clone()?)?)
 }
 
 #[test]
-fn copies(rt: HostRuntime) -> Result<(), Fail> {
-    let alloc = rt.alloc();
-    let read: StreamReadReply = read(alloc, CLAIMED)?;
-    let copy = read.clone()?;
-    assert_eq!(rt; copy.keys.len(), 1);
-    for row in copy.keys.iter() {
-        assert_eq!(rt; row.key.as_str(), "a");
-        assert_eq!(rt; row.ids.len(), 1);
-        for entry in row.ids.iter() {
-            is_first(entry, &rt)?;
-        }
+fn copies(rt: HostRuntime) {
+    is_text(&rt, copy_text(rt.alloc(), CLAIMED), CLAIMED_TEXT);
+}
+
+// What an entry tells of the field `f`, and how many fields it has.
+fn field_text(alloc: Global, entry: &StreamId) -> Result<String, AllocError> {
+    let field = entry.get::<String>("f");
+    let has_it = entry.contains_key("f");
+    shown(alloc, (field, has_it, entry.len(), entry.is_empty()))
+}
+
+fn first_field_text(alloc: Global, bytes: &[u8]) -> Result<String, RedisError> {
+    let value = parse_redis_value(alloc, bytes)?;
+    let range: StreamRangeReply = from_redis_value(alloc, value)?;
+    match range.ids.first() {
+        Some(entry) => Ok(field_text(alloc, entry)?),
+        None => Ok(text(alloc, "no entry")?),
     }
-    Ok(())
+}
+
+#[test]
+fn fields(rt: HostRuntime) {
+    let found = first_field_text(rt.alloc(), RANGE);
+    is_text(&rt, found, "(Ok(Some(\"v\")), true, 1, false)");
 }
