@@ -1,3 +1,5 @@
 pub mod LinkLaws
 pub mod ServerLaws
 pub mod LogLaws
+pub mod OneSlot
+pub mod Deletions

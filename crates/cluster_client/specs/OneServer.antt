@@ -5,5 +5,6 @@ pub mod Honest
 pub mod Commands
 pub mod Headline
 pub mod OneCall
+pub mod Played
 pub mod Laws
 pub mod Respelling

@@ -17,6 +17,7 @@ ghost use Rattle.cluster_client.specs.Links.Chains.{ChainMade};
 ghost use Rattle.cluster_client.specs.Links.Converted.{ValueMade, refresh_answer, value_answer};
 ghost use Rattle.cluster_client.specs.Links.Happened.{CallMade, Happened, client_of};
 ghost use Rattle.cluster_client.specs.Links.Dispatches.{IsPlaced, IsPlanned, dispatch_of, prepared_by};
+ghost use Rattle.cluster_client.specs.Links.Orders.{command_call, routes_in_order};
 ghost use Rattle.cluster_client.specs.Links.PartRuns.{PartsMade};
 ghost use Rattle.cluster_client.specs.Links.Places.{IsOpenAt};
 ghost use Rattle.cluster_client.specs.Links.Turns.{hop_to};
@@ -24,10 +25,13 @@ ghost use Rattle.cluster_client.specs.Links.Whole.{whole};
 ghost use Rattle.cluster_client.specs.Links.Run.{with_log};
 ghost use Rattle.cluster_client.specs.Links.World.{addresses_of, has_repeats, link_at, new_world, nodes, tree_result, tree_results};
 
+mod ordered;
+
 use crate::asked::{Asked, sent_again};
 use crate::dispatch::{Dispatch, Prepared, dispatches};
 use crate::exchange::exchange_one;
 use crate::links::Links;
+use crate::order::{fits_order, prepared_in_order};
 use crate::place::Place;
 use crate::reply::{needs_refresh, reply_of_parts};
 use crate::route::{Parts, parts_of};
@@ -45,13 +49,13 @@ use std::alloc::{AllocError, Global};
 /// time, and each tells what it sent by `asked`.
 #[derive(Drop)]
 pub struct ClusterClient<L> {
-    links: Links<L>,
-    read_only: Vec<Vec<u8>>,
+    pub(crate) links: Links<L>,
+    pub(crate) read_only: Vec<Vec<u8>>,
     budget: u16,
-    slots: SlotMap,
-    needs_refresh: bool,
-    asked: Vec<Asked>,
-    picked: Vec<NodeAddress>,
+    pub(crate) slots: SlotMap,
+    pub(crate) needs_refresh: bool,
+    pub(crate) asked: Vec<Asked>,
+    pub(crate) picked: Vec<NodeAddress>,
 }
 
 impl<L: ConnectionLike + Drop> ClusterClient<L> {
@@ -156,8 +160,8 @@ impl<L: ConnectionLike + Drop> ClusterClient<L> {
         Ok(from_redis_value(alloc, reply)?)
     }
 
-    /// The one reply to a command, made of those of its parts.
-    fn reply_to(
+    /// The one reply to a command, made of those of its parts, which are sent as they first appear.
+    pub(crate) fn reply_to(
         &mut self,
         alloc: Global,
         cmd: &Cmd,
@@ -166,28 +170,48 @@ impl<L: ConnectionLike + Drop> ClusterClient<L> {
     ) -> Result<Value, RedisError>
         ensures { CallMade (option_map (λ s. admits s.now) strategy.entry) (whole L.seen self.old) (whole L.seen self.new) (Query cmd.now number) (value_answer (tree_result view result)) }
     {
-        let Prepared { dispatches, split } = self.prepare(alloc, cmd, number, strategy)?;
+        self.reply_in_order(alloc, cmd, None, number, strategy)
+    }
+
+    /// The same of a command whose parts are sent in the order given, where one is.
+    pub(crate) fn reply_in_order(
+        &mut self,
+        alloc: Global,
+        cmd: &Cmd,
+        order: Option<&[usize]>,
+        number: u64,
+        strategy: Option<&dyn ReadRoutingStrategy>,
+    ) -> Result<Value, RedisError>
+        ensures { CallMade (option_map (λ s. admits s.now) strategy.entry) (whole L.seen self.old) (whole L.seen self.new)
+            (command_call cmd.now (option_map (λ o. o.now) order.entry) number) (value_answer (tree_result view result)) }
+    {
+        let Prepared { dispatches, split } = self.prepare(alloc, cmd, order, number, strategy)?;
         let replies = self.follow_all(alloc, dispatches)?;
         reply_of_parts(alloc, split, replies)
     }
 
-    /// What is done for a command before its first byte: its parts, and where each of them goes first.
+    /// What is done for a command before its first byte: its parts, where each of them goes first, and
+    /// the order in which they are sent.
     fn prepare(
         &mut self,
         alloc: Global,
         cmd: &Cmd,
+        order: Option<&[usize]>,
         number: u64,
         strategy: Option<&dyn ReadRoutingStrategy>,
     ) -> Result<Prepared, RedisError>
         ensures stays { whole L.seen self.new ≡ with_log (whole L.seen self.old) [] (addresses self.new.picked.items) }
-        ensures planned { result ≢ Err (by_cause Memory) → IsPlanned (option_map (λ s. admits s.now) strategy.entry) (client_of (whole L.seen self.old)) (Query cmd.now number)
+        ensures planned { result ≢ Err (by_cause Memory) → IsPlanned (option_map (λ s. admits s.now) strategy.entry) (client_of (whole L.seen self.old)) (command_call cmd.now (option_map (λ o. o.now) order.entry) number)
             (addresses self.new.picked.items) (prepared_by result) }
         ensures placed { IfOk result (λ p. AllByRecursion (IsPlaced (nodes L.seen self.new.links.nodes.items)) p.dispatches.items) }
-        ensures split { IfOk result (λ p. option_map shown_split p.split ≡ parts_by_place cmd.now.args (texts self.new.read_only.items)) }
+        ensures split { IfOk result (λ p. option_map shown_split p.split ≡ option_map (routes_in_order (option_map (λ o. o.now) order.entry)) (parts_by_place cmd.now.args (texts self.new.read_only.items))) }
     {
         self.asked = Vec::new(alloc);
         self.picked = Vec::new(alloc);
         let Parts { list, split } = parts_of(alloc, cmd, &self.read_only, number)?;
+        if !fits_order(alloc, order, list.len())? {
+            return Err(RedisError::from(Cause::BadOrder));
+        }
         let dispatches = dispatches(
             &self.links,
             alloc,
@@ -196,7 +220,7 @@ impl<L: ConnectionLike + Drop> ClusterClient<L> {
             strategy,
             &mut self.picked,
         )?;
-        Ok(Prepared { dispatches, split })
+        Ok(prepared_in_order(alloc, Prepared { dispatches, split }, order)?)
     }
 
     /// The replies to parts that are sent one after another, each behind its redirects, up to the first

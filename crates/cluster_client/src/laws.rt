@@ -4,6 +4,7 @@ ghost use Rattle.cluster_client.specs.Links.Leaves.{UnaskedNodesStay};
 ghost use Rattle.cluster_client.specs.OneServer.Headline.{AnswersAndKeyspace, Refusals};
 ghost use Rattle.cluster_client.specs.OneServer.Laws.{HistoriesAreBySlot, EachPartIsAnsweredOnce, GapsNameNoKey, NodesKeepHistories, NodesOnceAscending, OneServerIsDetermined, OnlyRedirectsRepeat, PartsKeepHistories, RequestsAreBounded, RunsAgree};
 ghost use Rattle.cluster_client.specs.OneServer.OneCall.{OneCallAsOnOneServer, RepliesDetermineLogs};
+ghost use Rattle.cluster_client.specs.OneServer.Played.{PlayedAsOnOneServer};
 ghost use Rattle.cluster_client.specs.OneServer.Respelling.{RespelledRuns};
 
 /// A call leaves the links of all nodes that its log does not name, also where memory is refused.
@@ -36,6 +37,13 @@ pub fn answers_and_keyspace()
 /// its command on one server.
 pub fn one_call_as_on_one_server()
     ensures { OneCallAsOnOneServer }
+{}
+
+/// What `play` ensures makes its calls, played over honest nodes, as good as their commands on one
+/// server that is given them unsplit, one after another: the answers are that server's, and so is the
+/// keyspace.
+pub fn played_as_on_one_server()
+    ensures { PlayedAsOnOneServer }
 {}
 
 /// Legal logs of a call for equal replies are equal.

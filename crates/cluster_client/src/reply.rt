@@ -1,13 +1,13 @@
 //! What a reply is, and the reply to a command from those of its parts.
-ghost use Rattle.std.specs.Prelude.{◌≡◌, ◌||◌, ℕ, List, length, map, option_map, slice_get, Ok};
+ghost use Rattle.std.specs.Prelude.{◌≡◌, ◌||◌, ℕ, List, Option, length, map, option_map, slice_get, Ok};
 ghost use Rattle.resp_args.specs.Command.{Command};
 ghost use Rattle.resp_args.specs.Packed.{sent};
 ghost use Rattle.cluster_routing.specs.Address.{Address};
 ghost use Rattle.cluster_routing.specs.Info.{shown_split};
 ghost use Rattle.cluster_routing.specs.Policies.{or_bad_reply};
 ghost use Rattle.cluster_routing.specs.Split.{parts_by_place};
-ghost use Rattle.cluster_client.specs.Calls.Call.{Query};
 ghost use Rattle.cluster_client.specs.Calls.Plan.{Client, Dispatch, plan};
+ghost use Rattle.cluster_client.specs.Links.Orders.{command_call, routes_in_order};
 ghost use Rattle.cluster_client.specs.Links.PartRuns.{IsMadeOfParts};
 ghost use Rattle.cluster_client.specs.Links.World.{tree_result};
 ghost use Rattle.resp_core.specs.View.{view};
@@ -19,7 +19,7 @@ use resp_core::{Cause, RedisError, ServerErrorKind, Value};
 use std::alloc::Global;
 
 /// Whether a reply is itself MOVED.
-fn is_moved(reply: &Value) -> bool
+pub(crate) fn is_moved(reply: &Value) -> bool
     ensures { result ≡ is_moved_sort (sort_of (view reply.now)) }
 {
     match reply {
@@ -35,8 +35,8 @@ pub(crate) fn needs_refresh(flag: bool, reply: &Value) -> bool
     flag || is_moved(reply)
 }
 
-/// The reply to a command from those of its parts, in the order in which these first appear. `split`
-/// says how a split command is cut.
+/// The reply to a command from those of its parts, in the order of sending. `split` says how a split
+/// command is cut, with its routes in that order.
 ///
 /// # Errors
 /// `UnexpectedReturnType` where no reply can be made of them; `Memory`.
@@ -45,8 +45,8 @@ pub(crate) fn reply_of_parts(
     split: Option<SplitParts>,
     replies: Vec<Value>,
 ) -> Result<Value, RedisError>
-    ensures { (client : Client) (picks : List Address) (command : Command) (number : ℕ) (ds : List Dispatch) → plan client picks (Query command number) ≡ Ok ds
-        → option_map shown_split split ≡ parts_by_place command.args client.settings.read_only → length replies.items ≡ length ds
+    ensures { (client : Client) (picks : List Address) (command : Command) (order : Option (List ℕ)) (number : ℕ) (ds : List Dispatch) → plan client picks (command_call command order number) ≡ Ok ds
+        → option_map shown_split split ≡ option_map (routes_in_order order) (parts_by_place command.args client.settings.read_only) → length replies.items ≡ length ds
         → IsMadeOfParts (sent command) ds (Ok (map view replies.items)) (tree_result view result) }
 {
     match split {

@@ -90,15 +90,28 @@ fn a_refresh_shows_its_shards(rt: HostRuntime) -> Result<(), Fail> {
     Ok(())
 }
 
-/// The number of the refusal of `GET a` without a response, 0 where it is answered.
-fn silent_refusal(alloc: Global, client: &mut Client) -> Result<u8, AllocError> {
-    let mut cmd = get_a(alloc)?;
-    cmd.set_no_response(true);
-    let answer: Result<i64, RedisError> = client.query(alloc, &cmd, 0, None);
-    Ok(match answer {
+/// The number of the command's refusal, 0 where it is answered.
+fn refusal(alloc: Global, client: &mut Client, cmd: &Cmd) -> u8 {
+    let answer: Result<i64, RedisError> = client.query(alloc, cmd, 0, None);
+    match answer {
         Ok(_) => 0,
         Err(e) => e.number(),
-    })
+    }
+}
+
+/// `GET a` without a response.
+fn silent_get(alloc: Global) -> Result<Cmd, AllocError> {
+    let mut cmd = get_a(alloc)?;
+    cmd.set_no_response(true);
+    Ok(cmd)
+}
+
+/// `MGET a` with a gap behind the key.
+fn gapped_mget(alloc: Global) -> Result<Cmd, AllocError> {
+    let mut cmd = command::cmd(alloc, "MGET")?;
+    cmd.arg("a")?;
+    cmd.cursor_arg(0)?;
+    Ok(cmd)
 }
 
 #[test]
@@ -106,7 +119,17 @@ fn a_command_without_a_response_is_not_sent(rt: HostRuntime) -> Result<(), Fail>
     let alloc = rt.alloc();
     let mut client = client(alloc, TEXT_AND_NUMBER, b"")?;
     assert!(rt; is_refreshed(alloc, &mut client)?);
-    assert_eq!(rt; silent_refusal(alloc, &mut client)?, 2);
+    assert_eq!(rt; refusal(alloc, &mut client, &silent_get(alloc)?), 2);
+    assert_eq!(rt; client.asked().len(), 0);
+    Ok(())
+}
+
+#[test]
+fn a_split_command_with_a_gap_is_not_sent(rt: HostRuntime) -> Result<(), Fail> {
+    let alloc = rt.alloc();
+    let mut client = client(alloc, TEXT_AND_NUMBER, b"")?;
+    assert!(rt; is_refreshed(alloc, &mut client)?);
+    assert_eq!(rt; refusal(alloc, &mut client, &gapped_mget(alloc)?), 4);
     assert_eq!(rt; client.asked().len(), 0);
     Ok(())
 }

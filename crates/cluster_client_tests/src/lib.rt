@@ -6,4 +6,10 @@ mod answers;
 #[cfg(test)]
 mod clients;
 #[cfg(test)]
+mod fan_outs;
+#[cfg(test)]
+mod pipelines;
+#[cfg(test)]
 mod reads;
+#[cfg(test)]
+mod streams;

@@ -16,6 +16,11 @@ const WITH_REPLICAS: &[u8] =
 const ALL_AND_OKAY: &[u8] =
     b"*1\r\n*5\r\n:0\r\n:16383\r\n*2\r\n$2\r\nn1\r\n:7001\r\n*2\r\n$2\r\nn3\r\n:7003\r\n*2\r\n$2\r\nn4\r\n:7004\r\n+OK\r\n";
 
+/// Slots to 4095 at n1:7001 with the replica n3:7003, to 8191 at n1:7001 alone, the others at n2:7002
+/// with the replica n4:7004; then one item.
+const THREE_SHARDS: &[u8] =
+    b"*3\r\n*4\r\n:0\r\n:4095\r\n*2\r\n$2\r\nn1\r\n:7001\r\n*2\r\n$2\r\nn3\r\n:7003\r\n*3\r\n:4096\r\n:8191\r\n*2\r\n$2\r\nn1\r\n:7001\r\n*4\r\n:8192\r\n:16383\r\n*2\r\n$2\r\nn2\r\n:7002\r\n*2\r\n$2\r\nn4\r\n:7004\r\n*1\r\n$1\r\n3\r\n";
+
 /// Answers the replica at a place, and counts how often it is asked.
 #[derive(Drop)]
 struct Nth {
@@ -66,10 +71,11 @@ fn links(alloc: Global, n1: &[u8], n3: &[u8], n4: &[u8]) -> Result<Links, RedisE
 fn read_only_names(alloc: Global) -> Result<Vec<Vec<u8>>, AllocError> {
     let mut names = Vec::new(alloc);
     names.push(Vec::from_slice(alloc, b"get")?)?;
+    names.push(Vec::from_slice(alloc, b"mget")?)?;
     Ok(names)
 }
 
-/// A client of n1:7001, n3:7003 and n4:7004, for which `GET` only reads.
+/// A client of n1:7001, n3:7003 and n4:7004, for which `GET` and `MGET` only read.
 fn client(alloc: Global, n1: &[u8], n3: &[u8], n4: &[u8]) -> Result<Client, RedisError> {
     let links = links(alloc, n1, n3, n4)?;
     let names = read_only_names(alloc)?;
@@ -145,5 +151,50 @@ fn a_pick_without_a_link_is_told(rt: HostRuntime) -> Result<(), Fail> {
     assert_eq!(rt; closed, Some(ErrorKind::ClusterConnectionNotFound));
     assert!(rt; is_picked(alloc, &client, "n3:7003")?);
     assert_eq!(rt; client.asked().len(), 0);
+    Ok(())
+}
+
+/// Whether `MGET a c b` is answered, its parts sent from the last to the first.
+fn are_read_backwards(
+    alloc: Global,
+    client: &mut Client,
+    strategy: &Nth,
+) -> Result<bool, RedisError> {
+    let mut mget = command::cmd(alloc, "MGET")?;
+    mget.arg("a")?;
+    mget.arg("c")?;
+    mget.arg("b")?;
+    let answer: Result<Value, RedisError> =
+        client.query_ordered(alloc, &mget, &[2, 1, 0], 0, Some(strategy));
+    Ok(answer.is_ok())
+}
+
+/// Whether the strategy's answers were these two nodes.
+fn are_picked(
+    alloc: Global,
+    client: &Client,
+    first: &str,
+    second: &str,
+) -> Result<bool, RedisError> {
+    let first = node(alloc, first)?;
+    let second = node(alloc, second)?;
+    Ok(match client.picked() {
+        [a, b] => *a == first && *b == second,
+        _ => false,
+    })
+}
+
+#[test]
+fn a_strategy_picks_for_each_part_with_replicas(rt: HostRuntime) -> Result<(), Fail> {
+    let alloc = rt.alloc();
+    let b = b"*1\r\n$1\r\n2\r\n";
+    let a = b"*1\r\n$1\r\n1\r\n";
+    let mut client = client(alloc, THREE_SHARDS, b, a)?;
+    assert!(rt; is_refreshed(alloc, &mut client)?);
+    let strategy = Nth::new(0);
+    assert!(rt; are_read_backwards(alloc, &mut client, &strategy)?);
+    assert_eq!(rt; strategy.asked.get(), 2);
+    assert!(rt; are_picked(alloc, &client, "n4:7004", "n3:7003")?);
+    assert!(rt; has_sent(alloc, &client, "n3:7003", b"*2\r\n$4\r\nMGET\r\n$1\r\nb\r\n")?);
     Ok(())
 }

@@ -3,8 +3,7 @@
 use Rattle.std.specs.Prelude.{ℕ, suc, Bool, true, false, List, [], ◌∷◌, ◌++◌, codes, Result, Ok, Err}
 use Rattle.std.specs.Fmt.{decimal, signed_decimal}
 use Rattle.resp_core.specs.Errors.{Refusal, kind_of}
-use Rattle.resp_core.specs.View.{view}
-use Rattle.resp_core.specs.declared.value.Value.{Value}
+use Rattle.cluster_client.specs.Calls.Answer.{Answer, Value}
 use Rattle.cluster_session.specs.KindNames.{kind_name}
 use Rattle.hex.specs.Hex.{encode_lower}
 use Rattle.resp_core.specs.Trees.{Format, unknown, markdown, text, Kind, disconnection, other, invalidate, message, pmessage, smessage, unsubscribe, punsubscribe, sunsubscribe, subscribe, psubscribe, ssubscribe, Tree, nil, int, bulk, array, simple, okay, set, attribute, double, boolean, verbatim, big_number, push, server_error, Trees, no_trees, tree, Pairs, no_pairs, pair}
@@ -81,11 +80,11 @@ abbrev mutual
 abbrev pub refused_line : Refusal → List ℕ
 refused_line refusal = codes "err " ++ (kind_name (kind_of refusal) ++ codes "\n")
 
--- the line of a refresh, and that of a query
-abbrev pub refresh_line : {A : Type 0} → Result A Refusal → List ℕ
-refresh_line (Ok done) = codes "ok\n"
-refresh_line (Err refusal) = refused_line refusal
+-- the line of a call: an accepted refresh has nothing more to print, and no line of a session makes the others
+abbrev pub answer_line : Answer → List ℕ
+answer_line (Value reply) = codes "ok " ++ (answer_words reply ++ codes "\n")
+answer_line _ = codes "ok\n"
 
-abbrev pub query_line : Result Value Refusal → List ℕ
-query_line (Ok value) = codes "ok " ++ (answer_words (view value) ++ codes "\n")
-query_line (Err refusal) = refused_line refusal
+abbrev pub call_line : Result Answer Refusal → List ℕ
+call_line (Ok answer) = answer_line answer
+call_line (Err refusal) = refused_line refusal

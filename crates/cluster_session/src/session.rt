@@ -36,7 +36,7 @@ pub fn run_session<R: Read, W: Write>(
     ensures writes { IfOk result (λ status. Prints status (W.contents writer.old) (W.contents writer.new)) }
 {
     let text = streams::read_text(alloc, reader, READS)?;
-    let played = play::play(alloc, text.as_slice())?;
-    streams::write_text(writer, played.output.as_str())?;
-    Ok(played.status)
+    let printed = play::play(alloc, text.as_slice())?;
+    streams::write_text(writer, printed.output.as_str())?;
+    Ok(printed.status)
 }

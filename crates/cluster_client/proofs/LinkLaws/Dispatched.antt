@@ -1,13 +1,17 @@
 -- The plan of a call and its picks, from the dispatches of its parts.
 use Rattle.std.proofs.Common.{◌≡◌, ℕ, true, false, List, [], Option, Some, None, refl, sym, ap, ◌∙◌, Result, Ok, Err, length}
+use Rattle.resp_core.specs.Trees.{Tree}
 use Rattle.resp_core.specs.Errors.{Refusal, by_cause}
 use Rattle.resp_core.specs.declared.errors.redis_error.Cause.TheVariants.{BadOrder}
 use Rattle.resp_args.specs.Command.{Command}
 use Rattle.cluster_routing.specs.Address.{Address}
 use Rattle.cluster_routing.specs.Choice.{Strategy}
 use Rattle.cluster_client.specs.Links.Dispatches.{ArePicksFor, AreDispatched, IsPlanned}
-use Rattle.cluster_client.specs.Calls.Call.{Call, Query, Ordered}
-use Rattle.cluster_client.specs.Calls.Task.{task_of}
+use Rattle.cluster_client.specs.Links.Happened.{is_refresh}
+use Rattle.cluster_client.specs.Links.Orders.{command_call}
+use Rattle.cluster_client.specs.Calls.Answer.{Value, answer_in}
+use Rattle.cluster_client.specs.Calls.Call.{Call}
+use Rattle.cluster_client.specs.Calls.Task.{one_command, task_of}
 use Rattle.cluster_client.specs.Calls.Parts.{Part, parts_of, fits_order, if_ordered, result_then}
 use Rattle.cluster_client.specs.Calls.Plan.{Client, Dispatch, dispatches, in_order, order_of, call_parts, plan}
 use Rattle.cluster_client.specs.Calls.Picks.{ArePicks}
@@ -44,38 +48,88 @@ pub picks_unparted : (strategy : Option Strategy) (client : Client) (call : Call
 picks_unparted None client call refusal e = refl
 picks_unparted (Some admits) client call refusal e = rw e refl
 
--- ---- the parts of a command
+-- ---- the call for a command
 
-pub query_parts : (client : Client) (command : Command) (number : ℕ) (parts : List Part) → parts_of client.settings.read_only command number ≡ Ok parts → call_parts client (Query command number) ≡ Ok parts
-query_parts client command number parts e = ap (λ r. result_then r (if_ordered None)) e
+module _ (command : Command) (order : Option (List ℕ)) (number : ℕ) where
+  pub command_task : task_of (command_call command order number) ≡ one_command command number order
+  command_task = by order
+    where
+      by : (o : Option (List ℕ)) → task_of (command_call command o number) ≡ one_command command number o
+      by None = refl
+      by (Some numbers) = refl
 
-pub query_unparted : (client : Client) (command : Command) (number : ℕ) (refusal : Refusal) → parts_of client.settings.read_only command number ≡ Err refusal → call_parts client (Query command number) ≡ Err refusal
-query_unparted client command number refusal e = ap (λ r. result_then r (if_ordered None)) e
+  pub command_value : (tree : Tree) → answer_in (command_call command order number) tree ≡ Some (Value tree)
+  command_value tree = by order
+    where
+      by : (o : Option (List ℕ)) → answer_in (command_call command o number) tree ≡ Some (Value tree)
+      by None = refl
+      by (Some numbers) = refl
 
-pub ordered_parts : (client : Client) (command : Command) (order : List ℕ) (number : ℕ) (parts : List Part) → parts_of client.settings.read_only command number ≡ Ok parts → fits_order (Some order) (length parts) ≡ true
-    → call_parts client (Ordered command order number) ≡ Ok parts
-ordered_parts client command order number parts e f = ap (λ r. result_then r (if_ordered (Some order))) e ∙ fits
-  where
-    fits : if_ordered (Some order) parts ≡ Ok parts
-    fits = rw f refl
+  pub command_plain : is_refresh (command_call command order number) ≡ false
+  command_plain = by order
+    where
+      by : (o : Option (List ℕ)) → is_refresh (command_call command o number) ≡ false
+      by None = refl
+      by (Some numbers) = refl
 
-pub ordered_unfit : (client : Client) (command : Command) (order : List ℕ) (number : ℕ) (parts : List Part) → parts_of client.settings.read_only command number ≡ Ok parts → fits_order (Some order) (length parts) ≡ false
-    → call_parts client (Ordered command order number) ≡ Err (by_cause BadOrder)
-ordered_unfit client command order number parts e f = ap (λ r. result_then r (if_ordered (Some order))) e ∙ unfit
-  where
-    unfit : if_ordered (Some order) parts ≡ Err (by_cause BadOrder)
-    unfit = rw f refl
+  command_order : order_of (task_of (command_call command order number)) ≡ order
+  command_order = ap order_of command_task
 
-pub ordered_unparted : (client : Client) (command : Command) (order : List ℕ) (number : ℕ) (refusal : Refusal) → parts_of client.settings.read_only command number ≡ Err refusal → call_parts client (Ordered command order number) ≡ Err refusal
-ordered_unparted client command order number refusal e = ap (λ r. result_then r (if_ordered (Some order))) e
+  -- ---- its parts
 
--- ---- a query
+  module _ (client : Client) where
+    checked_parts : call_parts client (command_call command order number) ≡ result_then (parts_of client.settings.read_only command number) (if_ordered order)
+    checked_parts = by order
+      where
+        by : (o : Option (List ℕ)) → call_parts client (command_call command o number) ≡ result_then (parts_of client.settings.read_only command number) (if_ordered o)
+        by None = refl
+        by (Some numbers) = refl
 
-pub query_planned : (strategy : Option Strategy) (client : Client) (command : Command) (number : ℕ) (parts : List Part) (picks : List Address) (made : Result (List Dispatch) Refusal)
-    → parts_of client.settings.read_only command number ≡ Ok parts → AreDispatched strategy client parts picks made → IsPlanned strategy client (Query command number) picks made
-query_planned strategy client command number parts picks (Ok ds) e d =
-    let are = query_parts client command number parts e in
-    record { planned = plan_made strategy client (Query command number) picks parts ds are d; picked = picks_made strategy client (Query command number) picks parts (Ok ds) are d }
-query_planned strategy client command number parts picks (Err refusal) e d =
-    let are = query_parts client command number parts e in
-    record { planned = plan_refused strategy client (Query command number) picks parts refusal are d; picked = picks_made strategy client (Query command number) picks parts (Err refusal) are d }
+    no_parts : (refusal : Refusal) → parts_of client.settings.read_only command number ≡ Err refusal → call_parts client (command_call command order number) ≡ Err refusal
+    no_parts refusal e = checked_parts ∙ ap (λ r. result_then r (if_ordered order)) e
+
+    module _ (parts : List Part) (are : parts_of client.settings.read_only command number ≡ Ok parts) where
+      fit_parts : fits_order order (length parts) ≡ true → call_parts client (command_call command order number) ≡ Ok parts
+      fit_parts f = checked_parts ∙ ap (λ r. result_then r (if_ordered order)) are ∙ fits
+        where
+          fits : if_ordered order parts ≡ Ok parts
+          fits = rw f refl
+
+      unfit_parts : fits_order order (length parts) ≡ false → call_parts client (command_call command order number) ≡ Err (by_cause BadOrder)
+      unfit_parts f = checked_parts ∙ ap (λ r. result_then r (if_ordered order)) are ∙ unfit
+        where
+          unfit : if_ordered order parts ≡ Err (by_cause BadOrder)
+          unfit = rw f refl
+
+    -- ---- its plan
+
+    module _ (strategy : Option Strategy) where
+      refused_early : (refusal : Refusal) → call_parts client (command_call command order number) ≡ Err refusal → IsPlanned strategy client (command_call command order number) [] (Err refusal)
+      refused_early refusal e = record { planned = plan_unparted strategy client (command_call command order number) [] refusal e; picked = picks_unparted strategy client (command_call command order number) refusal e }
+
+      -- it has no parts
+      pub command_unparted : (refusal : Refusal) → parts_of client.settings.read_only command number ≡ Err refusal → IsPlanned strategy client (command_call command order number) [] (Err refusal)
+      command_unparted refusal e = refused_early refusal (no_parts refusal e)
+
+      module _ (parts : List Part) (are : parts_of client.settings.read_only command number ≡ Ok parts) where
+        -- the order does not fit its parts
+        pub command_unfit : fits_order order (length parts) ≡ false → IsPlanned strategy client (command_call command order number) [] (Err (by_cause BadOrder))
+        command_unfit f = refused_early (by_cause BadOrder) (unfit_parts parts are f)
+
+        module _ (fits : fits_order order (length parts) ≡ true) (picks : List Address) where
+          -- a part has no place
+          pub command_unplaced : (refusal : Refusal) → AreDispatched strategy client parts picks (Err refusal) → IsPlanned strategy client (command_call command order number) picks (Err refusal)
+          command_unplaced refusal d =
+              let all = fit_parts parts are fits in
+              record {
+                planned = plan_refused strategy client (command_call command order number) picks parts refusal all d;
+                picked = picks_made strategy client (command_call command order number) picks parts (Err refusal) all d;
+              }
+
+          pub command_planned : (ds : List Dispatch) → AreDispatched strategy client parts picks (Ok ds) → IsPlanned strategy client (command_call command order number) picks (Ok (in_order order ds))
+          command_planned ds d =
+              let all = fit_parts parts are fits in
+              record {
+                planned = plan_made strategy client (command_call command order number) picks parts ds all d ∙ ap (λ o. Ok (in_order o ds)) command_order;
+                picked = picks_made strategy client (command_call command order number) picks parts (Ok ds) all d;
+              }

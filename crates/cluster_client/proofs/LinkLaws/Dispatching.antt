@@ -17,14 +17,6 @@ use Rattle.cluster_client.specs.Calls.Parts.{Target, at_slot, at_number, at_node
 use Rattle.cluster_client.specs.Calls.Plan.{Client, Dispatch, First, first_by, first_of, by_number, read_candidates, target_candidates, with_first, dispatch_one, dispatches}
 use Rattle.cluster_client.specs.Calls.Picks.{IsPick, ArePartPicks}
 
--- ---- the picks of one part, where there were none before
-
-pub found_alone : {strategy : Option Strategy} {entries : SlotEntries} {target : Target} {old new : List Address} {Leads : Option First → Type 0} → FindsFirst strategy entries target old new Leads → old ≡ []
-    → Leads (first_of entries new target) × ArePicksAt strategy entries target new
-found_alone {strategy} {entries} {target} {old} {new} {Leads} f none =
-    let own : f.own ≡ new = sym (f.behind ∙ ap (λ ps. ps ++ f.own) none) in
-    (subst (λ ps. Leads (first_of entries ps target)) own f.leads, subst (λ ps. ArePicksAt strategy entries target ps) own f.picks)
-
 -- ---- the picks of one part, with further ones behind them
 
 abbrev with_picks : List Address → First → First

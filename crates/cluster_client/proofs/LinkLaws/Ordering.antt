@@ -1,10 +1,13 @@
 -- Items taken in an order of their numbers.
 use Rattle.std.specs.Prelude.{◌||◌, ◌&&◌, not, nat_eq, nat_lt, filter_map, slice_get, slice_set}
 use Rattle.std.specs.List.{AllByRecursion, list_all, cons_option}
-use Rattle.std.proofs.Common.{◌≡◌, ℕ, zero, suc, ◌+◌, ◌<◌, ◌≤◌, Bool, true, false, List, [], ◌∷◌, ◌++◌, length, map, drop, get_or, Option, Some, None, Vec, Global, refl, sym, ap, ◌∙◌, subst, add-one, drop-cons, append_assoc, append-nil, eq-eqb, ltb-true}
+use Rattle.std.proofs.Common.{◌≡◌, ℕ, zero, suc, ◌+◌, ◌<◌, ◌≤◌, Bool, true, false, List, [], ◌∷◌, ◌++◌, length, map, drop, get_or, Option, Some, None, option_map, Vec, Global, refl, sym, ap, ◌∙◌, subst, add-one, drop-cons, append_assoc, append-nil, eq-eqb, ltb-true, arith}
 use Rattle.std.proofs.lemmas.Bool.{false≢true, and_parts, not-true}
 use Rattle.std.proofs.lemmas.List.{drop_all, length-map}
+use Rattle.std.proofs.lemmas.Option.{slice_get-map}
 use Rattle.cluster_routing.specs.Lists.{among, is_distinct, is_permutation, numbers_below}
+use Rattle.cluster_client.specs.Calls.Parts.{fits_order}
+use Rattle.cluster_client.specs.Calls.Plan.{in_order}
 use Rattle.cluster_client.specs.Links.Taken.{there, there_at}
 
 -- ---- another item at one place
@@ -121,10 +124,52 @@ all_at P (x ∷ items) zero item h e = let same : x ≡ item = cc in subst P sam
 all_at P (x ∷ items) (suc n) item h e = all_at P items n item h.1 e
 
 -- it holds of every item in the order
-pub all_ordered : {T : Type 0} (P : T → Type 0) (items : List T) (order : List ℕ) → AllByRecursion P items → AllByRecursion P (filter_map (slice_get items) order)
+all_ordered : {T : Type 0} (P : T → Type 0) (items : List T) (order : List ℕ) → AllByRecursion P items → AllByRecursion P (filter_map (slice_get items) order)
 all_ordered P items [] h = tt
 all_ordered {T} P items (n ∷ order) h = by (slice_get items n) refl (all_ordered P items order h)
   where
     by : (o : Option T) → slice_get items n ≡ o → AllByRecursion P (filter_map (slice_get items) order) → AllByRecursion P (cons_option o (filter_map (slice_get items) order))
     by None e r = r
     by (Some item) e r = (all_at P items n item h e, r)
+
+pub holds_in_order : {T : Type 0} (P : T → Type 0) (order : Option (List ℕ)) (items : List T) → AllByRecursion P items → AllByRecursion P (in_order order items)
+holds_in_order P None items h = h
+holds_in_order P (Some order) items h = all_ordered P items order h
+
+-- ---- what is made of every item
+
+module _ {A B : Type 0} (f : A → B) where
+  made_one : (o : Option A) (items : List A) → map f (cons_option o items) ≡ cons_option (option_map f o) (map f items)
+  made_one None items = refl
+  made_one (Some a) items = refl
+
+  made_ordered : (items : List A) (order : List ℕ) → map f (filter_map (slice_get items) order) ≡ filter_map (slice_get (map f items)) order
+  made_ordered items [] = refl
+  made_ordered items (n ∷ order) =
+      made_one (slice_get items n) (filter_map (slice_get items) order)
+      ∙ ap (λ o. cons_option o (map f (filter_map (slice_get items) order))) (sym (slice_get-map f items n))
+      ∙ ap (λ r. cons_option (slice_get (map f items) n) r) (made_ordered items order)
+
+  -- it is in the order of the items
+  pub made_in_order : (order : Option (List ℕ)) (items : List A) → map f (in_order order items) ≡ in_order order (map f items)
+  made_in_order None items = refl
+  made_in_order (Some order) items = made_ordered items order
+
+-- ---- the order of one item
+
+only_number : (order : List ℕ) → is_permutation 1 order ≡ true → order ≡ 0 ∷ []
+only_number [] e = absurd (false≢true e)
+only_number (n ∷ []) e =
+    let small = and_parts (nat_lt n 1) true (order_within {T = ℕ} (0 ∷ []) (n ∷ []) e) in
+    let first : n ≡ 0 = let lt : n < 1 = ltb-true n 1 small.0 in omega (arith, lt) in
+    ap (λ k. k ∷ []) first
+only_number (n ∷ m ∷ order) e =
+    let all = and_parts (nat_lt n 1) (list_all (λ i. nat_lt i 1) (m ∷ order)) (order_within {T = ℕ} (0 ∷ []) (n ∷ m ∷ order) e) in
+    let small = and_parts (nat_lt m 1) (list_all (λ i. nat_lt i 1) order) all.1 in
+    let first : n ≡ 0 = let lt : n < 1 = ltb-true n 1 all.0 in omega (arith, lt) in
+    let second : m ≡ 0 = let lt : m < 1 = ltb-true m 1 small.0 in omega (arith, lt) in
+    absurd (false≢true (rw (first, second) at (order_distinct 1 (n ∷ m ∷ order) e)))
+
+pub one_in_order : {T : Type 0} (order : Option (List ℕ)) (item : T) → fits_order order 1 ≡ true → in_order order (item ∷ []) ≡ item ∷ []
+one_in_order None item e = refl
+one_in_order (Some order) item e = ap (filter_map (slice_get (item ∷ []))) (only_number order e)

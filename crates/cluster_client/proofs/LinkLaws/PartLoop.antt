@@ -204,7 +204,7 @@ only_args args (y ∷ z ∷ ys) tree e = cc
 
 -- ---- the run
 
-all-append : (xs ys : List Event) → AllByRecursion IsSingle xs → AllByRecursion IsSingle ys → AllByRecursion IsSingle (xs ++ ys)
+pub all-append : (xs ys : List Event) → AllByRecursion IsSingle xs → AllByRecursion IsSingle ys → AllByRecursion IsSingle (xs ++ ys)
 all-append [] ys h k = k
 all-append (x ∷ xs) ys h k = (h.0, all-append xs ys h.1 k)
 
@@ -391,14 +391,9 @@ module _ (old now new : World) (ds : List Dispatch) (d : Dispatch) (rest : List 
         picked = m.picked ∙ l.picked;
       }
 
--- one part alone
-pub part_alone : (old new : World) (d : Dispatch) (r : Result Tree Refusal) → ChainMade old new (first_hop d) d.args r → PartsMade old new (d ∷ []) (one_reply r)
-part_alone old new d (Ok tree) m = parts_done old new (d ∷ []) (tree ∷ []) (parts_more old old new (d ∷ []) d [] [] (parts_start old (d ∷ [])) tree m)
-part_alone old new d (Err e) m = parts_refused old old new (d ∷ []) d [] [] (parts_start old (d ∷ [])) e m
-
 -- ---- places stay where they were
 
-place_same : (ns ms : List Node) (a : Address) → addresses_of ns ≡ addresses_of ms → place_at ns a ≡ place_at ms a
+pub place_same : (ns ms : List Node) (a : Address) → addresses_of ns ≡ addresses_of ms → place_at ns a ≡ place_at ms a
 place_same [] [] a e = refl
 place_same [] (m ∷ ms) a e = cc
 place_same (n ∷ ns) [] a e = cc

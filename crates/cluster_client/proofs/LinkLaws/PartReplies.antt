@@ -1,30 +1,36 @@
 -- The reply to a command from those of its parts, where its plan is there.
 use Rattle.std.specs.List.{AllByRecursion, list_all, list_any}
-use Rattle.std.specs.Prelude.{◌&&◌, ◌||◌, filter_map, slice_get, nat_lt}
+use Rattle.std.specs.Prelude.{◌&&◌, ◌||◌, filter_map, slice_get, nat_lt, IfSome}
 use Rattle.std.proofs.lemmas.Bool.Decides.{nat_tests}
 use Rattle.std.proofs.lemmas.List.{length-map}
 use Rattle.std.proofs.Common.{◌≡◌, ℕ, zero, suc, Bool, true, false, cond, List, [], ◌∷◌, map, length, Option, Some, None, option_map, refl, sym, ap, ◌∙◌, subst, Result, Ok, Err, nat_eq, arith}
 use Rattle.resp_core.specs.Trees.{Tree}
 use Rattle.resp_core.specs.Errors.{Refusal, by_cause}
-use Rattle.resp_core.specs.declared.errors.redis_error.Cause.TheVariants.{NoResponse, CursorInSplit}
+use Rattle.resp_core.specs.declared.errors.redis_error.Cause.TheVariants.{NoResponse, CursorInSplit, BadOrder}
 use Rattle.resp_args.specs.Command.{Command}
 use Rattle.resp_args.specs.Packed.{sent}
 use Rattle.cluster_routing.specs.Address.{Address}
+use Rattle.cluster_routing.specs.Choice.{Strategy}
+use Rattle.cluster_routing.specs.Info.{shown_part, shown_split}
 use Rattle.cluster_routing.specs.Combine.{PartReply, IsCutInto, combine, part_replies, slots_by}
 use Rattle.cluster_routing.specs.Lists.{Pairwise, among, is_distinct, is_permutation, numbers_below}
 use Rattle.cluster_routing.specs.Parts.{argument_slots, places_from, tuple_slot}
 use Rattle.cluster_routing.specs.Policies.{or_bad_reply}
 use Rattle.cluster_routing.specs.Routing.{Destination, destination, name_of, route_to}
 use Rattle.cluster_routing.specs.declared.route.Route.{Route}
+use Rattle.cluster_routing.specs.declared.split.SplitParts.{SplitParts}
 use Rattle.cluster_routing.specs.declared.route.SlotAddr.{SlotAddr}
 use Rattle.cluster_routing.specs.Split.{Split, Splitting, PartsByPlace, split_of, has_split_word, part_places, part_slots, split_by_place, parts_by_place}
 use Rattle.cluster_routing.proofs.Marks.{below_front}
-use Rattle.cluster_client.specs.Calls.Call.{Query}
-use Rattle.cluster_client.specs.Calls.Task.{task_of}
-use Rattle.cluster_client.specs.Calls.Parts.{Part, if_ordered, is_gap, parts_of, only_part, result_then, role_by, split_parts}
-use Rattle.cluster_client.specs.Calls.Plan.{Client, Dispatch, plan}
+use Rattle.cluster_client.specs.Calls.Task.{one_command}
+use Rattle.cluster_client.specs.Calls.Parts.{Part, fits_order, if_ordered, is_gap, parts_of, only_part, result_then, role_by, split_parts}
+use Rattle.cluster_client.specs.Calls.Plan.{Client, Dispatch, in_order, plan}
 use Rattle.cluster_client.specs.Calls.Replies.{args_slot, reply_by_split, reply_of_parts}
+use Rattle.cluster_client.specs.Links.Dispatches.{AreDispatched}
+use Rattle.cluster_client.specs.Links.Orders.{command_call, routes_in_order}
 use Rattle.cluster_client.specs.Links.PartRuns.{replies_with_slots}
+use Rattle.cluster_client.proofs.LinkLaws.Dispatched.{command_task}
+use Rattle.cluster_client.proofs.LinkLaws.Ordering.{made_in_order, one_in_order}
 use Rattle.cluster_client.proofs.LinkLaws.SplitCommands.{unsplit, cut_bytes}
 use Rattle.cluster_client.proofs.LogLaws.Planned.{Planned, planned}
 use Rattle.cluster_client.proofs.LogLaws.Plans.{IsFor, dispatches_for, firsts_among, not_split, part_slots_are, role, split_parts_are, whole_part_is}
@@ -132,39 +138,67 @@ places_of : (addr : SlotAddr) (split : Split) (slots : List ℕ) → map (λ (r 
 places_of addr split [] = refl
 places_of addr split (slot ∷ slots) = ap (λ ps. part_places slot split.tuples ∷ ps) (places_of addr split slots)
 
-unordered : (r : Result (List Part) Refusal) (parts : List Part) → result_then r (if_ordered None) ≡ Ok parts → r ≡ Ok parts
-unordered (Ok q) parts e = e
-unordered (Err refusal) parts e = cc
+abbrev made_parts : List Part → Result (List Part) Refusal
+made_parts parts = Ok parts
+
+-- a call has the parts of its command, and its order fits them
+if_fit : (order : Option (List ℕ)) (r : Result (List Part) Refusal) (parts : List Part) → result_then r (if_ordered order) ≡ Ok parts → (r ≡ Ok parts) × (fits_order order (length parts) ≡ true)
+if_fit order (Err refusal) parts e = cc
+if_fit order (Ok q) parts e = by (fits_order order (length q)) refl e
+  where
+    by : (b : Bool) → fits_order order (length q) ≡ b → cond b (made_parts q) (Err (by_cause BadOrder)) ≡ Ok parts → (made_parts q ≡ Ok parts) × (fits_order order (length parts) ≡ true)
+    by true f k = let same : q ≡ parts = cc in (k, subst (λ ps. fits_order order (length ps) ≡ true) same f)
+    by false f k = cc
 
 firsts_among_slots : (split : Split) → AllByRecursion (λ s. among nat_eq s (map tuple_slot split.tuples) ≡ true) (part_slots split.tuples)
 firsts_among_slots split = firsts_among (map tuple_slot split.tuples)
 
--- ---- the reply, by the plan of a query
+-- ---- the parts' numbers in the order of sending
 
-module _ (client : Client) (picks : List Address) (command : Command) (number : ℕ) (ds : List Dispatch) (is_plan : plan client picks (Query command number) ≡ Ok ds) where
-  abbrev p : Planned client picks (task_of (Query command number)) ds
-  p = planned client picks (Query command number) ds is_plan
+abbrev pub numbers_of : Option (List ℕ) → ℕ → List ℕ
+numbers_of None n = numbers_below n
+numbers_of (Some order) n = order
+
+numbers_fit : (order : Option (List ℕ)) (n : ℕ) → fits_order order n ≡ true → is_permutation n (numbers_of order n) ≡ true
+numbers_fit None n e = all_in_order n
+numbers_fit (Some order) n e = e
+
+by_numbers : {A : Type 0} (order : Option (List ℕ)) (xs : List A) → in_order order xs ≡ filter_map (slice_get xs) (numbers_of order (length xs))
+by_numbers None xs = sym (every_place xs)
+by_numbers (Some order) xs = refl
+
+-- ---- the reply, by the plan of a command's call
+
+single : {A : Type 0} (xs : List A) → length xs ≡ 1 → (x : A) × (xs ≡ x ∷ [])
+single (x ∷ []) e = (x, refl)
+single [] e = cc
+single (x ∷ x' ∷ xs) e = cc
+
+module _ (client : Client) (picks : List Address) (command : Command) (order : Option (List ℕ)) (number : ℕ) (ds : List Dispatch) (is_plan : plan client picks (command_call command order number) ≡ Ok ds) where
+  abbrev p : Planned client picks (one_command command number order) ds
+  p = subst (λ task. Planned client picks task ds) (command_task command order number) (planned client picks (command_call command order number) ds is_plan)
 
   abbrev ro : List (List ℕ)
   ro = client.settings.read_only
 
-  made_parts : parts_of ro command number ≡ Ok p.parts
-  made_parts = unordered (parts_of ro command number) p.parts p.parts_are
+  checked : (parts_of ro command number ≡ Ok p.parts) × (fits_order order (length p.parts) ≡ true)
+  checked = if_fit order (parts_of ro command number) p.parts p.parts_are
 
-  fors : Pairwise IsFor p.parts ds
-  fors = subst (Pairwise IsFor p.parts) p.ordered (dispatches_for client p.parts picks p.found p.found_are)
-
-  as_many : length p.parts ≡ length ds
-  as_many = pair_length IsFor p.parts ds fors
+  fors : Pairwise IsFor p.parts p.found
+  fors = dispatches_for client p.parts picks p.found p.found_are
 
   -- of a command that is not split
-  pub whole_reply : None ≡ parts_by_place command.args ro → (trees : List Tree) → length trees ≡ length ds → or_bad_reply (slice_get trees 0) ≡ or_bad_reply (reply_of_parts (sent command) (replies_with_slots ds trees))
-  whole_reply none trees count = by (split_of (sent command)) refl (none ∙ cut_so ro command number p.parts made_parts)
+  pub whole_reply : None ≡ option_map (routes_in_order order) (parts_by_place command.args ro) → (trees : List Tree) → length trees ≡ length ds
+      → or_bad_reply (slice_get trees 0) ≡ or_bad_reply (reply_of_parts (sent command) (replies_with_slots ds trees))
+  whole_reply none trees count = by (split_of (sent command)) refl (none ∙ ap (option_map (routes_in_order order)) (cut_so ro command number p.parts checked.0))
     where
-      by : (o : Option Split) → split_of (sent command) ≡ o → None ≡ option_map (split_by_place ro) o → or_bad_reply (slice_get trees 0) ≡ or_bad_reply (reply_of_parts (sent command) (replies_with_slots ds trees))
+      by : (o : Option Split) → split_of (sent command) ≡ o → None ≡ option_map (routes_in_order order) (option_map (split_by_place ro) o)
+          → or_bad_reply (slice_get trees 0) ≡ or_bad_reply (reply_of_parts (sent command) (replies_with_slots ds trees))
       by None s k =
-          let w = whole_part_is ro command number p.parts s made_parts in
-          let one : length ds ≡ 1 = sym as_many ∙ ap length w.1 in
+          let w = whole_part_is ro command number p.parts s checked.0 in
+          let found = single p.found (sym (pair_length IsFor p.parts p.found fors) ∙ ap length w.1) in
+          let fits : fits_order order 1 ≡ true = subst (λ ps. fits_order order (length ps) ≡ true) w.1 checked.1 in
+          let one : length ds ≡ 1 = ap length (sym p.ordered ∙ ap (in_order order) found.1 ∙ one_in_order order found.0 fits) in
           let a = alone ds trees one (count ∙ one) in
           one_tree (sent command) ds trees a.0 a.1 s a.2 a.3
       by (Some split) s k = cc
@@ -172,33 +206,61 @@ module _ (client : Client) (picks : List Address) (command : Command) (number : 
   -- of a split command
   pub record Joins (made : PartsByPlace) (trees : List Tree) : Type 0 where
     pub split : Split
-    pub cut_into : IsCutInto (sent command) split (numbers_below (length (part_slots split.tuples))) made.splitting (map (λ (r : Route × List ℕ). r.1) made.routes) (length trees)
-    pub same : reply_of_parts (sent command) (replies_with_slots ds trees) ≡ combine split (part_replies (slots_by (numbers_below (length (part_slots split.tuples))) split) trees)
+    pub cut_into : IsCutInto (sent command) split (numbers_of order (length (part_slots split.tuples))) made.splitting (map (λ (r : Route × List ℕ). r.1) made.routes) (length trees)
+    pub same : reply_of_parts (sent command) (replies_with_slots ds trees) ≡ combine split (part_replies (slots_by (numbers_of order (length (part_slots split.tuples))) split) trees)
 
-  pub joined_reply : (made : PartsByPlace) → Some made ≡ parts_by_place command.args ro → (trees : List Tree) → length trees ≡ length ds → Joins made trees
-  joined_reply made some trees count = by (split_of (sent command)) refl (some ∙ cut_so ro command number p.parts made_parts)
+  pub joined_reply : (made : PartsByPlace) → Some made ≡ option_map (routes_in_order order) (parts_by_place command.args ro) → (trees : List Tree) → length trees ≡ length ds → Joins made trees
+  joined_reply made some trees count = by (split_of (sent command)) refl (some ∙ ap (option_map (routes_in_order order)) (cut_so ro command number p.parts checked.0))
     where
-      by : (o : Option Split) → split_of (sent command) ≡ o → Some made ≡ option_map (split_by_place ro) o → Joins made trees
+      by : (o : Option Split) → split_of (sent command) ≡ o → Some made ≡ option_map (routes_in_order order) (option_map (split_by_place ro) o) → Joins made trees
       by None s k = cc
       by (Some split) s k =
-          let is : made ≡ split_by_place ro split = cc in
-          let parts = split_parts_are ro command number p.parts split s made_parts in
-          let all = every_place (part_slots split.tuples) in
-          let slots = part_slots_are (sent command) split s (role ro command number p.parts) (part_slots split.tuples) ds (firsts_among_slots split) (subst (λ ps. Pairwise IsFor ps ds) parts fors) in
+          let is : made ≡ routes_in_order order (split_by_place ro split) = cc in
+          let parts = split_parts_are ro command number p.parts split s checked.0 in
+          let found = part_slots_are (sent command) split s (role ro command number p.parts) (part_slots split.tuples) p.found (firsts_among_slots split) (subst (λ ps. Pairwise IsFor ps p.found) parts fors) in
+          let slot_of : Dispatch → ℕ = λ d. args_slot d.args in
+          let slots : map slot_of ds ≡ slots_by (numbers_of order (length (part_slots split.tuples))) split =
+          ap (map slot_of) (sym p.ordered) ∙ made_in_order slot_of order p.found ∙ ap (in_order order) found ∙ by_numbers order (part_slots split.tuples) in
+          let places_at : ℕ → List ℕ = λ slot. places_from slot 0 (argument_slots split.tuples) in
           record {
             split = split;
             cut_into = record {
               is_split = s;
               is_made = sym (ap (λ (m : PartsByPlace). m.splitting) is);
-              is_order = all_in_order (length (part_slots split.tuples));
-              are_places = ap (λ (m : PartsByPlace). map (λ (r : Route × List ℕ). r.1) m.routes) is ∙ places_of _ split (part_slots split.tuples)
-                  ∙ ap (λ ks. map (λ slot. places_from slot 0 (argument_slots split.tuples)) ks) (sym all);
-              are_counted = count ∙ sym as_many ∙ ap length parts ∙ length-map _ _ ∙ ap length (sym all);
+              is_order = numbers_fit order (length (part_slots split.tuples)) (subst (λ n. fits_order order n ≡ true) (ap length parts ∙ length-map _ _) checked.1);
+              are_places = ap (λ (m : PartsByPlace). map (λ (r : Route × List ℕ). r.1) m.routes) is
+                  ∙ made_in_order (λ (r : Route × List ℕ). r.1) order (split_by_place ro split).routes
+                  ∙ ap (in_order order) (places_of _ split (part_slots split.tuples))
+                  ∙ sym (made_in_order places_at order (part_slots split.tuples))
+                  ∙ ap (map places_at) (by_numbers order (part_slots split.tuples));
+              are_counted = count ∙ sym (length-map ds slot_of) ∙ ap length slots;
             };
-            same = ap (λ o. reply_by_split o (replies_with_slots ds trees)) s
-                ∙ ap (combine split) (same_replies ds (part_slots split.tuples) trees slots)
-                ∙ ap (λ ks. combine split (part_replies ks trees)) (sym all);
+            same = ap (λ o. reply_by_split o (replies_with_slots ds trees)) s ∙ ap (combine split) (same_replies ds _ trees slots);
           }
+
+-- ---- as many routes and dispatches as parts
+
+routes_of_parts : (read_only : List (List ℕ)) (command : Command) (number : ℕ) (parts : List Part) (made : PartsByPlace) → parts_of read_only command number ≡ Ok parts → Some made ≡ parts_by_place command.args read_only → length parts ≡ length made.routes
+routes_of_parts read_only command number parts made e some = by (split_of (sent command)) refl (some ∙ cut_so read_only command number parts e)
+  where
+    by : (o : Option Split) → split_of (sent command) ≡ o → Some made ≡ option_map (split_by_place read_only) o → length parts ≡ length made.routes
+    by None s k = cc
+    by (Some split) s k =
+        let is : made ≡ split_by_place read_only split = cc in
+        ap length (split_parts_are read_only command number parts split s e) ∙ length-map _ _ ∙ sym (length-map _ _) ∙ ap (λ (m : PartsByPlace). length m.routes) (sym is)
+
+-- an order that fits the parts fits the routes of a split command
+pub routes_fit : (order : Option (List ℕ)) (read_only : List (List ℕ)) (command : Command) (number : ℕ) (parts : List Part) (split : Option SplitParts) → parts_of read_only command number ≡ Ok parts
+    → option_map shown_split split ≡ parts_by_place command.args read_only → fits_order order (length parts) ≡ true → IfSome split (λ (s : SplitParts). fits_order order (length s.routes.items) ≡ true)
+routes_fit order read_only command number parts None e is f = tt
+routes_fit order read_only command number parts (Some s) e is f =
+    subst (λ n. fits_order order n ≡ true) (routes_of_parts read_only command number parts (shown_split s) e is ∙ length-map s.routes.items shown_part) f
+
+-- and the dispatches
+pub dispatches_fit : (order : Option (List ℕ)) (strategy : Option Strategy) (client : Client) (parts : List Part) (picks : List Address) (ds : List Dispatch) → AreDispatched strategy client parts picks (Ok ds)
+    → fits_order order (length parts) ≡ true → fits_order order (length ds) ≡ true
+dispatches_fit order strategy client parts picks ds d f =
+    subst (λ n. fits_order order n ≡ true) (pair_length IsFor parts ds (dispatches_for client parts picks ds (sym d.planned))) f
 
 -- the same of equal positions and an equal count
 pub recut : (args : List (List ℕ)) (split : Split) (order : List ℕ) (splitting : Splitting) (ps qs : List (List ℕ)) (n m : ℕ) → IsCutInto args split order splitting ps n → ps ≡ qs → n ≡ m → IsCutInto args split order splitting qs m

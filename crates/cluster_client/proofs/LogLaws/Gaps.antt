@@ -1,14 +1,11 @@
 -- A command with a gap routes as the arguments that it is sent as.
-use Rattle.std.proofs.Common.{◌≡◌, ℕ, zero, suc, ◌+◌, ◌<◌, ◌^◌, ◌&&◌, ◌||◌, Bool, true, false, not, cond, List, [], ◌∷◌, map, length, Option, Some, None, option_map, refl, sym, ap, ◌∙◌, arith, codes, nat_lt, ltb-true, decimal}
+use Rattle.std.proofs.Common.{◌≡◌, ℕ, zero, suc, ◌+◌, ◌<◌, ◌^◌, ◌&&◌, ◌||◌, Bool, true, false, not, cond, List, [], ◌∷◌, map, length, Option, Some, None, option_map, refl, sym, ap, ◌∙◌, arith, codes, nat_lt, ◌%◌, ◌/◌, ◌==◌, lt-ltb, decimal}
 use Rattle.std.specs.Prelude.{option_and_then, slice_get, unwrap_or}
 use Rattle.std.specs.List.{list_any, list_all, position_or_len, prefix_len}
 use Rattle.std.specs.Str.{str_eq_ignore_ascii_case, str_to_ascii_lowercase, bytes_eq}
-use Rattle.std.specs.Fmt.{digits}
+use Rattle.std.specs.Fmt.{digit_glyph, digits, digits_onto}
 use Rattle.std.proofs.lemmas.Bool.{false≢true, and_parts}
 use Rattle.std.proofs.lemmas.Slice.Eq.{bytes_eq-Decides}
-use Rattle.std.proofs.lemmas.Fmt.{decimal-digits_of}
-use Rattle.std.specs.Int.Digits.{AllBelowBase, digits_of}
-use Rattle.std.proofs.lemmas.Int.Digits.{all_below_base_digits_of}
 use Rattle.resp_args.specs.Command.{Command}
 use Rattle.resp_args.specs.Packed.{sent, wire}
 use Rattle.resp_args.specs.declared.cmd.Arg.TheVariants.{Simple, Cursor}
@@ -171,17 +168,43 @@ digit_apart (suc (suc (suc (suc (suc (suc (suc (suc zero)))))))) ds h = refl
 digit_apart (suc (suc (suc (suc (suc (suc (suc (suc (suc zero))))))))) ds h = refl
 digit_apart (suc (suc (suc (suc (suc (suc (suc (suc (suc (suc d)))))))))) ds h = absurd (let f : ⊥ = omega (arith, h) in f)
 
-digits_apart : (ds : List ℕ) → AllBelowBase 10 ds → str_eq_ignore_ascii_case (codes "STREAMS") (map (λ d. 48 + d) ds) ≡ false
-digits_apart [] h = refl
-digits_apart (d ∷ ds) h = digit_apart d (map (λ e. 48 + e) ds) h.0
+-- a decimal begins with a digit
+record BeginsByDigit (ds : List ℕ) : Type 0 where
+  digit : ℕ
+  rest : List ℕ
+  small : digit < 10
+  are : ds ≡ (48 + digit) ∷ rest
 
-number_apart : (c : ℕ) → c < 2 ^ 64 → str_eq_ignore_ascii_case (codes "STREAMS") (decimal c) ≡ false
+one_digit : (n : ℕ) (acc : List ℕ) → BeginsByDigit (digit_glyph false (n % 10) ∷ acc)
+one_digit n acc =
+    let small : n % 10 < 10 = omega arith in
+    record { digit = n % 10; rest = acc; small = small; are = ap (λ b. cond b (48 + n % 10) (87 + n % 10) ∷ acc) (lt-ltb (n % 10) 10 small) }
+
+begins_onto : (k n : ℕ) (acc : List ℕ) → BeginsByDigit acc → BeginsByDigit (digits_onto k 10 false n acc)
+begins_onto zero n acc h = h
+begins_onto (suc k) n acc h = by (n / 10 == 0) (begins_onto k (n / 10) (digit_glyph false (n % 10) ∷ acc) (one_digit n acc))
+  where
+    by : (b : Bool) → BeginsByDigit (digits_onto k 10 false (n / 10) (digit_glyph false (n % 10) ∷ acc))
+        → BeginsByDigit (cond b (digit_glyph false (n % 10) ∷ acc) (digits_onto k 10 false (n / 10) (digit_glyph false (n % 10) ∷ acc)))
+    by true later = one_digit n acc
+    by false later = later
+
+begins_some : (k n : ℕ) → BeginsByDigit (digits_onto (suc k) 10 false n [])
+begins_some k n = by (n / 10 == 0)
+  where
+    by : (b : Bool) → BeginsByDigit (cond b (digit_glyph false (n % 10) ∷ []) (digits_onto k 10 false (n / 10) (digit_glyph false (n % 10) ∷ [])))
+    by true = one_digit n []
+    by false = begins_onto k (n / 10) (digit_glyph false (n % 10) ∷ []) (one_digit n [])
+
+number_apart : (c : ℕ) → str_eq_ignore_ascii_case (codes "STREAMS") (decimal c) ≡ false
 unfolding digits
-number_apart zero h = refl
-number_apart (suc n) h =
-    ap (str_eq_ignore_ascii_case (codes "STREAMS")) (decimal-digits_of (suc n) (omega arith) h) ∙ digits_apart (digits_of 10 (suc n)) (all_below_base_digits_of 10 (suc n) (omega arith))
+number_apart c = let b = begins_some 63 c in ap (str_eq_ignore_ascii_case (codes "STREAMS")) b.are ∙ digit_apart b.digit b.rest b.small
+
+-- whatever the number for the gaps is
+pub every_gap_names_no_key : (command : Command) (read_only : List (List ℕ)) (route : Route)
+    → destination command.args read_only ≡ Some (to_route route) → destination (map (λ bytes. Simple bytes) (sent command)) read_only ≡ Some (to_route route)
+every_gap_names_no_key command read_only route e = destination_stays (unwrap_or command.cursor 0) (number_apart (unwrap_or command.cursor 0)) command.args read_only route e
 
 pub gaps_name_no_key : (command : Command) (read_only : List (List ℕ)) (route : Route) → nat_lt (unwrap_or command.cursor 0) (2 ^ 64) ≡ true
     → destination command.args read_only ≡ Some (to_route route) → destination (map (λ bytes. Simple bytes) (sent command)) read_only ≡ Some (to_route route)
-gaps_name_no_key command read_only route small e =
-    destination_stays (unwrap_or command.cursor 0) (number_apart (unwrap_or command.cursor 0) (ltb-true (unwrap_or command.cursor 0) (2 ^ 64) small)) command.args read_only route e
+gaps_name_no_key command read_only route small e = every_gap_names_no_key command read_only route e

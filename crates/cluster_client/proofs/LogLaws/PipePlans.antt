@@ -54,6 +54,10 @@ leads_slot n (Some (to_all_nodes p)) h = absurd h
 leads_slot n (Some (to_all_primaries p)) h = absurd h
 leads_slot n (Some (to_parts ps pattern p)) h = absurd h
 
+-- a command routes as the arguments that it is sent as
+abbrev pub GapsStay : Command → Type 0
+GapsStay command = (route : Route) → destination command.args [] ≡ Some (to_route route) → destination (map (λ bytes. Simple bytes) (sent command)) [] ≡ Some (to_route route)
+
 module _ (command : Command) (part : Part) (p : parts_of [] command 0 ≡ Ok (part ∷ [])) where
   one_part : (split : Split) (ks : List ℕ) → part ∷ [] ≡ map (slot_part (role [] command 0 (part ∷ [])) split) ks → (k : ℕ) × (ks ≡ k ∷ [])
   one_part split [] e = cc
@@ -90,8 +94,8 @@ module _ (command : Command) (part : Part) (p : parts_of [] command 0 ≡ Ok (pa
           (first_slot ks.0 split.tuples st all (one_slot_tuples split.splitting.policy split.word split.shared ks.0 split.tuples st all d.0) (empty split d.0))
 
   -- the route's slot is that of the arguments that are sent
-  pub target_slot : GapsNameNoKey → has_small_cursor command ≡ true → (route : Route) → part.target ≡ at_slot route → route.slot ≡ args_slot (sent command)
-  target_slot gaps small route t = by (split_of (sent command)) refl
+  pub target_slot : GapsStay command → (route : Route) → part.target ≡ at_slot route → route.slot ≡ args_slot (sent command)
+  target_slot stay route t = by (split_of (sent command)) refl
     where
       first_part : (split : Split) (ts : List Tuple) → split.tuples ≡ ts → (u : Tuple) × (us : List Tuple) × (ts ≡ u ∷ us) → part ∷ [] ≡ map (slot_part (role [] command 0 (part ∷ [])) split) (part_slots ts) → route.slot ≡ first_tuple_slot ts
       first_part split [] e some m = cc
@@ -103,7 +107,7 @@ module _ (command : Command) (part : Part) (p : parts_of [] command 0 ≡ Ok (pa
 
       by : (o : Option Split) → split_of (sent command) ≡ o → route.slot ≡ args_slot (sent command)
       by None e =
-          let d = gaps command [] route small (whole_route [] command 0 (part ∷ []) e p part refl route t) in
+          let d = stay route (whole_route [] command 0 (part ∷ []) e p part refl route t) in
           sym (ap (slot_by (sent command)) e ∙ ap route_slot d)
       by (Some split) e =
           let c = cut_of (sent command) split e in
@@ -115,13 +119,10 @@ pub record IsWholePart (e : Entry) (part : Part) : Type 0 where
   pub target : part.target ≡ at_slot (route_to Master (args_slot (sent e.command)))
   pub one : IsOneSlot (sent e.command)
 
-pub pipeline_parts_are : GapsNameNoKey → (entries : List Entry) (position : ℕ) (parts : List Part) → list_all (λ (e : Entry). has_small_cursor e.command) entries ≡ true → pipeline_parts position entries ≡ Ok parts → Pairwise IsWholePart entries parts
-pipeline_parts_are gaps [] position parts small e = let n : [] ≡ parts = cc in subst (Pairwise IsWholePart []) n tt
-pipeline_parts_are gaps (x ∷ xs) position parts small e = whole (parts_of [] x.command 0) refl e (λ q f. pipeline_parts_are gaps xs (suc position) q both.1 f)
+pub whole_parts_are : (entries : List Entry) (position : ℕ) (parts : List Part) → AllByRecursion (λ (e : Entry). GapsStay e.command) entries → pipeline_parts position entries ≡ Ok parts → Pairwise IsWholePart entries parts
+whole_parts_are [] position parts stay e = let n : [] ≡ parts = cc in subst (Pairwise IsWholePart []) n tt
+whole_parts_are (x ∷ xs) position parts stay e = whole (parts_of [] x.command 0) refl e (λ q f. whole_parts_are xs (suc position) q stay.1 f)
   where
-    both : (has_small_cursor x.command ≡ true) × (list_all (λ (e : Entry). has_small_cursor e.command) xs ≡ true)
-    both = and_parts (has_small_cursor x.command) (list_all (λ (e : Entry). has_small_cursor e.command) xs) small
-
     IH : Type 0
     IH = (q : List Part) → pipeline_parts (suc position) xs ≡ Ok q → Pairwise IsWholePart xs q
 
@@ -134,13 +135,22 @@ pipeline_parts_are gaps (x ∷ xs) position parts small e = whole (parts_of [] x
     at_target part p (at_node n) t e ih = cc
     at_target part p (at_slot route) t e ih =
         others (part_to (sent x.command) (at_slot (route_to Master route.slot)))
-        (record { args = refl; target = ap (λ n. at_slot (route_to Master n)) (target_slot x.command part p gaps both.0 route t); one = whole_one_slot x.command part p }) (pipeline_parts (suc position) xs) refl e ih
+        (record { args = refl; target = ap (λ n. at_slot (route_to Master n)) (target_slot x.command part p stay.0 route t); one = whole_one_slot x.command part p }) (pipeline_parts (suc position) xs) refl e ih
 
     whole : (o : Result (List Part) Refusal) → parts_of [] x.command 0 ≡ o → with_whole position (whole_part (sent x.command) o) (pipeline_parts (suc position) xs) ≡ Ok parts → IH → Pairwise IsWholePart (x ∷ xs) parts
     whole (Ok []) p e ih = cc
     whole (Ok (part ∷ part2 ∷ more)) p e ih = cc
     whole (Err r) p e ih = cc
     whole (Ok (part ∷ [])) p e ih = at_target part p part.target refl e ih
+
+gaps_stay : GapsNameNoKey → (entries : List Entry) → list_all (λ (e : Entry). has_small_cursor e.command) entries ≡ true → AllByRecursion (λ (e : Entry). GapsStay e.command) entries
+gaps_stay gaps [] small = tt
+gaps_stay gaps (x ∷ xs) small =
+    let both = and_parts (has_small_cursor x.command) (list_all (λ (e : Entry). has_small_cursor e.command) xs) small in
+    (λ route h. gaps x.command [] route both.0 h, gaps_stay gaps xs both.1)
+
+pub pipeline_parts_are : GapsNameNoKey → (entries : List Entry) (position : ℕ) (parts : List Part) → list_all (λ (e : Entry). has_small_cursor e.command) entries ≡ true → pipeline_parts position entries ≡ Ok parts → Pairwise IsWholePart entries parts
+pipeline_parts_are gaps entries position parts small e = whole_parts_are entries position parts (gaps_stay gaps entries small) e
 
 -- the primary of a slot, or any address where it has none
 abbrev pub primary_or_none : Option Nodes → Address

@@ -20,7 +20,8 @@ use Rattle.stream_commands.proofs.Respellings.{respelled_read_alike}
 use Rattle.cluster_client.specs.Links.Request.{Request, requests_to}
 use Rattle.cluster_client.specs.Links.Log.{Exchange, exchanges, left_after, left_after_all, reply_at, is_unanswered, last_of, has_lost}
 use Rattle.cluster_client.specs.Calls.Call.{Xadd, Xtrim, Xread, Xrange, Xclaim, Xautoclaim, Xpending, XinfoStream, XinfoGroups, XinfoConsumers, XdelEx, Call, Refresh, Query, Ordered, Pipeline, FanOut, OnStreams}
-use Rattle.cluster_client.specs.Calls.Task.{Task, slot_map_of, one_command, pipeline_of, several_nodes, task_of, plain_command, sentence}
+use Rattle.stream_commands.specs.Commands.{plain_command}
+use Rattle.cluster_client.specs.Calls.Task.{Task, slot_map_of, one_command, pipeline_of, several_nodes, task_of, sentence}
 use Rattle.cluster_client.specs.Calls.Parts.{result_then}
 use Rattle.cluster_client.specs.Calls.Plan.{Client, plan}
 use Rattle.cluster_client.specs.Calls.Legal.{IsLegalCall}

@@ -9,7 +9,8 @@ use Rattle.cluster_routing.specs.Lists.{concat, Pairwise}
 use Rattle.cluster_routing.specs.Policies.{or_bad_reply}
 use Rattle.cluster_client.specs.Links.Log.{Exchange}
 use Rattle.cluster_client.specs.Calls.Call.{Call, Refresh, Query, Ordered, Pipeline, FanOut, OnStreams}
-use Rattle.cluster_client.specs.Calls.Task.{task_of, plain_command, sentence}
+use Rattle.stream_commands.specs.Commands.{plain_command}
+use Rattle.cluster_client.specs.Calls.Task.{task_of, sentence}
 use Rattle.cluster_client.specs.Calls.Parts.{result_then}
 use Rattle.cluster_client.specs.Calls.Plan.{Client, Dispatch, plan}
 use Rattle.cluster_client.specs.Calls.Legal.{IsLegalCall}

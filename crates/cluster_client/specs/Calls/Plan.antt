@@ -95,9 +95,10 @@ abbrev pub order_of : Task → Option (List ℕ)
 order_of (one_command command number order) = order
 order_of _ = None
 
-abbrev pub in_order : Option (List ℕ) → List Dispatch → List Dispatch
-in_order None ds = ds
-in_order (Some order) ds = filter_map (slice_get ds) order
+-- what belongs to the parts, in the order of sending
+abbrev pub in_order : {A : Type 0} → Option (List ℕ) → List A → List A
+in_order None items = items
+in_order (Some order) items = filter_map (slice_get items) order
 
 -- the dispatches of a call in the order of sending, or why it is refused before a byte is sent
 abbrev pub plan : Client → List Address → Call → Result (List Dispatch) Refusal

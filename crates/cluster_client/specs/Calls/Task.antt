@@ -4,13 +4,13 @@ use Rattle.resp_core.specs.Errors.{Refusal, by_cause}
 use Rattle.resp_core.specs.declared.errors.redis_error.Cause.{Cause}
 use Rattle.resp_core.specs.declared.errors.redis_error.Cause.TheVariants.{NoKeys, SeveralSlots, BadGroupName, ClaimsIdsAlone}
 use Rattle.resp_args.specs.Command.{Command}
-use Rattle.resp_args.specs.declared.cmd.Arg.TheVariants.{Simple}
 use Rattle.cluster_routing.specs.Address.{Address}
 use Rattle.cluster_routing.specs.Command.{is_one_of}
 use Rattle.cluster_routing.specs.HashSlot.{hash_slot}
 use Rattle.cluster_routing.specs.Lists.{firsts}
 use Rattle.stream_commands.specs.Settings.{GroupNames, ReadSettings}
 use Rattle.stream_commands.specs.Commands as commands
+use Rattle.stream_commands.specs.Commands.{plain_command}
 use Rattle.cluster_client.specs.Calls.Call.{Entry, Stream, StreamCall, Xadd, Xtrim, Xread, Xrange, Xclaim, Xautoclaim, Xpending, XinfoStream, XinfoGroups, XinfoConsumers, XdelEx, Call, Refresh, Query, Ordered, Pipeline, FanOut, OnStreams}
 
 -- ---- sentences of calls on streams
@@ -34,10 +34,6 @@ sentence (XinfoStream key) = commands.xinfo_stream key
 sentence (XinfoGroups key) = commands.xinfo_groups key
 sentence (XinfoConsumers key group) = commands.xinfo_consumers key group
 sentence (XdelEx key ids policy) = commands.xdelex key policy ids
-
--- a command of these arguments, none of them a gap
-abbrev pub plain_command : List (List ℕ) → Command
-plain_command args = record { args = map (λ bytes. Simple bytes) args; cursor = None; no_response = false }
 
 -- ---- the checks of calls on streams, before all others
 

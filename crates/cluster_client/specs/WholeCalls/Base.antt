@@ -8,7 +8,7 @@ use Rattle.cluster_routing.specs.Examples.{first_node as n1, second_node as n2, 
 use Rattle.cluster_client.specs.Links.Request.{Request}
 use Rattle.cluster_client.specs.Links.Log.{Exchange, exchanges, replies}
 use Rattle.cluster_client.specs.Calls.Call.{Call, Query}
-use Rattle.cluster_client.specs.Calls.Task.{plain_command}
+use Rattle.stream_commands.specs.Commands.{plain_command}
 use Rattle.cluster_client.specs.Calls.Plan.{Client, Dispatch}
 use Rattle.cluster_client.specs.Links.Faults.{LinkFault, io}
 use Rattle.cluster_client.specs.Calls.Answer.{Answer, answer_of}

@@ -18,7 +18,7 @@ use Rattle.cluster_routing.specs.Split.{splitting_of}
 use Rattle.cluster_routing.specs.Policies.{bad_reply}
 use Rattle.cluster_client.specs.Links.Log.{Exchange}
 use Rattle.cluster_client.specs.Calls.Call.{Stream, Xread, Xclaim, Xtrim, Call, Query, Ordered, Pipeline, OnStreams}
-use Rattle.cluster_client.specs.Calls.Task.{plain_command}
+use Rattle.stream_commands.specs.Commands.{plain_command}
 use Rattle.cluster_client.specs.Calls.Plan.{plan}
 use Rattle.cluster_client.specs.Calls.Legal.{IsLegalCall}
 use Rattle.cluster_client.specs.Calls.Answer.{Trimmed, kind}

@@ -15,7 +15,7 @@ use Rattle.cluster_routing.specs.Split.{splitting_of}
 use Rattle.cluster_routing.specs.Combine.{array_of}
 use Rattle.cluster_client.specs.Links.Log.{Exchange}
 use Rattle.cluster_client.specs.Calls.Call.{Entry, Call, Pipeline}
-use Rattle.cluster_client.specs.Calls.Task.{plain_command}
+use Rattle.stream_commands.specs.Commands.{plain_command}
 use Rattle.cluster_client.specs.Calls.Plan.{plan}
 use Rattle.cluster_client.specs.Calls.Legal.{IsLegalCall}
 use Rattle.cluster_client.specs.Calls.Answer.{Value, kind}

@@ -1,9 +1,10 @@
 //! What a session uses of the client, each call in one place.
 use crate::session::lines::LineError;
 use crate::session::script::Node;
-use cluster_client::{Asked, ByteLink, ClusterClient, MemoryReader, MemoryWriter, NodeAddress};
-use resp_args::Cmd;
-use resp_core::{ErrorKind, RedisError, Value};
+use cluster_client::{
+    ByteLink, Call, ClusterClient, MemoryReader, MemoryWriter, NodeAddress, Played, play,
+};
+use resp_core::{ErrorKind, RedisError};
 use std::alloc::{AllocError, Global};
 
 /// A link over bytes in memory.
@@ -39,35 +40,15 @@ pub(super) fn client(
     ClusterClient::new(alloc, links, read_only, budget)
 }
 
-/// The command of these arguments.
-pub(super) fn command(alloc: Global, args: &[Vec<u8>]) -> Result<Cmd, AllocError> {
-    let mut command = Cmd::new(alloc);
-    for arg in args {
-        command.arg(arg.as_slice())?;
-    }
-    Ok(command)
-}
-
-pub(super) fn refresh(
+/// The calls, one after another, each with what it answered and asked for.
+pub(super) fn play_all(
     client: &mut Client,
     alloc: Global,
-    node: &NodeAddress,
-) -> Result<(), RedisError> {
-    client.refresh(alloc, node)
-}
-
-pub(super) fn query(
-    client: &mut Client,
-    alloc: Global,
-    command: &Cmd,
-    picks: u64,
-) -> Result<Value, RedisError> {
-    client.query(alloc, command, picks, None)
-}
-
-/// The last call's requests in order of sending.
-pub(super) fn asked(client: &Client) -> &[Asked] {
-    client.asked()
+    calls: &[Call],
+) -> Result<Vec<Played>, AllocError> {
+    let mut played = Vec::new(alloc);
+    play(client, alloc, calls, None, &mut played)?;
+    Ok(played)
 }
 
 /// Every node and its link, in the order in which the client got them.

@@ -1,6 +1,7 @@
 //! A line of a session: its words and what they say.
 use crate::session::calls;
-use crate::session::script::{Access, Call, Line, Node};
+use crate::session::script::{Access, Line, Node};
+use cluster_client::{Call, Cmd};
 use hex::FromHexError;
 use std::alloc::{AllocError, AllocFailed, Global};
 
@@ -88,10 +89,18 @@ fn read_words(alloc: Global, text: &str) -> Result<Line, LineError> {
         )),
         ["budget", budget] => Ok(Line::Budget(budget_of(budget)?)),
         ["refresh", address] => Ok(Line::Call(Call::Refresh(calls::address(alloc, address)?))),
-        ["query", picks, first, others @ ..] => Ok(Line::Call(Call::Query {
-            picks: number_of(picks)?,
-            args: arguments_of(alloc, first, others)?,
+        ["query", number, first, others @ ..] => Ok(Line::Call(Call::Query {
+            cmd: command_of(alloc, first, others)?,
+            number: number_of(number)?,
         })),
+        ["order", order, first, others @ ..] => Ok(Line::Call(Call::Ordered {
+            cmd: command_of(alloc, first, others)?,
+            order: order_of(alloc, order)?,
+            number: 0,
+        })),
+        ["fan", first, others @ ..] => Ok(Line::Call(Call::FanOut(command_of(
+            alloc, first, others,
+        )?))),
         _ => Err(LineError::Bad),
     }
 }
@@ -106,6 +115,19 @@ fn count_of(word: &str) -> Result<u64, LineError> {
         0 => Err(LineError::Bad),
         number => Ok(number),
     }
+}
+
+/// The numbers of parts, with commas between them.
+fn order_of(alloc: Global, word: &str) -> Result<Vec<usize>, LineError> {
+    let mut order = Vec::new(alloc);
+    for number in word.split(',') {
+        order.push(part_of(number)?)?;
+    }
+    Ok(order)
+}
+
+fn part_of(word: &str) -> Result<usize, LineError> {
+    usize::try_from(number_of(word)?).map_err(|_| LineError::Bad)
 }
 
 fn access_of(word: &str) -> Result<Access, LineError> {
@@ -143,11 +165,12 @@ fn hex_error(error: FromHexError) -> LineError {
     }
 }
 
-fn arguments_of(alloc: Global, first: &str, others: &[&str]) -> Result<Vec<Vec<u8>>, LineError> {
-    let mut arguments = Vec::new(alloc);
-    arguments.push(bytes_of(alloc, first)?)?;
+/// The command of these arguments.
+fn command_of(alloc: Global, first: &str, others: &[&str]) -> Result<Cmd, LineError> {
+    let mut command = Cmd::new(alloc);
+    command.arg(bytes_of(alloc, first)?.as_slice())?;
     for word in others {
-        arguments.push(bytes_of(alloc, word)?)?;
+        command.arg(bytes_of(alloc, word)?.as_slice())?;
     }
-    Ok(arguments)
+    Ok(command)
 }

@@ -5,10 +5,11 @@ mod words;
 
 ghost use Rattle.std.specs.Prelude.{◌≡◌, ◌++◌, OnOk, string_bytes};
 ghost use Rattle.cluster_session.specs.Output.{fault_line};
-ghost use Rattle.cluster_session.specs.Printed.{refresh_line, query_line, refused_line};
+ghost use Rattle.cluster_client.specs.Links.Play.{answer_result};
+ghost use Rattle.cluster_session.specs.Printed.{call_line, refused_line};
 
-use cluster_client::{Asked, NodeAddress};
-use resp_core::{RedisError, Value};
+use cluster_client::{Answer, Asked, NodeAddress};
+use resp_core::RedisError;
 use std::alloc::AllocError;
 use value::print_value;
 use words::{push_bytes, push_number};
@@ -22,32 +23,21 @@ pub(super) fn fault(output: &mut String, number: u64) -> Result<(), AllocError>
     output.push_str("\n")
 }
 
-/// The line of a refresh.
-pub(super) fn refreshed(
-    output: &mut String,
-    answer: &Result<(), RedisError>,
-) -> Result<(), AllocError>
-    ensures { OnOk result (string_bytes output.new ≡ string_bytes output.old ++ refresh_line answer.now) }
-{
-    match answer {
-        Ok(()) => output.push_str("ok\n"),
-        Err(error) => refused(output, error),
-    }
-}
-
-/// The line of a query.
+/// The line of a call.
 pub(super) fn answered(
     output: &mut String,
-    answer: &Result<Value, RedisError>,
+    answer: &Result<Answer, RedisError>,
 ) -> Result<(), AllocError>
-    ensures { OnOk result (string_bytes output.new ≡ string_bytes output.old ++ query_line answer.now) }
+    ensures { OnOk result (string_bytes output.new ≡ string_bytes output.old ++ call_line (answer_result answer.now)) }
 {
     match answer {
-        Ok(value) => {
+        Ok(Answer::Value(value)) => {
             output.push_str("ok ")?;
             print_value(output, value)?;
             output.push_str("\n")
         }
+        // A refresh has nothing more to print, and no line of a session makes the others.
+        Ok(_) => output.push_str("ok\n"),
         Err(error) => refused(output, error),
     }
 }

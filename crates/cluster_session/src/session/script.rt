@@ -1,6 +1,6 @@
 //! A checked session as data.
 use crate::session::lines::{LineError, read_line};
-use cluster_client::NodeAddress;
+use cluster_client::{Call, NodeAddress};
 use std::alloc::{AllocFailed, Global};
 use std::collections::BTreeMap;
 
@@ -34,13 +34,6 @@ impl Node {
         *failing = number;
         Ok(())
     }
-}
-
-/// A call that a session makes.
-#[derive(Drop)]
-pub(super) enum Call {
-    Refresh(NodeAddress),
-    Query { picks: u64, args: Vec<Vec<u8>> },
 }
 
 /// What a line says.

@@ -1,0 +1,18 @@
+use Rattle.std.proofs.Common.{map}
+use Rattle.std.specs.List.{AllByRecursion}
+use Rattle.std.specs.Vec.Iter.{into_iter_items}
+use Rattle.cluster_routing.specs.Address.{same_address}
+use Rattle.cluster_routing.specs.Lists.{IsDistinct}
+use Rattle.cluster_routing.specs.Outcomes.{outcomes_of}
+use Rattle.cluster_client.specs.Links.Dispatches.{IsPlaced, dispatch_of}
+use Rattle.cluster_client.specs.Links.Whole.{whole}
+use Rattle.cluster_client.specs.Links.World.{nodes}
+use Rattle.cluster_client.proofs.LinkLaws.NodeLoop.{AskLoop, node_of}
+use Rattle.cluster_client.proofs.client.ClusterClient.ask_each.Given as goal
+
+abbrev pub invariant-nodes : goal.invariant-nodes
+invariant-nodes g l = record {
+  loop : AskLoop (whole g.L.ConnectionLike.seen l.fn.self) (whole g.L.ConnectionLike.seen l.self) (map dispatch_of l.fn.dispatches.items) (map dispatch_of (into_iter_items l.dispatch-iterator)) (outcomes_of l.outcomes.items);
+  placed : AllByRecursion (IsPlaced (nodes g.L.ConnectionLike.seen l.self.links.nodes.items)) (into_iter_items l.dispatch-iterator);
+  apart : IsDistinct same_address (map node_of (into_iter_items l.dispatch-iterator));
+}

@@ -1,0 +1,16 @@
+use Rattle.std.specs.List.{AllByRecursion}
+use Rattle.std.specs.Vec.Iter.{into_iter_items}
+use Rattle.std.proofs.Common.{map}
+use Rattle.resp_core.specs.View.{view}
+use Rattle.cluster_client.specs.Links.Groups.{group_of}
+use Rattle.cluster_client.specs.Links.GroupRuns.{IsGroupPlaced, answered_at}
+use Rattle.cluster_client.specs.Links.Whole.{whole}
+use Rattle.cluster_client.specs.Links.World.{nodes}
+use Rattle.cluster_client.proofs.LinkLaws.GroupLoop.{GroupLoop}
+use Rattle.cluster_client.proofs.client.ClusterClient.exchange_all.Given as goal
+
+abbrev pub invariant-groups : goal.invariant-groups
+invariant-groups g l = record {
+  loop : GroupLoop (whole g.L.ConnectionLike.seen l.fn.self) (whole g.L.ConnectionLike.seen l.self) (map group_of l.fn.groups.items) (map group_of (into_iter_items l.group-iterator)) (map (answered_at view) l.answered.items);
+  placed : AllByRecursion (λ h. IsGroupPlaced (nodes g.L.ConnectionLike.seen l.fn.self.links.nodes.items) (group_of h)) (into_iter_items l.group-iterator);
+}

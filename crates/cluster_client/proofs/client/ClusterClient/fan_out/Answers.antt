@@ -1,0 +1,36 @@
+use Rattle.std.proofs.Common.{None, refl, sym, ap}
+use Rattle.std.proofs.lemmas.Result.{err_from_is_err_and}
+use Rattle.cluster_routing.specs.Info.{texts}
+use Rattle.cluster_routing.specs.Seen.{addresses}
+use Rattle.cluster_client.specs.Links.Happened.{client_of}
+use Rattle.cluster_client.specs.Links.Whole.{whole}
+use Rattle.cluster_client.proofs.LinkLaws.SeveralNodes.{fan_made, fan_not_sent, list_apart, made_of}
+use Rattle.cluster_client.proofs.client.ClusterClient.fan_out.Goals as goal
+
+pub returns-in_err-list : goal.returns-in_err-list
+returns-in_err-list g c =
+    let p = err_from_is_err_and c.from_residual.result c.from_residual.ensures.1 in
+    let world = whole g.L.ConnectionLike.seen c.args.self.now in
+    rw (p.1, p.2) (λ strategy. fan_not_sent strategy _ _ c.args.cmd.now _ (record { nodes = refl; log = c.new.ensures.items; entries = refl; settings = refl; flag = refl }) (ap addresses c.new-2.ensures.items)
+    (λ m. c.in_err-list.ensures.planned (λ k. m (cc k)) strategy (client_of world) refl refl (ap texts (sym c.deref.ensures.value))))
+
+pub ask_each-requires-clause-apart : goal.ask_each-requires-clause-apart
+ask_each-requires-clause-apart g c =
+    let client = client_of (whole g.L.ConnectionLike.seen c.args.self.now) in
+    let planned = c.in_ok-list.ensures.planned (λ k. cc k) None client refl refl (ap texts (sym c.deref.ensures.value)) in
+    list_apart client c.args.cmd.now _ planned.planned
+
+pub returns-in_err-outcomes : goal.returns-in_err-outcomes
+returns-in_err-outcomes g c =
+    let p = err_from_is_err_and c.from_residual-in_err-outcomes.result c.from_residual-in_err-outcomes.ensures.1 in
+    let world = whole g.L.ConnectionLike.seen c.args.self.now in
+    rw (p.1, p.2) (λ strategy.
+    let planned = c.in_ok-list.ensures.planned (λ k. cc k) strategy (client_of world) refl refl (ap texts (sym c.deref.ensures.value)) in
+    fan_made strategy world _ _ _ c.args.cmd.now _ _ _ c.new.ensures.items (ap addresses c.new-2.ensures.items) planned c.in_err-outcomes.ensures refl)
+
+pub returns : goal.returns
+returns g c = λ strategy.
+    let world = whole g.L.ConnectionLike.seen c.args.self.now in
+    let planned = c.in_ok-list.ensures.planned (λ k. cc k) strategy (client_of world) refl refl (ap texts (sym c.deref.ensures.value)) in
+    fan_made strategy world _ _ _ c.args.cmd.now _ _ _ c.new.ensures.items (ap addresses c.new-2.ensures.items) planned c.in_ok-outcomes.ensures
+    (made_of c.args.cmd.now _ _ _ c.in_ok-list.ensures.policy c.reply_of_nodes.ensures)

@@ -1,0 +1,13 @@
+use Rattle.std.proofs.Common.{map, refl, ap, subst}
+use Rattle.std.proofs.lemmas.List.{map-id}
+use Rattle.cluster_client.specs.Calls.Answer.{Deleted}
+use Rattle.cluster_client.specs.Calls.Call.{XdelEx}
+use Rattle.cluster_client.specs.Links.Typed.{deletion_of}
+use Rattle.cluster_client.proofs.Deletions.{codes_shown}
+use Rattle.cluster_client.proofs.LinkLaws.TypedCalls.{answered_so, shown_alike}
+use Rattle.cluster_client.proofs.client.ClusterClient.xdel_ex.Goals as goal
+
+pub returns : goal.returns
+returns g c =
+    answered_so _ _ _ _ _ _ (shown_alike _ _ (λ codes. ap (λ cs. Deleted (map deletion_of cs)) (map-id codes.items)) c.reply_as.result)
+    (c.reply_as.ensures (XdelEx (g.K.ToSingleRedisArg.arg c.args.key) (map g.I.ToSingleRedisArg.arg c.args.ids.now) c.args.policy) (λ codes. Deleted (map deletion_of codes)) refl c.xdel_ex-cmd.ensures codes_shown)

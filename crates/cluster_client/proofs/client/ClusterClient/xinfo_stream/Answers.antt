@@ -1,0 +1,7 @@
+use Rattle.std.proofs.Common.{refl}
+use Rattle.cluster_client.specs.Calls.Answer.{Stream}
+use Rattle.cluster_client.specs.Calls.Call.{XinfoStream}
+use Rattle.cluster_client.proofs.client.ClusterClient.xinfo_stream.Goals as goal
+
+pub returns : goal.returns
+returns g c = c.reply_as.ensures (XinfoStream (g.K.ToSingleRedisArg.arg c.args.key)) Stream refl c.xinfo_stream-cmd.ensures (λ tree. refl)

@@ -1,0 +1,7 @@
+use Rattle.std.proofs.Common.{refl}
+use Rattle.cluster_client.specs.Calls.Answer.{Trimmed}
+use Rattle.cluster_client.specs.Calls.Call.{Xtrim}
+use Rattle.cluster_client.proofs.client.ClusterClient.xtrim.Goals as goal
+
+pub returns : goal.returns
+returns g c = c.reply_as.ensures (Xtrim (g.K.ToSingleRedisArg.arg c.args.key) c.args.options.now) Trimmed refl c.xtrim-cmd.ensures (λ tree. refl)

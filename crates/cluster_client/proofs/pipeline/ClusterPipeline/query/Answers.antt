@@ -1,0 +1,26 @@
+use Rattle.std.proofs.Common.{rules, ◌≡◌, ◌≢◌, ◌∙◌, refl, ap, Err, Ok}
+use Rattle.std.proofs.lemmas.Result.{err_from_is_err_and}
+use Rattle.resp_core.specs.View.{view}
+use Rattle.cluster_client.proofs.pipeline.ClusterPipeline.query.Goals as goal
+
+pub returns-in_err-reply-clause-happened : goal.returns-in_err-reply-clause-happened
+returns-in_err-reply-clause-happened g c strategy = (rw c.commands.ensures at (c.in_err-reply.ensures strategy)).happened
+
+pub returns-in_err-reply-clause-answered : goal.returns-in_err-reply-clause-answered
+returns-in_err-reply-clause-answered g c m strategy =
+    let p = err_from_is_err_and c.from_residual.result c.from_residual.ensures.1 in
+    rw (p.1, p.2) (record { reply = Err c.in_err-reply.field-0.0; made = rw c.commands.ensures at (c.in_err-reply.ensures strategy); converted = refl })
+
+pub returns-in_err-from_redis_value-clause-happened : goal.returns-in_err-from_redis_value-clause-happened
+returns-in_err-from_redis_value-clause-happened g c strategy = (rw c.commands.ensures at (c.in_ok-reply.ensures strategy)).happened
+
+pub returns-clause-happened : goal.returns-clause-happened
+returns-clause-happened g c strategy = (rw c.commands.ensures at (c.in_ok-reply.ensures strategy)).happened
+
+pub returns-in_err-from_redis_value-clause-answered : goal.returns-in_err-from_redis_value-clause-answered
+returns-in_err-from_redis_value-clause-answered g c m strategy =
+    record { reply = Ok (view c.in_ok-reply.reply); made = rw c.commands.ensures at (c.in_ok-reply.ensures strategy); converted = search rules }
+
+pub returns-clause-answered : goal.returns-clause-answered
+returns-clause-answered g c m strategy =
+    record { reply = Ok (view c.in_ok-reply.reply); made = rw c.commands.ensures at (c.in_ok-reply.ensures strategy); converted = search rules }

@@ -1,0 +1,302 @@
+//! A command to several nodes: each of them is asked once, ascending, and their replies become one.
+ghost use Rattle.std.specs.List.{AllByRecursion};
+ghost use Rattle.std.specs.Prelude.{◌≡◌, ◌≢◌, ◌||◌, Err, IfErr, IfOk, Option, [], ◌∷◌, map, option_map};
+ghost use Rattle.resp_core.specs.Errors.{by_cause};
+ghost use Rattle.resp_core.specs.View.{view};
+ghost use Rattle.resp_core.specs.declared.errors.redis_error.Cause.TheVariants.{Memory};
+ghost use Rattle.resp_args.specs.Packed.{sent};
+ghost use Rattle.cluster_routing.specs.Address.{same_address};
+ghost use Rattle.cluster_routing.specs.Choice.{Strategy};
+ghost use Rattle.cluster_routing.specs.Info.{shown_info, texts};
+ghost use Rattle.cluster_routing.specs.Lists.{IsDistinct};
+ghost use Rattle.cluster_routing.specs.Outcomes.{outcomes_of};
+ghost use Rattle.cluster_routing.specs.Policies.{tree_or_refusal};
+ghost use Rattle.cluster_routing.specs.Routing.{destination};
+ghost use Rattle.cluster_routing.specs.Seen.{address};
+ghost use Rattle.cluster_client.specs.Calls.Answer.{tree_in};
+ghost use Rattle.cluster_client.specs.Calls.Call.{FanOut};
+ghost use Rattle.cluster_client.specs.Calls.Parts.{at_node};
+ghost use Rattle.cluster_client.specs.Calls.Plan.{Client, first_of};
+ghost use Rattle.cluster_client.specs.Calls.Replies.{policy_in, reply_by_outcomes};
+ghost use Rattle.cluster_client.specs.Links.Converted.{value_answer};
+ghost use Rattle.cluster_client.specs.Links.Dispatches.{AreDispatched, IsPlaced, IsPlanned, dispatch_of, dispatches_of};
+ghost use Rattle.cluster_client.specs.Links.FirstPlaces.{node_by, node_with_link};
+ghost use Rattle.cluster_client.specs.Links.Happened.{CallMade};
+ghost use Rattle.cluster_client.specs.Links.Log.{is_moved_reply};
+ghost use Rattle.cluster_client.specs.Links.NodeRuns.{IsOutcomeOf, NodesAsked, all_outcomes, listed_by, nodes_named, one_outcome, parts_to_nodes};
+ghost use Rattle.cluster_client.specs.Links.Whole.{whole};
+ghost use Rattle.cluster_client.specs.Links.World.{nodes, open_links, tree_result};
+
+use crate::asked::Asked;
+use crate::client::ClusterClient;
+use crate::dispatch::Dispatch;
+use crate::exchange::exchange_one;
+use crate::links::Links;
+use crate::place::Place;
+use crate::reply::needs_refresh;
+use cluster_routing::{
+    MultipleNodeRoutingInfo, NodeAddress, ResponsePolicy, RoutingInfo, SlotMap, combine_nodes,
+};
+use resp_args::Cmd;
+use resp_core::{Cause, ErrorKind, RedisError, Value};
+use resp_link::ConnectionLike;
+use std::alloc::{AllocError, Global};
+
+/// The nodes that a command names, ascending; `None` where it does not go to several nodes.
+fn nodes_named<'a>(
+    alloc: Global,
+    slots: &'a SlotMap,
+    info: &Option<RoutingInfo>,
+) -> Result<Option<Vec<&'a NodeAddress>>, AllocError>
+    ensures { IfOk result (λ o. option_map (λ v. map (λ a. address a.now) v.items) o ≡ nodes_named slots.now (option_map shown_info info.now)) }
+{
+    match info {
+        Some(RoutingInfo::MultiNode((MultipleNodeRoutingInfo::AllNodes, _))) => Ok(Some(
+            slots.addresses_for_all_nodes(alloc)?,
+        )),
+        Some(RoutingInfo::MultiNode((MultipleNodeRoutingInfo::AllMasters, _))) => Ok(Some(
+            slots.addresses_for_all_primaries(alloc)?,
+        )),
+        _ => Ok(None),
+    }
+}
+
+/// How the replies to a command that goes to several nodes become one.
+fn policy_in(info: Option<RoutingInfo>) -> Option<ResponsePolicy>
+    ensures { result ≡ policy_in (option_map shown_info info) }
+{
+    match info {
+        Some(RoutingInfo::MultiNode((MultipleNodeRoutingInfo::AllNodes, policy))) => policy,
+        Some(RoutingInfo::MultiNode((MultipleNodeRoutingInfo::AllMasters, policy))) => policy,
+        _ => None,
+    }
+}
+
+/// The command as it goes to one node, over its open link.
+///
+/// # Errors
+/// `NoLink` where no usable link leads to the node; `Memory`.
+fn dispatch_to<L: ConnectionLike>(
+    links: &Links<L>,
+    node: &NodeAddress,
+    cmd: &Cmd,
+) -> Result<Dispatch, RedisError>
+    ensures node { result ≢ Err (by_cause Memory) → node_by (λ d. address d.place.node) result ≡ node_with_link (open_links (nodes L.seen links.now.nodes.items)) (first_of [] [] (at_node (address node.now))) }
+    ensures args { IfOk result (λ d. texts d.args.items ≡ sent cmd.now) }
+    ensures placed { IfOk result (λ d. IsPlaced (nodes L.seen links.now.nodes.items) d) }
+{
+    let Some(which) = links.open_place(node) else {
+        return Err(RedisError::from(Cause::NoLink));
+    };
+    let place = Place {
+        node: node.clone()?,
+        which,
+        asking: false,
+    };
+    Ok(Dispatch {
+        place,
+        args: cmd.wire_args()?,
+    })
+}
+
+/// The command as it goes to each of these nodes.
+///
+/// # Errors
+/// `NoLink` where no usable link leads to one of them; `Memory`.
+fn dispatches_to<L: ConnectionLike>(
+    links: &Links<L>,
+    alloc: Global,
+    addresses: Vec<&NodeAddress>,
+    cmd: &Cmd,
+) -> Result<Vec<Dispatch>, RedisError>
+    ensures dispatched { result ≢ Err (by_cause Memory) → (strategy : Option Strategy) (client : Client) → client.links ≡ open_links (nodes L.seen links.now.nodes.items)
+        → AreDispatched strategy client (parts_to_nodes (sent cmd.now) (map (λ a. address a.now) addresses.entry.items)) [] (dispatches_of result) }
+    ensures placed { IfOk result (λ v. AllByRecursion (IsPlaced (nodes L.seen links.now.nodes.items)) v.items) }
+{
+    let mut all = Vec::new(alloc);
+    'nodes: for node in addresses {
+        let dispatch = dispatch_to(links, node, cmd)?;
+        all.push(dispatch)?;
+    }
+    Ok(all)
+}
+
+/// What is there of a command to several nodes before its first byte: where it goes, and how the
+/// replies become one.
+#[derive(Drop)]
+struct NodeDispatches {
+    list: Vec<Dispatch>,
+    policy: Option<ResponsePolicy>,
+}
+
+/// A command as it goes to several nodes, ascending.
+///
+/// # Errors
+/// `NoResponse` for a command that waits for none; `NoRoute` for one that does not go to several
+/// nodes; `NoNode` where the slot map has no node; `NoLink` where no usable link leads to one of
+/// them; `Memory`.
+fn node_dispatches<L: ConnectionLike>(
+    links: &Links<L>,
+    alloc: Global,
+    slots: &SlotMap,
+    read_only: &[Vec<u8>],
+    cmd: &Cmd,
+) -> Result<NodeDispatches, RedisError>
+    ensures planned { result ≢ Err (by_cause Memory) → (strategy : Option Strategy) (client : Client) → client.links ≡ open_links (nodes L.seen links.now.nodes.items)
+        → client.entries ≡ slots.now → client.settings.read_only ≡ texts read_only.now → IsPlanned strategy client (FanOut cmd.now) [] (listed_by result) }
+    ensures placed { IfOk result (λ n. AllByRecursion (IsPlaced (nodes L.seen links.now.nodes.items)) n.list.items) }
+    ensures policy { IfOk result (λ n. n.policy ≡ policy_in (destination cmd.now.args [])) }
+{
+    if cmd.is_no_response() {
+        return Err(RedisError::from(Cause::NoResponse));
+    }
+    let info = RoutingInfo::for_routable(alloc, cmd, read_only)?;
+    let Some(addresses) = nodes_named(alloc, slots, &info)? else {
+        return Err(RedisError::from(Cause::NoRoute));
+    };
+    if addresses.is_empty() {
+        return Err(RedisError::from(Cause::NoNode));
+    }
+    let list = dispatches_to(links, alloc, addresses, cmd)?;
+    Ok(NodeDispatches {
+        list,
+        policy: policy_in(info),
+    })
+}
+
+/// Whether a refresh is needed after this reply of a node, if it gave one.
+fn needs_refresh_by(flag: bool, reply: &Result<Value, RedisError>) -> bool
+    ensures { result ≡ (flag || is_moved_reply (tree_in (tree_result view reply.now))) }
+{
+    match reply {
+        Ok(value) => needs_refresh(flag, value),
+        Err(_) => flag,
+    }
+}
+
+/// A node's outcome; want of memory is none.
+fn unless_memory(
+    outcome: Result<Value, RedisError>,
+) -> Result<Result<Value, RedisError>, RedisError>
+    ensures same { IfOk result (λ o. o ≡ outcome) }
+    ensures memory { IfOk result (λ o. IfErr o (λ e. e ≢ by_cause Memory)) }
+    ensures only { IfErr result (λ e. e ≡ by_cause Memory) }
+{
+    match outcome {
+        Ok(value) => Ok(Ok(value)),
+        Err(e) => match e.kind() {
+            ErrorKind::Memory => Err(RedisError::from(Cause::Memory)),
+            _ => Ok(Err(e)),
+        },
+    }
+}
+
+/// A node's outcome by its reply, or by why it gave none: a reply that is or holds an error is a
+/// refusal.
+fn outcome_in(reply: Result<Value, RedisError>) -> Result<Result<Value, RedisError>, RedisError>
+    ensures outcome { IfOk result (λ o. IsOutcomeOf (tree_result view reply) (tree_or_refusal o)) }
+    ensures only { IfErr result (λ e. e ≡ by_cause Memory) }
+{
+    match reply {
+        Ok(value) => unless_memory(value.extract_error()),
+        Err(e) => unless_memory(Err(e)),
+    }
+}
+
+/// One reply from the outcomes of all nodes.
+///
+/// # Errors
+/// `UnexpectedReturnType` where there is no policy, or none can be made of them; a node's refusal
+/// where the policy answers it; `Memory`.
+fn reply_of_nodes(
+    alloc: Global,
+    policy: Option<ResponsePolicy>,
+    outcomes: Vec<(NodeAddress, Result<Value, RedisError>)>,
+) -> Result<Value, RedisError>
+    ensures { result ≢ Err (by_cause Memory) → tree_or_refusal result ≡ reply_by_outcomes policy (outcomes_of outcomes.items) }
+{
+    match policy {
+        None => Err(RedisError::from(Cause::UnexpectedReturnType)),
+        Some(policy) => combine_nodes(alloc, policy, outcomes),
+    }
+}
+
+impl<L: ConnectionLike + Drop> ClusterClient<L> {
+    /// Sends a command to all nodes or to all primaries of the slot map, as the routing table says
+    /// (`RoutingInfo::for_routable`), and makes one reply of theirs by the command's policy
+    /// (`ResponsePolicy`).
+    ///
+    /// All links are found before the first byte. Each node is asked once, in the ascending order of
+    /// the addresses, and no redirect is followed. A reply that is or holds an error counts as that
+    /// node's refusal, and so does a link that fails, which is closed then; the other nodes are still
+    /// asked. A reply that is itself MOVED raises `needs_refresh`.
+    ///
+    /// # Errors
+    /// In the order of the checks: `NoResponse` for a command that waits for none; `NoRoute` for one
+    /// that goes nowhere or to one node by the table; `NoNode` where the slot map has no node;
+    /// `NoLink` where no usable link leads to one of the nodes. Until then nothing is sent. Then, by
+    /// the policy, a node's refusal: the server's error, `Io` or `Parse`; `UnexpectedReturnType` where
+    /// there is no policy or the replies have not the shape that becomes one. `Memory`, which asks no
+    /// further node.
+    pub fn fan_out(&mut self, alloc: Global, cmd: &Cmd) -> Result<Value, RedisError>
+        ensures { (strategy : Option Strategy) → CallMade strategy (whole L.seen self.old) (whole L.seen self.new) (FanOut cmd.now) (value_answer (tree_result view result)) }
+    {
+        self.asked = Vec::new(alloc);
+        self.picked = Vec::new(alloc);
+        let NodeDispatches { list, policy } = node_dispatches(
+            &self.links,
+            alloc,
+            &self.slots,
+            &self.read_only,
+            cmd,
+        )?;
+        let outcomes = self.ask_each(alloc, list)?;
+        reply_of_nodes(alloc, policy, outcomes)
+    }
+
+    /// The outcomes of nodes that are asked one after another.
+    fn ask_each(
+        &mut self,
+        alloc: Global,
+        dispatches: Vec<Dispatch>,
+    ) -> Result<Vec<(NodeAddress, Result<Value, RedisError>)>, RedisError>
+        requires placed { AllByRecursion (IsPlaced (nodes L.seen self.old.links.nodes.items)) dispatches.items }
+        requires apart { IsDistinct same_address (map (λ d. address d.place.node) dispatches.items) }
+        ensures { NodesAsked (whole L.seen self.old) (whole L.seen self.new) (map dispatch_of dispatches.items) (all_outcomes result) }
+    {
+        let mut outcomes = Vec::new(alloc);
+        'nodes: for dispatch in dispatches {
+            let outcome = self.ask(alloc, dispatch)?;
+            outcomes.push(outcome)?;
+        }
+        Ok(outcomes)
+    }
+
+    /// A node, and its outcome of one request.
+    fn ask(
+        &mut self,
+        alloc: Global,
+        dispatch: Dispatch,
+    ) -> Result<(NodeAddress, Result<Value, RedisError>), RedisError>
+        requires { IsPlaced (nodes L.seen self.old.links.nodes.items) dispatch }
+        ensures { NodesAsked (whole L.seen self.old) (whole L.seen self.new) (dispatch_of dispatch ∷ []) (one_outcome result) }
+    {
+        let Dispatch { place, args } = dispatch;
+        let node = place.node.clone()?;
+        let request = Asked {
+            node: place.node,
+            args,
+            asking: place.asking,
+        };
+        let reply = exchange_one(
+            &mut self.links,
+            alloc,
+            &mut self.asked,
+            place.which,
+            request,
+        );
+        self.needs_refresh = needs_refresh_by(self.needs_refresh, &reply);
+        let outcome = outcome_in(reply)?;
+        Ok((node, outcome))
+    }
+}

@@ -1,0 +1,151 @@
+//! Pipelines are sent: to each node its commands in one write.
+ghost use Rattle.std.specs.Prelude.{◌≡◌, ◌≢◌, ◌<◌, [], Err, Option, map, vec_len, IfOk};
+ghost use Rattle.std.specs.List.{AllByRecursion};
+ghost use Rattle.resp_core.specs.Errors.{by_cause};
+ghost use Rattle.resp_core.specs.View.{view};
+ghost use Rattle.resp_core.specs.declared.errors.redis_error.Cause.TheVariants.{Memory};
+ghost use Rattle.cluster_routing.specs.Choice.{Strategy};
+ghost use Rattle.cluster_routing.specs.Seen.{addresses};
+ghost use Rattle.cluster_client.specs.Calls.Call.{Pipeline};
+ghost use Rattle.cluster_client.specs.Links.Converted.{ValueMade, value_answer};
+ghost use Rattle.cluster_client.specs.Links.Dispatches.{IsPlaced, IsPlanned, dispatches_of};
+ghost use Rattle.cluster_client.specs.Links.Happened.{CallMade, Happened, client_of};
+ghost use Rattle.cluster_client.specs.Links.GroupRuns.{GroupExchanged, GroupsMade, IsGroupPlaced, answers_of};
+ghost use Rattle.cluster_client.specs.Links.Groups.{group_of};
+ghost use Rattle.cluster_client.specs.Links.Run.{with_log};
+ghost use Rattle.cluster_client.specs.Links.Whole.{whole};
+ghost use Rattle.cluster_client.specs.Links.World.{nodes, tree_result, tree_results};
+
+use crate::asked::Asked;
+use crate::client::ClusterClient;
+use crate::dispatch::{Dispatch, dispatches};
+use crate::drawn::{Answered, drawn};
+use crate::exchange::exchange;
+use crate::grouped::{Group, grouped, places_of};
+use crate::pipeline::{ClusterPipeline, PipelineCommand};
+use crate::pipeline_parts::pipeline_parts;
+use crate::pipeline_reply::{refresh_needed, reply_of_pipeline};
+use resp_args::{FromRedisValue, from_redis_value};
+use resp_core::{RedisError, Value};
+use resp_link::ConnectionLike;
+use std::alloc::Global;
+
+impl<L: ConnectionLike + Drop> ClusterClient<L> {
+    /// What is done for a pipeline before its first byte: where each command goes.
+    fn pipeline_dispatches(
+        &mut self,
+        alloc: Global,
+        commands: &[PipelineCommand],
+    ) -> Result<Vec<Dispatch>, RedisError>
+        ensures stays { whole L.seen self.new ≡ with_log (whole L.seen self.old) [] (addresses self.new.picked.items) }
+        ensures planned { result ≢ Err (by_cause Memory) → (strategy : Option Strategy) → IsPlanned strategy (client_of (whole L.seen self.old)) (Pipeline commands.now) (addresses self.new.picked.items) (dispatches_of result) }
+        ensures placed { IfOk result (λ v. AllByRecursion (IsPlaced (nodes L.seen self.new.links.nodes.items)) v.items) }
+    {
+        self.asked = Vec::new(alloc);
+        self.picked = Vec::new(alloc);
+        let parts = pipeline_parts(alloc, commands)?;
+        dispatches(
+            &self.links,
+            alloc,
+            &self.slots,
+            parts,
+            None,
+            &mut self.picked,
+        )
+    }
+
+    /// The replies to requests that go out over one link in one write.
+    fn exchange_group(
+        &mut self,
+        alloc: Global,
+        which: usize,
+        requests: Vec<Asked>,
+    ) -> Result<Vec<Value>, RedisError>
+        requires { which < vec_len self.old.links.nodes }
+        ensures len { vec_len self.new.links.nodes ≡ vec_len self.old.links.nodes }
+        ensures exchanged { GroupExchanged (whole L.seen self.old) (whole L.seen self.new) which requests.items (tree_results view result) }
+    {
+        let count = requests.len();
+        let replies = exchange(
+            &mut self.links,
+            alloc,
+            &mut self.asked,
+            which,
+            requests,
+            0,
+            count,
+        )?;
+        self.needs_refresh = refresh_needed(self.needs_refresh, &replies);
+        Ok(replies)
+    }
+
+    /// The replies of one node after another, up to the first whose link fails.
+    fn exchange_all(
+        &mut self,
+        alloc: Global,
+        groups: Vec<Group>,
+    ) -> Result<Vec<Answered<Value>>, RedisError>
+        requires { AllByRecursion (λ g. IsGroupPlaced (nodes L.seen self.old.links.nodes.items) (group_of g)) groups.items }
+        ensures { GroupsMade (whole L.seen self.old) (whole L.seen self.new) (map group_of groups.items) (answers_of view result) }
+    {
+        let mut answered = Vec::new(alloc);
+        'groups: for group in groups {
+            let Group { which, requests } = group;
+            let items = self.exchange_group(alloc, which, requests)?;
+            answered.push(Answered { which, items })?;
+        }
+        Ok(answered)
+    }
+
+    /// The one reply to a pipeline.
+    pub(crate) fn reply_to_pipeline(
+        &mut self,
+        alloc: Global,
+        commands: &[PipelineCommand],
+    ) -> Result<Value, RedisError>
+        ensures { (strategy : Option Strategy) → CallMade strategy (whole L.seen self.old) (whole L.seen self.new) (Pipeline commands.now) (value_answer (tree_result view result)) }
+    {
+        let dispatches = self.pipeline_dispatches(alloc, commands)?;
+        let count = self.links.nodes.len();
+        let places = places_of(alloc, &dispatches)?;
+        let groups = grouped(alloc, count, dispatches)?;
+        let answered = self.exchange_all(alloc, groups)?;
+        let replies = drawn(alloc, count, &places, answered)?;
+        reply_of_pipeline(alloc, commands, replies)
+    }
+}
+
+impl ClusterPipeline {
+    /// Sends the commands to the nodes that serve them, and answers the array of their replies as a `T`,
+    /// without the replies that are ignored.
+    ///
+    /// Each command goes whole to the primary of its slot. Before the first byte all commands are
+    /// routed, and then their links are found. The nodes are served in the order in which the commands
+    /// first use them: each gets all of its commands in one write, in the order of the pipeline, and
+    /// then its replies are taken. No redirect is followed, and nothing is sent twice. Without commands
+    /// nothing is sent, and the array is empty.
+    ///
+    /// # Errors
+    /// In the order of the checks: for the first command that waits for no response, or does not go
+    /// whole to one slot, its position (`RedisError::position`); then command by command `NoNode` where
+    /// no node serves its slot and `NoLink` where no usable link leads to the node. Until then nothing
+    /// is sent. `Io` and `Parse` where a link failed, which is closed then; no later node is served.
+    /// Where replies hold errors, also ignored ones, all of these, each the first of its reply, with the
+    /// positions of their commands (`RedisError::into_server_errors`). `UnexpectedReturnType` where the
+    /// array is no `T`; `Memory`.
+    ///
+    /// Source: the documentation of the crate `redis`, `ClusterPipeline`.
+    pub fn query<L: ConnectionLike + Drop, T: FromRedisValue>(
+        &self,
+        alloc: Global,
+        client: &mut ClusterClient<L>,
+    ) -> Result<T, RedisError>
+        // What happened, also where memory is refused. No strategy is asked: it holds for each.
+        ensures happened { (strategy : Option Strategy) → Happened strategy (whole L.seen client.old) (whole L.seen client.new) (Pipeline self.now) }
+        ensures answered { result ≢ Err (by_cause Memory) → (strategy : Option Strategy)
+            → ValueMade strategy (whole L.seen client.old) (whole L.seen client.new) (Pipeline self.now) T.meaning T.convert result }
+    {
+        let reply = client.reply_to_pipeline(alloc, self.commands())?;
+        Ok(from_redis_value(alloc, reply)?)
+    }
+}

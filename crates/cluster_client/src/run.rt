@@ -1,0 +1,294 @@
+//! Runs of calls, one after another, each with what it answered and the requests that it made.
+mod streams;
+
+ghost use Rattle.std.specs.Prelude.{Option, is_ok, map, option_map};
+ghost use Rattle.cluster_routing.specs.Choice.{Strategy};
+ghost use Rattle.cluster_routing.specs.Seen.{address};
+ghost use Rattle.cluster_client.specs.Calls.Call.{FanOut, Ordered, Pipeline, Query, Refresh};
+ghost use Rattle.cluster_client.specs.Links.Happened.{CallMade};
+ghost use Rattle.cluster_client.specs.Links.Play.{Plays, PlaysOne, answer_result, call_in, shown};
+ghost use Rattle.cluster_client.specs.Links.Whole.{whole};
+
+use crate::asked::Asked;
+use crate::client::ClusterClient;
+use crate::pipeline::ClusterPipeline;
+use cluster_routing::{NodeAddress, ReadRoutingStrategy};
+use resp_args::Cmd;
+use resp_core::{RedisError, Value};
+use resp_link::ConnectionLike;
+use std::alloc::{AllocError, Global};
+use stream_commands::{
+    StreamAddOptions, StreamAutoClaimOptions, StreamAutoClaimReply, StreamClaimOptions,
+    StreamClaimReply, StreamDeletionPolicy, StreamInfoConsumersReply, StreamInfoGroupsReply,
+    StreamInfoStreamReply, StreamPendingReply, StreamRangeReply, StreamReadOptions,
+    StreamReadReply, StreamTrimOptions, XDelExStatusCode,
+};
+
+/// A call of a client, as `play` makes it. Keys, ids, names, fields and values are bytes.
+#[derive(Drop)]
+pub enum Call {
+    /// `ClusterClient::refresh`.
+    Refresh(NodeAddress),
+    /// `ClusterClient::query`; it answers the reply.
+    Query {
+        cmd: Cmd,
+        number: u64,
+    },
+    /// `ClusterClient::query_ordered`; it answers the reply.
+    Ordered {
+        cmd: Cmd,
+        order: Vec<usize>,
+        number: u64,
+    },
+    /// `ClusterPipeline::query`; it answers the array of the replies that are not ignored.
+    Pipeline(ClusterPipeline),
+    /// `ClusterClient::fan_out`; it answers the one reply that the nodes' replies make.
+    FanOut(Cmd),
+    /// `ClusterClient::xadd`.
+    Xadd {
+        key: Vec<u8>,
+        options: StreamAddOptions,
+        id: Vec<u8>,
+        fields: Vec<(Vec<u8>, Vec<u8>)>,
+    },
+    /// `ClusterClient::xtrim`.
+    Xtrim {
+        key: Vec<u8>,
+        options: StreamTrimOptions,
+    },
+    /// `ClusterClient::xread`; each stream is a key and an id.
+    Xread {
+        streams: Vec<(Vec<u8>, Vec<u8>)>,
+        options: StreamReadOptions,
+    },
+    /// `ClusterClient::xrange`.
+    Xrange {
+        key: Vec<u8>,
+        start: Vec<u8>,
+        end: Vec<u8>,
+    },
+    /// `ClusterClient::xclaim`.
+    Xclaim {
+        claimant: Claimant,
+        ids: Vec<Vec<u8>>,
+        options: StreamClaimOptions,
+    },
+    /// `ClusterClient::xautoclaim`.
+    Xautoclaim {
+        claimant: Claimant,
+        start: Vec<u8>,
+        options: StreamAutoClaimOptions,
+    },
+    /// `ClusterClient::xpending`.
+    Xpending {
+        key: Vec<u8>,
+        group: Vec<u8>,
+    },
+    /// `ClusterClient::xinfo_stream`.
+    XinfoStream {
+        key: Vec<u8>,
+    },
+    /// `ClusterClient::xinfo_groups`.
+    XinfoGroups {
+        key: Vec<u8>,
+    },
+    /// `ClusterClient::xinfo_consumers`.
+    XinfoConsumers {
+        key: Vec<u8>,
+        group: Vec<u8>,
+    },
+    /// `ClusterClient::xdel_ex`.
+    XdelEx {
+        key: Vec<u8>,
+        ids: Vec<Vec<u8>>,
+        policy: StreamDeletionPolicy,
+    },
+}
+
+/// Who claims entries: a consumer of a group, those that were idle for so many milliseconds.
+#[derive(Drop)]
+pub struct Claimant {
+    pub key: Vec<u8>,
+    pub group: Vec<u8>,
+    pub consumer: Vec<u8>,
+    pub min_idle: usize,
+}
+
+/// What a call answers: each as the call of the same name does.
+#[derive(Drop)]
+pub enum Answer {
+    /// The slot map was put in place.
+    Refreshed,
+    /// The reply, or the one reply that was made of several.
+    Value(Value),
+    /// The id of the entry that was added; none where there is no stream and none was to be made.
+    Added(Option<String>),
+    /// How many entries were trimmed.
+    Trimmed(usize),
+    Read(StreamReadReply),
+    Range(StreamRangeReply),
+    Claim(StreamClaimReply),
+    AutoClaim(StreamAutoClaimReply),
+    Pending(StreamPendingReply),
+    Stream(StreamInfoStreamReply),
+    Groups(StreamInfoGroupsReply),
+    Consumers(StreamInfoConsumersReply),
+    /// What became of each entry, in the order of the ids.
+    Deleted(Vec<XDelExStatusCode>),
+}
+
+/// A call of a run when it has ended: what it answered, and its requests in order of sending.
+#[derive(Drop)]
+pub struct Played {
+    /// The answer, or why the call was refused.
+    pub answer: Result<Answer, RedisError>,
+    /// The call's requests, as `ClusterClient::asked` tells them.
+    pub asked: Vec<Asked>,
+}
+
+impl<L: ConnectionLike + Drop> ClusterClient<L> {
+    /// Makes one call, and moves its requests out of the client.
+    fn play_one(
+        &mut self,
+        alloc: Global,
+        call: &Call,
+        strategy: Option<&dyn ReadRoutingStrategy>,
+    ) -> Played
+        ensures { PlaysOne (option_map (λ s. admits s.now) strategy.entry) (whole L.seen self.old) (whole L.seen self.new) (call_in call.now) (shown result) }
+    {
+        let answer = self.answer_to(alloc, call, strategy);
+        let asked = std::mem::replace(&mut self.asked, Vec::new(alloc));
+        Played { answer, asked }
+    }
+
+    /// What a call answers.
+    fn answer_to(
+        &mut self,
+        alloc: Global,
+        call: &Call,
+        strategy: Option<&dyn ReadRoutingStrategy>,
+    ) -> Result<Answer, RedisError>
+        ensures { CallMade (option_map (λ s. admits s.now) strategy.entry) (whole L.seen self.old) (whole L.seen self.new) (call_in call.now) (answer_result result) }
+    {
+        match call {
+            Call::Refresh(node) => self.answer_to_refresh(alloc, node),
+            Call::Query { cmd, number } => self.answer_to_query(alloc, cmd, *number, strategy),
+            Call::Ordered { cmd, order, number } => self.answer_to_ordered(
+                alloc, cmd, order, *number, strategy,
+            ),
+            Call::Pipeline(pipeline) => self.answer_to_pipeline(alloc, pipeline),
+            Call::FanOut(cmd) => self.answer_to_fan_out(alloc, cmd),
+            Call::Xadd {
+                key,
+                options,
+                id,
+                fields,
+            } => self.answer_to_xadd(alloc, key, options, id, fields, strategy),
+            Call::Xtrim { key, options } => self.answer_to_xtrim(alloc, key, options, strategy),
+            Call::Xread { streams, options } => self.answer_to_xread(
+                alloc, streams, options, strategy,
+            ),
+            Call::Xrange { key, start, end } => self.answer_to_xrange(
+                alloc, key, start, end, strategy,
+            ),
+            Call::Xclaim {
+                claimant,
+                ids,
+                options,
+            } => self.answer_to_xclaim(alloc, claimant, ids, options, strategy),
+            Call::Xautoclaim {
+                claimant,
+                start,
+                options,
+            } => self.answer_to_xautoclaim(alloc, claimant, start, options, strategy),
+            Call::Xpending { key, group } => self.answer_to_xpending(alloc, key, group, strategy),
+            Call::XinfoStream { key } => self.answer_to_xinfo_stream(alloc, key, strategy),
+            Call::XinfoGroups { key } => self.answer_to_xinfo_groups(alloc, key, strategy),
+            Call::XinfoConsumers { key, group } => self.answer_to_xinfo_consumers(
+                alloc, key, group, strategy,
+            ),
+            Call::XdelEx { key, ids, policy } => self.answer_to_xdel_ex(
+                alloc, key, ids, policy, strategy,
+            ),
+        }
+    }
+
+    fn answer_to_refresh(&mut self, alloc: Global, node: &NodeAddress) -> Result<Answer, RedisError>
+        ensures { (strategy : Option Strategy) → CallMade strategy (whole L.seen self.old) (whole L.seen self.new) (Refresh (address node.now)) (answer_result result) }
+    {
+        self.refresh(alloc, node)?;
+        Ok(Answer::Refreshed)
+    }
+
+    fn answer_to_query(
+        &mut self,
+        alloc: Global,
+        cmd: &Cmd,
+        number: u64,
+        strategy: Option<&dyn ReadRoutingStrategy>,
+    ) -> Result<Answer, RedisError>
+        ensures { CallMade (option_map (λ s. admits s.now) strategy.entry) (whole L.seen self.old) (whole L.seen self.new) (Query cmd.now number) (answer_result result) }
+    {
+        let reply = self.reply_to(alloc, cmd, number, strategy)?;
+        Ok(Answer::Value(reply))
+    }
+
+    fn answer_to_ordered(
+        &mut self,
+        alloc: Global,
+        cmd: &Cmd,
+        order: &[usize],
+        number: u64,
+        strategy: Option<&dyn ReadRoutingStrategy>,
+    ) -> Result<Answer, RedisError>
+        ensures { CallMade (option_map (λ s. admits s.now) strategy.entry) (whole L.seen self.old) (whole L.seen self.new) (Ordered cmd.now order.now number) (answer_result result) }
+    {
+        let reply = self.reply_in_order(alloc, cmd, Some(order), number, strategy)?;
+        Ok(Answer::Value(reply))
+    }
+
+    fn answer_to_pipeline(
+        &mut self,
+        alloc: Global,
+        pipeline: &ClusterPipeline,
+    ) -> Result<Answer, RedisError>
+        ensures { (strategy : Option Strategy) → CallMade strategy (whole L.seen self.old) (whole L.seen self.new) (Pipeline pipeline.now) (answer_result result) }
+    {
+        let reply = self.reply_to_pipeline(alloc, pipeline.commands())?;
+        Ok(Answer::Value(reply))
+    }
+
+    fn answer_to_fan_out(&mut self, alloc: Global, cmd: &Cmd) -> Result<Answer, RedisError>
+        ensures { (strategy : Option Strategy) → CallMade strategy (whole L.seen self.old) (whole L.seen self.new) (FanOut cmd.now) (answer_result result) }
+    {
+        let reply = self.fan_out(alloc, cmd)?;
+        Ok(Answer::Value(reply))
+    }
+}
+
+/// Makes the calls one after another, and puts behind `played` what each answered and asked for.
+///
+/// A refused call does not end the run: its refusal is its answer, want of memory too. What the
+/// calls do together is what they would do one by one: each begins where the one before left the
+/// client.
+///
+/// # Errors
+/// `AllocError` where memory is refused for what a call is to show; this is found before the call,
+/// which is not made then, and `played` holds those that were.
+pub fn play<L: ConnectionLike + Drop>(
+    client: &mut ClusterClient<L>,
+    alloc: Global,
+    calls: &[Call],
+    strategy: Option<&dyn ReadRoutingStrategy>,
+    played: &mut Vec<Played>,
+) -> Result<(), AllocError>
+    ensures { Plays (option_map (λ s. admits s.now) strategy.entry) (whole L.seen client.old) (whole L.seen client.new) (map call_in calls.now)
+        (map shown played.old.items) (map shown played.new.items) (is_ok result) }
+{
+    'calls: for call in calls {
+        played.reserve(1)?;
+        let one = client.play_one(alloc, call, strategy);
+        played.push(one).unwrap();
+    }
+    Ok(())
+}

@@ -1,0 +1,271 @@
+//! Calls on streams: each is sent as one command, and its reply is read as a record.
+//!
+//! Keys, ids, names, fields and values are one argument each. A call goes where `query` sends its
+//! command, and tells by `asked` and `picked` what it did.
+//!
+//! # Errors
+//! Those of `query`, and `UnexpectedReturnType` where the reply is no record of the call. What a call
+//! checks itself comes before all of these: nothing is sent then, and no strategy is asked.
+//!
+//! Source: the documentation of the crate `redis`, stream commands; the Redis documentation of each
+//! command.
+ghost use Rattle.std.specs.Prelude.{◌≡◌, [], None, IfOk, map, option_map, string_bytes, pos};
+ghost use Rattle.stream_commands.specs.InfoViews.{consumer_view, group_view, pending_view, stream_info_view};
+ghost use Rattle.stream_commands.specs.RecordViews.{autoclaim_view, entries_view, rows_view};
+ghost use Rattle.cluster_client.specs.Calls.Answer.{Answer, Added, Trimmed, Read, Range, Claim, AutoClaim, Pending, Stream, Groups, Consumers, Deleted};
+ghost use Rattle.cluster_client.specs.Calls.Call.{StreamCall, Xadd, Xtrim, Xread, Xrange, Xclaim, Xautoclaim, Xpending, XinfoStream, XinfoGroups, XinfoConsumers, XdelEx, OnStreams};
+ghost use Rattle.stream_commands.specs.Commands.{plain_command};
+ghost use Rattle.cluster_client.specs.Calls.Task.{sentence, stream_refusal};
+ghost use Rattle.cluster_client.specs.Links.Happened.{CallMade};
+ghost use Rattle.cluster_client.specs.Links.Run.{with_log};
+ghost use Rattle.cluster_client.specs.Links.Typed.{IsReadBy, deletion_of, record_answer, streams_by};
+ghost use Rattle.cluster_client.specs.Links.Whole.{whole};
+
+use crate::client::ClusterClient;
+use crate::read_checks::read_refusal;
+use cluster_routing::ReadRoutingStrategy;
+use resp_args::{Cmd, FromRedisValue, ToSingleRedisArg, from_redis_value};
+use resp_core::{Cause, RedisError};
+use resp_link::ConnectionLike;
+use std::alloc::{AllocError, Global};
+use stream_commands::{
+    StreamAddOptions, StreamAutoClaimOptions, StreamAutoClaimReply, StreamClaimOptions,
+    StreamClaimReply, StreamDeletionPolicy, StreamInfoConsumersReply, StreamInfoGroupsReply,
+    StreamInfoStreamReply, StreamPendingReply, StreamRangeReply, StreamReadOptions,
+    StreamReadReply, StreamTrimOptions, XDelExStatusCode, commands,
+};
+
+impl<L: ConnectionLike + Drop> ClusterClient<L> {
+    /// Adds an entry of these fields, by `XADD`, and answers its id, or `None` where no stream is there
+    /// and none is to be made.
+    pub fn xadd<
+        K: ToSingleRedisArg + Drop,
+        I: ToSingleRedisArg + Drop,
+        F: ToSingleRedisArg,
+        V: ToSingleRedisArg,
+    >(
+        &mut self,
+        alloc: Global,
+        key: K,
+        options: &StreamAddOptions,
+        id: I,
+        fields: &[(F, V)],
+        strategy: Option<&dyn ReadRoutingStrategy>,
+    ) -> Result<Option<String>, RedisError>
+        ensures { CallMade (option_map (λ s. admits s.now) strategy.entry) (whole L.seen self.old) (whole L.seen self.new) (OnStreams (Xadd (K.arg key) options.now (I.arg id) (map (λ f. (F.arg f.0, V.arg f.1)) fields.now))) (record_answer (λ id. Added (option_map string_bytes id)) result) }
+    {
+        let cmd = commands::xadd(alloc, &key, options, &id, fields);
+        self.reply_as(alloc, cmd, strategy)
+    }
+
+    /// Trims a stream, by `XTRIM`, and answers how many entries are gone.
+    pub fn xtrim<K: ToSingleRedisArg + Drop>(
+        &mut self,
+        alloc: Global,
+        key: K,
+        options: &StreamTrimOptions,
+        strategy: Option<&dyn ReadRoutingStrategy>,
+    ) -> Result<usize, RedisError>
+        ensures { CallMade (option_map (λ s. admits s.now) strategy.entry) (whole L.seen self.old) (whole L.seen self.new) (OnStreams (Xtrim (K.arg key) options.now)) (record_answer (λ n. Trimmed (pos n)) result) }
+    {
+        let cmd = commands::xtrim(alloc, &key, options);
+        self.reply_as(alloc, cmd, strategy)
+    }
+
+    /// Reads the entries behind an id of each stream, by `XREAD`, or by `XREADGROUP` where the options
+    /// name a group.
+    ///
+    /// # Errors
+    /// Before all others, in this order: `NoKeys` where there is no stream, `SeveralSlots` where the
+    /// keys have several slots, `BadGroupName` where the name of the group or of the consumer is not
+    /// one argument, or is `STREAMS` in any case.
+    pub fn xread<K: ToSingleRedisArg, I: ToSingleRedisArg>(
+        &mut self,
+        alloc: Global,
+        streams: &[(K, I)],
+        options: &StreamReadOptions,
+        strategy: Option<&dyn ReadRoutingStrategy>,
+    ) -> Result<StreamReadReply, RedisError>
+        ensures { CallMade (option_map (λ s. admits s.now) strategy.entry) (whole L.seen self.old) (whole L.seen self.new) (OnStreams (Xread (streams_by K.arg I.arg streams.now) options.now)) (record_answer (λ reply. Read (rows_view reply.keys.items)) result) }
+    {
+        match read_refusal(alloc, streams, options) {
+            Ok(None) => {
+                let cmd = commands::xread(alloc, streams, options);
+                self.reply_as(alloc, cmd, strategy)
+            }
+            Ok(Some(cause)) => Err(self.refuse(alloc, RedisError::from(cause))),
+            Err(e) => Err(self.refuse(alloc, RedisError::from(e))),
+        }
+    }
+
+    /// Reads the entries from one id to another, both among them, by `XRANGE`.
+    pub fn xrange<
+        K: ToSingleRedisArg + Drop,
+        S: ToSingleRedisArg + Drop,
+        E: ToSingleRedisArg + Drop,
+    >(
+        &mut self,
+        alloc: Global,
+        key: K,
+        start: S,
+        end: E,
+        strategy: Option<&dyn ReadRoutingStrategy>,
+    ) -> Result<StreamRangeReply, RedisError>
+        ensures { CallMade (option_map (λ s. admits s.now) strategy.entry) (whole L.seen self.old) (whole L.seen self.new) (OnStreams (Xrange (K.arg key) (S.arg start) (E.arg end))) (record_answer (λ reply. Range (entries_view reply.ids.items)) result) }
+    {
+        let cmd = commands::xrange(alloc, &key, &start, &end);
+        self.reply_as(alloc, cmd, strategy)
+    }
+
+    /// Takes over pending entries that were idle for `min_idle` milliseconds, by `XCLAIM`.
+    ///
+    /// # Errors
+    /// Before all others `ClaimsIdsAlone` where the options ask for the ids alone, of which the reply is
+    /// no list of entries.
+    pub fn xclaim<
+        K: ToSingleRedisArg + Drop,
+        G: ToSingleRedisArg + Drop,
+        C: ToSingleRedisArg + Drop,
+        I: ToSingleRedisArg,
+    >(
+        &mut self,
+        alloc: Global,
+        key: K,
+        group: G,
+        consumer: C,
+        min_idle: usize,
+        ids: &[I],
+        options: &StreamClaimOptions,
+        strategy: Option<&dyn ReadRoutingStrategy>,
+    ) -> Result<StreamClaimReply, RedisError>
+        ensures { CallMade (option_map (λ s. admits s.now) strategy.entry) (whole L.seen self.old) (whole L.seen self.new) (OnStreams (Xclaim (record { key = K.arg key; group = G.arg group; consumer = C.arg consumer; min_idle = min_idle }) (map I.arg ids.now) options.now)) (record_answer (λ reply. Claim (entries_view reply.ids.items)) result) }
+    {
+        if options.justid() {
+            return Err(self.refuse(alloc, RedisError::from(Cause::ClaimsIdsAlone)));
+        }
+        let cmd = commands::xclaim(alloc, &key, &group, &consumer, min_idle, ids, options);
+        self.reply_as(alloc, cmd, strategy)
+    }
+
+    /// Takes over pending entries from an id on that were idle for `min_idle` milliseconds, by
+    /// `XAUTOCLAIM`.
+    pub fn xautoclaim<
+        K: ToSingleRedisArg + Drop,
+        G: ToSingleRedisArg + Drop,
+        C: ToSingleRedisArg + Drop,
+        S: ToSingleRedisArg + Drop,
+    >(
+        &mut self,
+        alloc: Global,
+        key: K,
+        group: G,
+        consumer: C,
+        min_idle: usize,
+        start: S,
+        options: &StreamAutoClaimOptions,
+        strategy: Option<&dyn ReadRoutingStrategy>,
+    ) -> Result<StreamAutoClaimReply, RedisError>
+        ensures { CallMade (option_map (λ s. admits s.now) strategy.entry) (whole L.seen self.old) (whole L.seen self.new) (OnStreams (Xautoclaim (record { key = K.arg key; group = G.arg group; consumer = C.arg consumer; min_idle = min_idle }) (S.arg start) options.now)) (record_answer (λ reply. AutoClaim (autoclaim_view reply)) result) }
+    {
+        let cmd = commands::xautoclaim(alloc, &key, &group, &consumer, min_idle, &start, options);
+        self.reply_as(alloc, cmd, strategy)
+    }
+
+    /// Asks how many entries of a group are pending, and for whom, by `XPENDING`.
+    pub fn xpending<K: ToSingleRedisArg + Drop, G: ToSingleRedisArg + Drop>(
+        &mut self,
+        alloc: Global,
+        key: K,
+        group: G,
+        strategy: Option<&dyn ReadRoutingStrategy>,
+    ) -> Result<StreamPendingReply, RedisError>
+        ensures { CallMade (option_map (λ s. admits s.now) strategy.entry) (whole L.seen self.old) (whole L.seen self.new) (OnStreams (Xpending (K.arg key) (G.arg group))) (record_answer (λ reply. Pending (pending_view reply)) result) }
+    {
+        let cmd = commands::xpending(alloc, &key, &group);
+        self.reply_as(alloc, cmd, strategy)
+    }
+
+    /// Asks about a stream, by `XINFO STREAM`.
+    pub fn xinfo_stream<K: ToSingleRedisArg + Drop>(
+        &mut self,
+        alloc: Global,
+        key: K,
+        strategy: Option<&dyn ReadRoutingStrategy>,
+    ) -> Result<StreamInfoStreamReply, RedisError>
+        ensures { CallMade (option_map (λ s. admits s.now) strategy.entry) (whole L.seen self.old) (whole L.seen self.new) (OnStreams (XinfoStream (K.arg key))) (record_answer (λ reply. Stream (stream_info_view reply)) result) }
+    {
+        let cmd = commands::xinfo_stream(alloc, &key);
+        self.reply_as(alloc, cmd, strategy)
+    }
+
+    /// Asks about the groups of a stream, by `XINFO GROUPS`.
+    pub fn xinfo_groups<K: ToSingleRedisArg + Drop>(
+        &mut self,
+        alloc: Global,
+        key: K,
+        strategy: Option<&dyn ReadRoutingStrategy>,
+    ) -> Result<StreamInfoGroupsReply, RedisError>
+        ensures { CallMade (option_map (λ s. admits s.now) strategy.entry) (whole L.seen self.old) (whole L.seen self.new) (OnStreams (XinfoGroups (K.arg key))) (record_answer (λ reply. Groups (map group_view reply.groups.items)) result) }
+    {
+        let cmd = commands::xinfo_groups(alloc, &key);
+        self.reply_as(alloc, cmd, strategy)
+    }
+
+    /// Asks about the consumers of a group, by `XINFO CONSUMERS`.
+    pub fn xinfo_consumers<K: ToSingleRedisArg + Drop, G: ToSingleRedisArg + Drop>(
+        &mut self,
+        alloc: Global,
+        key: K,
+        group: G,
+        strategy: Option<&dyn ReadRoutingStrategy>,
+    ) -> Result<StreamInfoConsumersReply, RedisError>
+        ensures { CallMade (option_map (λ s. admits s.now) strategy.entry) (whole L.seen self.old) (whole L.seen self.new) (OnStreams (XinfoConsumers (K.arg key) (G.arg group))) (record_answer (λ reply. Consumers (map consumer_view reply.consumers.items)) result) }
+    {
+        let cmd = commands::xinfo_consumers(alloc, &key, &group);
+        self.reply_as(alloc, cmd, strategy)
+    }
+
+    /// Deletes entries, by `XDELEX`, and answers what became of each.
+    pub fn xdel_ex<K: ToSingleRedisArg + Drop, I: ToSingleRedisArg>(
+        &mut self,
+        alloc: Global,
+        key: K,
+        ids: &[I],
+        policy: StreamDeletionPolicy,
+        strategy: Option<&dyn ReadRoutingStrategy>,
+    ) -> Result<Vec<XDelExStatusCode>, RedisError>
+        ensures { CallMade (option_map (λ s. admits s.now) strategy.entry) (whole L.seen self.old) (whole L.seen self.new) (OnStreams (XdelEx (K.arg key) (map I.arg ids.now) policy)) (record_answer (λ codes. Deleted (map deletion_of codes.items)) result) }
+    {
+        let cmd = commands::xdel_ex(alloc, &key, ids, &policy);
+        self.reply_as(alloc, cmd, strategy)
+    }
+
+    /// The reply to a command, read as a `T`.
+    fn reply_as<T: FromRedisValue>(
+        &mut self,
+        alloc: Global,
+        cmd: Result<Cmd, AllocError>,
+        strategy: Option<&dyn ReadRoutingStrategy>,
+    ) -> Result<T, RedisError>
+        ensures { (call : StreamCall) (shown : T.Meaning → Answer) → stream_refusal call ≡ None → IfOk cmd (λ c. c ≡ plain_command (sentence call)) → IsReadBy call T.convert shown
+            → CallMade (option_map (λ s. admits s.now) strategy.entry) (whole L.seen self.old) (whole L.seen self.new) (OnStreams call) (record_answer (λ value. shown (T.meaning value)) result) }
+    {
+        match cmd {
+            Ok(cmd) => {
+                let reply = self.reply_to(alloc, &cmd, 0, strategy)?;
+                Ok(from_redis_value(alloc, reply)?)
+            }
+            Err(e) => Err(self.refuse(alloc, RedisError::from(e))),
+        }
+    }
+
+    /// A call that is refused before any node is looked for; it asked and picked nothing.
+    fn refuse(&mut self, alloc: Global, refusal: RedisError) -> RedisError
+        ensures same { result ≡ refusal }
+        ensures stays { whole L.seen self.new ≡ with_log (whole L.seen self.old) [] [] }
+    {
+        self.asked = Vec::new(alloc);
+        self.picked = Vec::new(alloc);
+        refusal
+    }
+}
