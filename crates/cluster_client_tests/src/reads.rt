@@ -164,8 +164,13 @@ fn are_read_backwards(
     mget.arg("a")?;
     mget.arg("c")?;
     mget.arg("b")?;
-    let answer: Result<Value, RedisError> =
-        client.query_ordered(alloc, &mget, &[2, 1, 0], 0, Some(strategy));
+    let answer: Result<Value, RedisError> = client.query_ordered(
+        alloc,
+        &mget,
+        &[2, 1, 0],
+        0,
+        Some(strategy),
+    );
     Ok(answer.is_ok())
 }
 
@@ -195,6 +200,13 @@ fn a_strategy_picks_for_each_part_with_replicas(rt: HostRuntime) -> Result<(), F
     assert!(rt; are_read_backwards(alloc, &mut client, &strategy)?);
     assert_eq!(rt; strategy.asked.get(), 2);
     assert!(rt; are_picked(alloc, &client, "n4:7004", "n3:7003")?);
-    assert!(rt; has_sent(alloc, &client, "n3:7003", b"*2\r\n$4\r\nMGET\r\n$1\r\nb\r\n")?);
+    assert!(rt;
+        has_sent(
+            alloc,
+            &client,
+            "n3:7003",
+            b"*2\r\n$4\r\nMGET\r\n$1\r\nb\r\n"
+        )?
+    );
     Ok(())
 }
