@@ -40,6 +40,28 @@ fn hides_what_lies_behind_an_end(rt: HostRuntime) -> Result<(), Fail> {
     Ok(())
 }
 
+#[test]
+fn a_range_takes_the_place_of_an_equal_end(rt: HostRuntime) -> Result<(), Fail> {
+    let alloc = rt.alloc();
+    let mut map = SlotRangeMap::new(alloc);
+    for (start, end, value) in [(0, 9, 1u8), (20, 29, 2), (5, 9, 3)] {
+        map.insert(start, end, value)?;
+    }
+    let mut ranges = map.iter();
+    let seen = (ranges.next(), ranges.next(), ranges.next());
+    let at = (
+        map.get(4),
+        map.get(5),
+        map.get(10),
+        map.get(29),
+        map.get(30),
+    );
+    let text = format!(in alloc; "{seen:?} {at:?}");
+    let wanted = "(Some((5, 9, 3)), Some((20, 29, 2)), None) (None, Some(3), None, Some(2), None)";
+    is_text(&rt, text, wanted);
+    Ok(())
+}
+
 // The slot, the number of replicas, and the replica at the second place.
 fn candidates_text<'a>(
     alloc: Global,
