@@ -62,6 +62,25 @@ fn a_range_takes_the_place_of_an_equal_end(rt: HostRuntime) -> Result<(), Fail> 
     Ok(())
 }
 
+#[test]
+fn a_slot_has_the_range_with_the_least_end(rt: HostRuntime) -> Result<(), Fail> {
+    let alloc = rt.alloc();
+    let mut map = SlotRangeMap::new(alloc);
+    map.insert(100, 200, 1u8)?;
+    map.insert(300, 400, 2)?;
+    let within = (map.get(100), map.get(200), map.get(350));
+    let beside = (map.get(99), map.get(250), map.get(401));
+    let text = format!(in alloc; "{within:?} {beside:?}");
+    let wanted = "(Some(1), Some(1), Some(2)) (None, None, None)";
+    is_text(&rt, text, wanted);
+    let mut map = SlotRangeMap::new(alloc);
+    map.insert(0, 500, 3u8)?;
+    map.insert(150, 160, 4)?;
+    let text = format!(in alloc; "{:?}", (map.get(100), map.get(155), map.get(170)));
+    is_text(&rt, text, "(None, Some(4), Some(3))");
+    Ok(())
+}
+
 // The slot, the number of replicas, and the replica at the second place.
 fn candidates_text<'a>(
     alloc: Global,
