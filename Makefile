@@ -1,8 +1,8 @@
 # make play             builds the program and plays examples/sessions/moved.session
 # make play SESSION=F   plays the session in the file F
 # make test             the gate (every proof, test and must-fail edit), every session, and memory refused
-# make bench            times 10,000 and 20,000 queries, an MGET of as many keys, the parser over bytes cut in pieces,
-#                       and a map of up to 16,384 slot ranges
+# make bench            times 10,000 and 20,000 queries, an MGET of as many keys, a pipeline of as many commands, the
+#                       parser over bytes cut in pieces, and a map of up to 16,384 slot ranges
 SESSION ?= examples/sessions/moved.session
 
 .PHONY: play test bench

@@ -10,8 +10,8 @@ use Rattle.stream_commands.specs.declared.records.status.XDelExStatusCode.{XDelE
 use Rattle.stream_commands.specs.declared.records.status.XDelExStatusCode.TheVariants.{IdNotFound, NotDeletedUnacknowledgedOrStillReferenced}
 use Rattle.stream_commands.specs.declared.records.status.XDelExStatusCode.TheVariants as codes
 use Rattle.stream_commands.specs.Shapes.{list_of}
-use Rattle.cluster_client.specs.Calls.Answer.{Answer, Deletion, Deleted, not_found, deleted, still_referenced}
-use Rattle.cluster_client.specs.Links.Typed.{deletion_of}
+use Rattle.cluster_calls.specs.Calls.Answer.{Answer, Deletion, Deleted, not_found, deleted, still_referenced}
+use Rattle.cluster_calls.specs.Links.Typed.{deletion_of}
 
 abbrev codes_of : Tree → Option XDelExStatusCode
 codes_of t = status IdNotFound codes.Deleted NotDeletedUnacknowledgedOrStillReferenced t

@@ -1,5 +1,8 @@
-pub mod LinkLaws
-pub mod ServerLaws
-pub mod LogLaws
-pub mod OneSlot
+pub mod GroupLoop
+pub mod PipeParts
+pub mod Piping
+pub mod NodeLoop
+pub mod SeveralNodes
+pub mod Prepared
+pub mod TypedCalls
 pub mod Deletions

@@ -1,4 +1,3 @@
-pub mod Links
-pub mod Calls
-pub mod OneServer
-pub mod WholeCalls
+pub mod Whole
+pub mod Shown
+pub mod NodeRuns

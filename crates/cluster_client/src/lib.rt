@@ -1,30 +1,15 @@
 //! A Redis Cluster client over links that are handed in: calls in, answers, log and bytes out.
 #![tactic(auto)]
 
-mod asked;
 mod client;
-mod dispatch;
-mod drawn;
-mod exchange;
 mod fan_out;
-mod grouped;
-pub mod laws;
-mod links;
-mod order;
 mod pipeline;
 mod pipeline_parts;
 mod pipeline_query;
 mod pipeline_reply;
-mod place;
-mod read_checks;
-mod reply;
-mod route;
 mod run;
-mod slots;
 mod streams;
-mod turn;
 
-pub use asked::Asked;
 pub use client::ClusterClient;
 pub use cluster_routing::AggregateOp;
 pub use cluster_routing::AnyNodeCandidates;
@@ -55,6 +40,7 @@ pub use cluster_routing::SlotRangeValues;
 pub use cluster_routing::SlotRanges;
 pub use cluster_routing::parse_slots;
 pub use cluster_routing::slot_cmd;
+pub use cluster_steps::asked::Asked;
 pub use pipeline::ClusterPipeline;
 pub use pipeline::PipelineCommand;
 pub use pipeline::cluster_pipe;

@@ -2,8 +2,8 @@
 ghost use Rattle.std.specs.Prelude.{◌≡◌, ◌≢◌, [], ◌∷◌, ◌++◌, false, is_ok, map, IfOk, if◌then◌else◌};
 ghost use Rattle.resp_args.specs.Command.{new_command};
 ghost use Rattle.resp_args.specs.declared.cmd.Arg.TheVariants.{Simple};
-ghost use Rattle.cluster_client.specs.Calls.Call.{Entry};
-ghost use Rattle.cluster_client.specs.Links.Building.{ignoring, with_args, with_last};
+ghost use Rattle.cluster_calls.specs.Calls.Call.{Entry};
+ghost use Rattle.cluster_calls.specs.Links.Building.{ignoring, with_args, with_last};
 
 use resp_args::{Cmd, ToRedisArgs, command};
 use std::alloc::{AllocError, Global};
@@ -19,7 +19,7 @@ pub struct PipelineCommand {
 }
 
 impl Model for PipelineCommand {
-    ghost use Rattle.cluster_client.specs.Calls.Call.{Entry};
+    ghost use Rattle.cluster_calls.specs.Calls.Call.{Entry};
 
     ghost Value = { Entry };
 
@@ -37,7 +37,7 @@ pub struct ClusterPipeline {
 
 impl Model for ClusterPipeline {
     ghost use Rattle.std.specs.Prelude.{List};
-    ghost use Rattle.cluster_client.specs.Calls.Call.{Entry};
+    ghost use Rattle.cluster_calls.specs.Calls.Call.{Entry};
 
     ghost Value = { List Entry };
 

@@ -3,13 +3,13 @@ ghost use Rattle.std.specs.Prelude.{ℕ, List, [], ◌≡◌, ◌≢◌, Err, Ok
 ghost use Rattle.resp_core.specs.Errors.{by_cause};
 ghost use Rattle.resp_core.specs.declared.errors.redis_error.Cause.TheVariants.{Memory};
 ghost use Rattle.resp_args.specs.Packed.{sent};
-ghost use Rattle.cluster_client.specs.Calls.Parts.{at_slot, part_to, parts_of, pipeline_parts, whole_part};
-ghost use Rattle.cluster_client.specs.Links.FirstPlaces.{part_of};
-ghost use Rattle.cluster_client.specs.Links.WholeParts.{parts_found, whole_by};
+ghost use Rattle.cluster_calls.specs.Calls.Parts.{at_slot, part_to, parts_of, pipeline_parts, whole_part};
+ghost use Rattle.cluster_steps.specs.FirstPlaces.{part_of};
+ghost use Rattle.cluster_steps.specs.WholeParts.{parts_found, whole_by};
 
 use crate::pipeline::PipelineCommand;
-use crate::route::{Part, Target, parts_of};
 use cluster_routing::{Route, SlotAddr};
+use cluster_steps::route::{Part, Target, parts_of};
 use resp_args::Cmd;
 use resp_core::{Cause, ErrorKind, RedisError};
 use std::alloc::Global;

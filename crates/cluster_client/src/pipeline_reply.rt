@@ -6,14 +6,14 @@ ghost use Rattle.resp_core.specs.Parts.{first_error};
 ghost use Rattle.resp_core.specs.Refused.{errors_at};
 ghost use Rattle.resp_core.specs.View.{view};
 ghost use Rattle.resp_core.specs.declared.errors.redis_error.Cause.TheVariants.{Memory};
-ghost use Rattle.cluster_client.specs.Calls.Refusals.{with_error};
-ghost use Rattle.cluster_client.specs.Calls.Replies.{not_ignored};
-ghost use Rattle.cluster_client.specs.Links.GroupRuns.{is_moved_tree};
-ghost use Rattle.cluster_client.specs.Links.PipeReplies.{errors_in, pipeline_result};
-ghost use Rattle.cluster_client.specs.Links.World.{tree_result};
+ghost use Rattle.cluster_calls.specs.Calls.Refusals.{with_error};
+ghost use Rattle.cluster_calls.specs.Calls.Replies.{not_ignored};
+ghost use Rattle.cluster_steps.specs.GroupRuns.{is_moved_tree};
+ghost use Rattle.cluster_calls.specs.Links.PipeReplies.{errors_in, pipeline_result};
+ghost use Rattle.cluster_calls.specs.Links.World.{tree_result};
 
 use crate::pipeline::PipelineCommand;
-use crate::reply::is_moved;
+use cluster_steps::reply::is_moved;
 use resp_core::{RedisError, ServerError, Value};
 use std::alloc::{AllocError, Global};
 

@@ -12,18 +12,18 @@
 ghost use Rattle.std.specs.Prelude.{◌≡◌, [], None, IfOk, map, option_map, string_bytes, pos};
 ghost use Rattle.stream_commands.specs.InfoViews.{consumer_view, group_view, pending_view, stream_info_view};
 ghost use Rattle.stream_commands.specs.RecordViews.{autoclaim_view, entries_view, rows_view};
-ghost use Rattle.cluster_client.specs.Calls.Answer.{Answer, Added, Trimmed, Read, Range, Claim, AutoClaim, Pending, Stream, Groups, Consumers, Deleted};
-ghost use Rattle.cluster_client.specs.Calls.Call.{StreamCall, Xadd, Xtrim, Xread, Xrange, Xclaim, Xautoclaim, Xpending, XinfoStream, XinfoGroups, XinfoConsumers, XdelEx, OnStreams};
+ghost use Rattle.cluster_calls.specs.Calls.Answer.{Answer, Added, Trimmed, Read, Range, Claim, AutoClaim, Pending, Stream, Groups, Consumers, Deleted};
+ghost use Rattle.cluster_calls.specs.Calls.Call.{StreamCall, Xadd, Xtrim, Xread, Xrange, Xclaim, Xautoclaim, Xpending, XinfoStream, XinfoGroups, XinfoConsumers, XdelEx, OnStreams};
 ghost use Rattle.stream_commands.specs.Commands.{plain_command};
-ghost use Rattle.cluster_client.specs.Calls.Task.{sentence, stream_refusal};
-ghost use Rattle.cluster_client.specs.Links.Happened.{CallMade};
-ghost use Rattle.cluster_client.specs.Links.Run.{with_log};
-ghost use Rattle.cluster_client.specs.Links.Typed.{IsReadBy, deletion_of, record_answer, streams_by};
-ghost use Rattle.cluster_client.specs.Links.Whole.{whole};
+ghost use Rattle.cluster_calls.specs.Calls.Task.{sentence, stream_refusal};
+ghost use Rattle.cluster_calls.specs.Links.Happened.{CallMade};
+ghost use Rattle.cluster_calls.specs.Links.Run.{with_log};
+ghost use Rattle.cluster_calls.specs.Links.Typed.{IsReadBy, deletion_of, record_answer, streams_by};
+ghost use Rattle.cluster_client.specs.Whole.{whole};
 
 use crate::client::ClusterClient;
-use crate::read_checks::read_refusal;
 use cluster_routing::ReadRoutingStrategy;
+use cluster_steps::read_checks::read_refusal;
 use resp_args::{Cmd, FromRedisValue, ToSingleRedisArg, from_redis_value};
 use resp_core::{Cause, RedisError};
 use resp_link::ConnectionLike;

@@ -3,7 +3,7 @@
 use Rattle.std.specs.Prelude.{ℕ, suc, Bool, true, false, List, [], ◌∷◌, ◌++◌, codes, Result, Ok, Err}
 use Rattle.std.specs.Fmt.{decimal, signed_decimal}
 use Rattle.resp_core.specs.Errors.{Refusal, kind_of}
-use Rattle.cluster_client.specs.Calls.Answer.{Answer, Value}
+use Rattle.cluster_calls.specs.Calls.Answer.{Answer, Value}
 use Rattle.cluster_session.specs.KindNames.{kind_name}
 use Rattle.hex.specs.Hex.{encode_lower}
 use Rattle.resp_core.specs.Trees.{Format, unknown, markdown, text, Kind, disconnection, other, invalidate, message, pmessage, smessage, unsubscribe, punsubscribe, sunsubscribe, subscribe, psubscribe, ssubscribe, Tree, nil, int, bulk, array, simple, okay, set, attribute, double, boolean, verbatim, big_number, push, server_error, Trees, no_trees, tree, Pairs, no_pairs, pair}

@@ -2,10 +2,10 @@
 ghost use Rattle.std.specs.Prelude.{◌≡◌, ◌≢◌, Err, option_map};
 ghost use Rattle.resp_core.specs.Errors.{by_cause};
 ghost use Rattle.resp_core.specs.declared.errors.redis_error.Cause.TheVariants.{Memory};
-ghost use Rattle.cluster_client.specs.Calls.Call.{Ordered};
-ghost use Rattle.cluster_client.specs.Links.Converted.{ValueMade};
-ghost use Rattle.cluster_client.specs.Links.Happened.{Happened};
-ghost use Rattle.cluster_client.specs.Links.Whole.{whole};
+ghost use Rattle.cluster_calls.specs.Calls.Call.{Ordered};
+ghost use Rattle.cluster_calls.specs.Links.Converted.{ValueMade};
+ghost use Rattle.cluster_calls.specs.Links.Happened.{Happened};
+ghost use Rattle.cluster_client.specs.Whole.{whole};
 
 use super::ClusterClient;
 use cluster_routing::ReadRoutingStrategy;

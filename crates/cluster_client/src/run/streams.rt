@@ -1,10 +1,10 @@
 //! The calls on streams of a run.
 ghost use Rattle.std.specs.Prelude.{◌≡◌, option_map};
 ghost use Rattle.cluster_routing.specs.Info.{texts};
-ghost use Rattle.cluster_client.specs.Calls.Call.{OnStreams, Xadd, Xautoclaim, Xclaim, XdelEx, XinfoConsumers, XinfoGroups, XinfoStream, Xpending, Xrange, Xread, Xtrim};
-ghost use Rattle.cluster_client.specs.Links.Happened.{CallMade};
-ghost use Rattle.cluster_client.specs.Links.Play.{answer_result, claimant_in, pairs, streams_in};
-ghost use Rattle.cluster_client.specs.Links.Whole.{whole};
+ghost use Rattle.cluster_calls.specs.Calls.Call.{OnStreams, Xadd, Xautoclaim, Xclaim, XdelEx, XinfoConsumers, XinfoGroups, XinfoStream, Xpending, Xrange, Xread, Xtrim};
+ghost use Rattle.cluster_calls.specs.Links.Happened.{CallMade};
+ghost use Rattle.cluster_client.specs.Shown.{answer_result, claimant_in, pairs, streams_in};
+ghost use Rattle.cluster_client.specs.Whole.{whole};
 
 use crate::client::ClusterClient;
 use crate::run::{Answer, Claimant};

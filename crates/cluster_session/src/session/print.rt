@@ -5,7 +5,7 @@ mod words;
 
 ghost use Rattle.std.specs.Prelude.{◌≡◌, ◌++◌, OnOk, string_bytes};
 ghost use Rattle.cluster_session.specs.Output.{fault_line};
-ghost use Rattle.cluster_client.specs.Links.Play.{answer_result};
+ghost use Rattle.cluster_client.specs.Shown.{answer_result};
 ghost use Rattle.cluster_session.specs.Printed.{call_line, refused_line};
 
 use cluster_client::{Answer, Asked, NodeAddress};

@@ -3,10 +3,10 @@ use Rattle.std.proofs.lemmas.List.{map-append, nil_from_length}
 use Rattle.std.proofs.lemmas.Result.{err_from_is_err_and}
 use Rattle.resp_args.specs.Packed.{sent}
 use Rattle.cluster_routing.specs.Seen.{address}
-use Rattle.cluster_client.specs.Links.Dispatches.{dispatch_of}
-use Rattle.cluster_client.specs.Links.NodeRuns.{parts_to_nodes}
-use Rattle.cluster_client.proofs.LinkLaws.Dispatching.{all_more, dispatched_as, loop_as, loop_done}
-use Rattle.cluster_client.proofs.LinkLaws.SeveralNodes.{node_more, node_refused}
+use Rattle.cluster_steps.specs.Dispatches.{dispatch_of}
+use Rattle.cluster_client.specs.NodeRuns.{parts_to_nodes}
+use Rattle.cluster_steps.proofs.Dispatching.{all_more, dispatched_as, loop_as, loop_done}
+use Rattle.cluster_client.proofs.SeveralNodes.{node_more, node_refused}
 use Rattle.cluster_client.proofs.fan_out.dispatches_to.Goals as goal
 
 pub returns-in_err-dispatch-clause-dispatched : goal.returns-in_err-dispatch-clause-dispatched

@@ -3,11 +3,11 @@ use Rattle.std.proofs.Common.{◌≡◌, ◌++◌, [], map, Option}
 use Rattle.resp_args.specs.Packed.{sent}
 use Rattle.cluster_routing.specs.Choice.{Strategy}
 use Rattle.cluster_routing.specs.Seen.{address}
-use Rattle.cluster_client.specs.Calls.Plan.{Client}
-use Rattle.cluster_client.specs.Links.Dispatches.{IsPlaced, dispatch_of}
-use Rattle.cluster_client.specs.Links.NodeRuns.{parts_to_nodes}
-use Rattle.cluster_client.specs.Links.World.{nodes, open_links}
-use Rattle.cluster_client.proofs.LinkLaws.Dispatching.{Loop}
+use Rattle.cluster_calls.specs.Calls.Plan.{Client}
+use Rattle.cluster_steps.specs.Dispatches.{IsPlaced, dispatch_of}
+use Rattle.cluster_client.specs.NodeRuns.{parts_to_nodes}
+use Rattle.cluster_calls.specs.Links.World.{nodes, open_links}
+use Rattle.cluster_steps.proofs.Dispatching.{Loop}
 use Rattle.cluster_client.proofs.fan_out.dispatches_to.Given as goal
 
 abbrev pub invariant-nodes : goal.invariant-nodes

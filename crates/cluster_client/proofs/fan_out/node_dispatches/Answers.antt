@@ -6,8 +6,8 @@ use Rattle.resp_args.specs.Packed.{sent}
 use Rattle.cluster_routing.specs.Address.{Address}
 use Rattle.cluster_routing.specs.Info.{texts}
 use Rattle.cluster_routing.specs.Seen.{address}
-use Rattle.cluster_client.specs.Calls.Replies.{policy_in}
-use Rattle.cluster_client.proofs.LinkLaws.SeveralNodes.{fan_parts_by, fan_planned, fan_silent, fan_unplanned, named, no_nodes, same_policy, some_nodes, unrouted}
+use Rattle.cluster_calls.specs.Calls.Replies.{policy_in}
+use Rattle.cluster_client.proofs.SeveralNodes.{fan_parts_by, fan_planned, fan_silent, fan_unplanned, named, no_nodes, same_policy, some_nodes, unrouted}
 use Rattle.cluster_client.proofs.fan_out.node_dispatches.Goals as goal
 
 pub returns-then-is_no_response-clause-planned : goal.returns-then-is_no_response-clause-planned

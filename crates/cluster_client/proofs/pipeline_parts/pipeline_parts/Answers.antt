@@ -1,9 +1,9 @@
 use Rattle.std.proofs.Common.{◌≡◌, ◌≢◌, ◌∙◌, ◌∷◌, suc, add-one, drop, map, option_map, sym, ap, subst}
 use Rattle.std.proofs.lemmas.List.{map-append}
-use Rattle.cluster_client.specs.Calls.Call.{Entry}
-use Rattle.cluster_client.specs.Calls.Parts.{pipeline_parts}
-use Rattle.cluster_client.specs.Links.FirstPlaces.{part_of}
-use Rattle.cluster_client.proofs.LinkLaws.PipeParts.{before, next_entry, parts_more, parts_stop}
+use Rattle.cluster_calls.specs.Calls.Call.{Entry}
+use Rattle.cluster_calls.specs.Calls.Parts.{pipeline_parts}
+use Rattle.cluster_steps.specs.FirstPlaces.{part_of}
+use Rattle.cluster_client.proofs.PipeParts.{before, next_entry, parts_more, parts_stop}
 use Rattle.cluster_client.proofs.pipeline_parts.pipeline_parts.Goals as goal
 
 pub returns-in_default : goal.returns-in_default

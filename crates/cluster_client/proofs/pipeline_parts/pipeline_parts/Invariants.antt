@@ -1,7 +1,7 @@
 use Rattle.std.proofs.Common.{◌≡◌, map, drop}
-use Rattle.cluster_client.specs.Calls.Parts.{pipeline_parts}
-use Rattle.cluster_client.specs.Links.FirstPlaces.{part_of}
-use Rattle.cluster_client.proofs.LinkLaws.PipeParts.{before}
+use Rattle.cluster_calls.specs.Calls.Parts.{pipeline_parts}
+use Rattle.cluster_steps.specs.FirstPlaces.{part_of}
+use Rattle.cluster_client.proofs.PipeParts.{before}
 use Rattle.cluster_client.proofs.pipeline_parts.pipeline_parts.Given as goal
 
 abbrev pub invariant-commands : goal.invariant-commands

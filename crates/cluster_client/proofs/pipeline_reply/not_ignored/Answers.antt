@@ -2,7 +2,7 @@ use Rattle.std.specs.Vec.Iter.{into_iter_items}
 use Rattle.std.proofs.Common.{◌≡◌, ◌∙◌, ◌++◌, [], map, sym, ap, append-nil}
 use Rattle.std.proofs.lemmas.List.{nil_from_length}
 use Rattle.resp_core.specs.View.{view}
-use Rattle.cluster_client.proofs.LinkLaws.PipeErrors.{none_left}
+use Rattle.cluster_calls.proofs.LinkLaws.PipeErrors.{none_left}
 use Rattle.cluster_client.proofs.pipeline_reply.not_ignored.Goals as goal
 
 pub returns : goal.returns

@@ -1,7 +1,7 @@
 use Rattle.std.specs.Vec.Iter.{into_iter_items}
 use Rattle.std.proofs.Common.{◌≡◌, ◌++◌, map}
 use Rattle.resp_core.specs.View.{view}
-use Rattle.cluster_client.specs.Calls.Replies.{not_ignored}
+use Rattle.cluster_calls.specs.Calls.Replies.{not_ignored}
 use Rattle.cluster_client.proofs.pipeline_reply.not_ignored.Given as goal
 
 abbrev pub invariant-replies : goal.invariant-replies

@@ -1,8 +1,8 @@
 use Rattle.std.proofs.Common.{◌≡◌, ◌<◌, ◌∙◌, ℕ, ◌+◌, List, [], ◌∷◌, map, drop, drop-cons, get_or, length, add-one, arith, ap, ap₂, sym}
 use Rattle.std.proofs.lemmas.List.{drop_all, map-append}
 use Rattle.std.proofs.lemmas.Result.{err_from_is_err_and}
-use Rattle.cluster_client.specs.Links.Play.{call_in}
-use Rattle.cluster_client.proofs.LinkLaws.PlayLoop.{play_start, play_more, play_done}
+use Rattle.cluster_client.specs.Shown.{call_in}
+use Rattle.cluster_calls.proofs.LinkLaws.PlayLoop.{play_start, play_more, play_done}
 use Rattle.cluster_client.proofs.run.play.Goals as goal
 
 -- what is left from an index on

@@ -1,7 +1,7 @@
 use Rattle.std.proofs.Common.{◌≡◌, map, option_map, drop}
-use Rattle.cluster_client.specs.Links.Play.{call_in, shown}
-use Rattle.cluster_client.specs.Links.Whole.{whole}
-use Rattle.cluster_client.proofs.LinkLaws.PlayLoop.{PlayLoop}
+use Rattle.cluster_client.specs.Shown.{call_in, shown}
+use Rattle.cluster_client.specs.Whole.{whole}
+use Rattle.cluster_calls.proofs.LinkLaws.PlayLoop.{PlayLoop}
 use Rattle.cluster_client.proofs.run.play.Given as goal
 
 abbrev pub invariant-calls : goal.invariant-calls

@@ -4,9 +4,9 @@ use Rattle.std.proofs.lemmas.Result.{err_from_is_err_and}
 use Rattle.resp_core.specs.Errors.{by_cause}
 use Rattle.resp_core.specs.declared.errors.redis_error.Cause.TheVariants.{Memory}
 use Rattle.resp_core.specs.View.{view}
-use Rattle.cluster_client.specs.Links.Dispatches.{dispatch_of}
-use Rattle.cluster_client.specs.Links.World.{tree_result}
-use Rattle.cluster_client.proofs.LinkLaws.NodeLoop.{by_asking, node_lost, node_told, nothing_asked}
+use Rattle.cluster_steps.specs.Dispatches.{dispatch_of}
+use Rattle.cluster_calls.specs.Links.World.{tree_result}
+use Rattle.cluster_client.proofs.NodeLoop.{by_asking, node_lost, node_told, nothing_asked}
 use Rattle.cluster_client.proofs.client.ClusterClient.ask.Goals as goal
 
 pub returns-in_err-node : goal.returns-in_err-node

@@ -2,8 +2,8 @@ use Rattle.std.proofs.Common.{◌≡◌, ◌∙◌, [], ◌∷◌, sym}
 use Rattle.std.specs.Vec.Iter.{into_iter_items}
 use Rattle.std.proofs.lemmas.List.{map-append, nil_from_length}
 use Rattle.std.proofs.lemmas.Result.{err_from_is_err_and}
-use Rattle.cluster_client.specs.Links.Dispatches.{dispatch_of}
-use Rattle.cluster_client.proofs.LinkLaws.NodeLoop.{asks_done, asks_more, asks_refused, asks_start, asks_stopped, others_placed}
+use Rattle.cluster_steps.specs.Dispatches.{dispatch_of}
+use Rattle.cluster_client.proofs.NodeLoop.{asks_done, asks_more, asks_refused, asks_start, asks_stopped, others_placed}
 use Rattle.cluster_client.proofs.client.ClusterClient.ask_each.Goals as goal
 
 pub nodes-init : goal.nodes-init

@@ -4,10 +4,10 @@ use Rattle.std.specs.Vec.Iter.{into_iter_items}
 use Rattle.cluster_routing.specs.Address.{same_address}
 use Rattle.cluster_routing.specs.Lists.{IsDistinct}
 use Rattle.cluster_routing.specs.Outcomes.{outcomes_of}
-use Rattle.cluster_client.specs.Links.Dispatches.{IsPlaced, dispatch_of}
-use Rattle.cluster_client.specs.Links.Whole.{whole}
-use Rattle.cluster_client.specs.Links.World.{nodes}
-use Rattle.cluster_client.proofs.LinkLaws.NodeLoop.{AskLoop, node_of}
+use Rattle.cluster_steps.specs.Dispatches.{IsPlaced, dispatch_of}
+use Rattle.cluster_client.specs.Whole.{whole}
+use Rattle.cluster_calls.specs.Links.World.{nodes}
+use Rattle.cluster_client.proofs.NodeLoop.{AskLoop, node_of}
 use Rattle.cluster_client.proofs.client.ClusterClient.ask_each.Given as goal
 
 abbrev pub invariant-nodes : goal.invariant-nodes

@@ -2,8 +2,8 @@ use Rattle.std.proofs.Common.{◌≡◌, ◌<◌, ◌∙◌, List, [], ◌∷◌
 use Rattle.std.specs.Vec.Iter.{into_iter_items}
 use Rattle.std.proofs.lemmas.List.{length-map, map-append, nil_from_length}
 use Rattle.std.proofs.lemmas.Result.{err_from_is_err_and}
-use Rattle.cluster_client.specs.Links.Groups.{group_of}
-use Rattle.cluster_client.proofs.LinkLaws.GroupLoop.{groups_done, groups_failed, groups_more, groups_start, groups_stopped, stays_so, still_grouped}
+use Rattle.cluster_steps.specs.Groups.{group_of}
+use Rattle.cluster_client.proofs.GroupLoop.{groups_done, groups_failed, groups_more, groups_start, groups_stopped, stays_so, still_grouped}
 use Rattle.cluster_client.proofs.client.ClusterClient.exchange_all.Goals as goal
 
 pub groups-init : goal.groups-init

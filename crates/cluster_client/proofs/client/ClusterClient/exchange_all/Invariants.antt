@@ -2,11 +2,11 @@ use Rattle.std.specs.List.{AllByRecursion}
 use Rattle.std.specs.Vec.Iter.{into_iter_items}
 use Rattle.std.proofs.Common.{map}
 use Rattle.resp_core.specs.View.{view}
-use Rattle.cluster_client.specs.Links.Groups.{group_of}
-use Rattle.cluster_client.specs.Links.GroupRuns.{IsGroupPlaced, answered_at}
-use Rattle.cluster_client.specs.Links.Whole.{whole}
-use Rattle.cluster_client.specs.Links.World.{nodes}
-use Rattle.cluster_client.proofs.LinkLaws.GroupLoop.{GroupLoop}
+use Rattle.cluster_steps.specs.Groups.{group_of}
+use Rattle.cluster_steps.specs.GroupRuns.{IsGroupPlaced, answered_at}
+use Rattle.cluster_client.specs.Whole.{whole}
+use Rattle.cluster_calls.specs.Links.World.{nodes}
+use Rattle.cluster_client.proofs.GroupLoop.{GroupLoop}
 use Rattle.cluster_client.proofs.client.ClusterClient.exchange_all.Given as goal
 
 abbrev pub invariant-groups : goal.invariant-groups

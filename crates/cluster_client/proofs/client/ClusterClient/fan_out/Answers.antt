@@ -2,9 +2,9 @@ use Rattle.std.proofs.Common.{None, refl, sym, ap}
 use Rattle.std.proofs.lemmas.Result.{err_from_is_err_and}
 use Rattle.cluster_routing.specs.Info.{texts}
 use Rattle.cluster_routing.specs.Seen.{addresses}
-use Rattle.cluster_client.specs.Links.Happened.{client_of}
-use Rattle.cluster_client.specs.Links.Whole.{whole}
-use Rattle.cluster_client.proofs.LinkLaws.SeveralNodes.{fan_made, fan_not_sent, list_apart, made_of}
+use Rattle.cluster_calls.specs.Links.Happened.{client_of}
+use Rattle.cluster_client.specs.Whole.{whole}
+use Rattle.cluster_client.proofs.SeveralNodes.{fan_made, fan_not_sent, list_apart, made_of}
 use Rattle.cluster_client.proofs.client.ClusterClient.fan_out.Goals as goal
 
 pub returns-in_err-list : goal.returns-in_err-list

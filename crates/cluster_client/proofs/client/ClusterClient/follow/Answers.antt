@@ -1,10 +1,10 @@
 use Rattle.std.proofs.Common.{◌<◌, ◌∙◌, refl, ap, length}
 use Rattle.std.proofs.lemmas.List.{length-map}
 use Rattle.std.proofs.lemmas.Result.{err_from_is_err_and}
-use Rattle.cluster_client.specs.Links.Log.{last_of}
-use Rattle.cluster_client.specs.Links.Request.{Request}
-use Rattle.cluster_client.specs.Links.Turns.{hop_to}
-use Rattle.cluster_client.proofs.LinkLaws.ChainLoop.{behind_request, followed_bad, with_args, loop_start, loop_ended, loop_err, loop_ok, loop_refused, loop_answered, loop_more}
+use Rattle.cluster_calls.specs.Links.Log.{last_of}
+use Rattle.cluster_calls.specs.Links.Request.{Request}
+use Rattle.cluster_steps.specs.Turns.{hop_to}
+use Rattle.cluster_calls.proofs.LinkLaws.ChainLoop.{behind_request, followed_bad, with_args, loop_start, loop_ended, loop_err, loop_ok, loop_refused, loop_answered, loop_more}
 use Rattle.cluster_client.proofs.client.ClusterClient.follow.Goals as goal
 
 pub requests-init : goal.requests-init

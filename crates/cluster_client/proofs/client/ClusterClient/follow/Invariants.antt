@@ -1,8 +1,8 @@
 use Rattle.std.proofs.Common.{◌≡◌, ◌<◌, vec_len}
 use Rattle.cluster_routing.specs.Info.{texts}
-use Rattle.cluster_client.specs.Links.Whole.{whole}
-use Rattle.cluster_client.specs.Links.Turns.{hop_to}
-use Rattle.cluster_client.proofs.LinkLaws.ChainLoop.{Loop, hop_of}
+use Rattle.cluster_client.specs.Whole.{whole}
+use Rattle.cluster_steps.specs.Turns.{hop_to}
+use Rattle.cluster_calls.proofs.LinkLaws.ChainLoop.{Loop, hop_of}
 use Rattle.cluster_client.proofs.client.ClusterClient.follow.Given as goal
 
 abbrev pub invariant-requests : goal.invariant-requests

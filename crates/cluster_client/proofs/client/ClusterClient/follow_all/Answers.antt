@@ -3,9 +3,9 @@ use Rattle.std.specs.Vec.Iter.{into_iter_items}
 use Rattle.std.proofs.lemmas.List.{length-map, map-append}
 use Rattle.std.proofs.lemmas.Result.{err_from_is_err_and}
 use Rattle.cluster_routing.specs.Seen.{address}
-use Rattle.cluster_client.specs.Links.Dispatches.{dispatch_of}
-use Rattle.cluster_client.specs.Links.World.{nodes}
-use Rattle.cluster_client.proofs.LinkLaws.PartLoop.{from_place, parts_done, parts_more, parts_refused, parts_start, parts_stopped, place_within, still_placed}
+use Rattle.cluster_steps.specs.Dispatches.{dispatch_of}
+use Rattle.cluster_calls.specs.Links.World.{nodes}
+use Rattle.cluster_calls.proofs.LinkLaws.PartLoop.{from_place, parts_done, parts_more, parts_refused, parts_start, parts_stopped, place_within, still_placed}
 use Rattle.cluster_client.proofs.client.ClusterClient.follow_all.Goals as goal
 
 empty : {X : Type 0} (xs : List X) → length xs ≡ 0 → xs ≡ []

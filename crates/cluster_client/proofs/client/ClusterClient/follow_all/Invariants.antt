@@ -2,10 +2,10 @@ use Rattle.std.proofs.Common.{map}
 use Rattle.std.specs.List.{AllByRecursion}
 use Rattle.std.specs.Vec.Iter.{into_iter_items}
 use Rattle.resp_core.specs.View.{view}
-use Rattle.cluster_client.specs.Links.Dispatches.{IsPlaced, dispatch_of}
-use Rattle.cluster_client.specs.Links.Whole.{whole}
-use Rattle.cluster_client.specs.Links.World.{nodes}
-use Rattle.cluster_client.proofs.LinkLaws.PartLoop.{PartLoop}
+use Rattle.cluster_steps.specs.Dispatches.{IsPlaced, dispatch_of}
+use Rattle.cluster_client.specs.Whole.{whole}
+use Rattle.cluster_calls.specs.Links.World.{nodes}
+use Rattle.cluster_calls.proofs.LinkLaws.PartLoop.{PartLoop}
 use Rattle.cluster_client.proofs.client.ClusterClient.follow_all.Given as goal
 
 abbrev pub invariant-parts : goal.invariant-parts

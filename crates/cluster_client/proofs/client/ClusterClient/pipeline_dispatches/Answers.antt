@@ -1,10 +1,10 @@
 use Rattle.std.proofs.Common.{◌≡◌, ◌≢◌, map, sym, ap, Ok, Err}
 use Rattle.std.proofs.lemmas.Result.{err_from_is_err_and}
 use Rattle.cluster_routing.specs.Seen.{addresses}
-use Rattle.cluster_client.specs.Links.FirstPlaces.{part_of}
-use Rattle.cluster_client.specs.Links.Happened.{client_of}
-use Rattle.cluster_client.specs.Links.Whole.{whole}
-use Rattle.cluster_client.proofs.LinkLaws.PipeParts.{pipeline_planned, pipeline_unplanned}
+use Rattle.cluster_steps.specs.FirstPlaces.{part_of}
+use Rattle.cluster_calls.specs.Links.Happened.{client_of}
+use Rattle.cluster_client.specs.Whole.{whole}
+use Rattle.cluster_client.proofs.PipeParts.{pipeline_planned, pipeline_unplanned}
 use Rattle.cluster_client.proofs.client.ClusterClient.pipeline_dispatches.Goals as goal
 
 pub returns-in_err-parts-clause-planned : goal.returns-in_err-parts-clause-planned

@@ -2,13 +2,13 @@ use Rattle.std.specs.Prelude.{option_map}
 use Rattle.std.specs.List.{AllByRecursion}
 use Rattle.std.proofs.Common.{arith, ℕ, true, false, List, Bor, ◌≡◌, ◌≢◌, ◌∙◌, length, sym, ap, subst, Ok, Err}
 use Rattle.std.proofs.lemmas.Result.{err_from_is_err_and}
-use Rattle.cluster_client.specs.Calls.Parts.{fits_order}
-use Rattle.cluster_client.specs.Links.Dispatches.{IsPlaced}
-use Rattle.cluster_client.specs.Links.Happened.{client_of}
-use Rattle.cluster_client.specs.Links.Whole.{whole}
-use Rattle.cluster_client.specs.Links.World.{nodes}
-use Rattle.cluster_client.proofs.LinkLaws.Ordering.{holds_in_order}
-use Rattle.cluster_client.proofs.LinkLaws.Prepared.{prepared_dispatches, prepared_planned, prepared_routes, prepared_unfit, prepared_unplaced}
+use Rattle.cluster_calls.specs.Calls.Parts.{fits_order}
+use Rattle.cluster_steps.specs.Dispatches.{IsPlaced}
+use Rattle.cluster_calls.specs.Links.Happened.{client_of}
+use Rattle.cluster_client.specs.Whole.{whole}
+use Rattle.cluster_calls.specs.Links.World.{nodes}
+use Rattle.cluster_calls.proofs.LinkLaws.Ordering.{holds_in_order}
+use Rattle.cluster_client.proofs.Prepared.{prepared_dispatches, prepared_planned, prepared_routes, prepared_unfit, prepared_unplaced}
 use Rattle.cluster_client.proofs.client.ClusterClient.prepare.Goals as goal
 
 pub returns-then-not-branch-clause-planned : goal.returns-then-not-branch-clause-planned

@@ -1,8 +1,8 @@
 use Rattle.std.proofs.Common.{◌≡◌, ◌∙◌, refl, sym, ap}
 use Rattle.std.proofs.lemmas.Result.{err_from_is_err_and}
 use Rattle.cluster_routing.specs.Seen.{addresses}
-use Rattle.cluster_client.proofs.LinkLaws.OneCommand.{not_begun}
-use Rattle.cluster_client.proofs.LinkLaws.Refreshing.{not_linked, exchange_err, exchange_ok, refresh_ok, refresh_refused}
+use Rattle.cluster_calls.proofs.LinkLaws.OneCommand.{not_begun}
+use Rattle.cluster_calls.proofs.LinkLaws.Refreshing.{not_linked, exchange_err, exchange_ok, refresh_ok, refresh_refused}
 use Rattle.cluster_client.proofs.client.ClusterClient.refresh.Goals as goal
 
 pub returns-in_default-clause-made : goal.returns-in_default-clause-made

@@ -1,7 +1,7 @@
 use Rattle.std.proofs.Common.{◌≡◌, refl, ap, Ok, Err}
 use Rattle.std.proofs.lemmas.Result.{err_from_is_err_and}
 use Rattle.resp_core.specs.View.{view}
-use Rattle.cluster_client.proofs.LinkLaws.TypedCalls.{converted, typed_made, unconverted, unwritten}
+use Rattle.cluster_client.proofs.TypedCalls.{converted, typed_made, unconverted, unwritten}
 use Rattle.cluster_client.proofs.client.ClusterClient.reply_as.Goals as goal
 
 pub returns-in_err-reply-in-Ok : goal.returns-in_err-reply-in-Ok

@@ -3,13 +3,13 @@ use Rattle.std.proofs.Common.{ℕ, List, Bor, ◌≡◌, ◌≢◌, ◌∙◌, r
 use Rattle.std.proofs.lemmas.List.{length-map}
 use Rattle.std.proofs.lemmas.Result.{err_from_is_err_and}
 use Rattle.cluster_routing.specs.Split.{parts_by_place}
-use Rattle.cluster_client.specs.Links.Happened.{client_of}
-use Rattle.cluster_client.specs.Links.Orders.{command_call, routes_in_order}
-use Rattle.cluster_client.specs.Links.Whole.{whole}
-use Rattle.cluster_client.specs.Links.World.{World}
-use Rattle.cluster_client.proofs.LinkLaws.Dispatched.{command_plain, command_task, command_value}
-use Rattle.cluster_client.proofs.LinkLaws.ManyParts.{as_many_replies, many_made}
-use Rattle.cluster_client.proofs.LinkLaws.OneCommand.{not_sent, relogged_untouched}
+use Rattle.cluster_calls.specs.Links.Happened.{client_of}
+use Rattle.cluster_calls.specs.Links.Orders.{command_call, routes_in_order}
+use Rattle.cluster_client.specs.Whole.{whole}
+use Rattle.cluster_calls.specs.Links.World.{World}
+use Rattle.cluster_steps.proofs.Dispatched.{command_plain, command_task, command_value}
+use Rattle.cluster_calls.proofs.LinkLaws.ManyParts.{as_many_replies, many_made}
+use Rattle.cluster_calls.proofs.LinkLaws.OneCommand.{not_sent, relogged_untouched}
 use Rattle.cluster_client.proofs.client.ClusterClient.reply_in_order.Goals as goal
 
 pub returns-in_err-dispatches : goal.returns-in_err-dispatches

@@ -3,17 +3,17 @@ use Rattle.std.proofs.Common.{◌≡◌, ◌≢◌, ◌<◌, ◌∙◌, ℕ, Lis
 use Rattle.std.proofs.lemmas.List.{length-map}
 use Rattle.std.proofs.lemmas.Result.{err_from_is_err_and}
 use Rattle.resp_core.specs.View.{view}
-use Rattle.cluster_client.specs.Links.Dispatches.{IsPlaced}
-use Rattle.cluster_client.specs.Links.Groups.{group_of, place_in}
-use Rattle.cluster_client.specs.Links.GroupRuns.{IsGroupPlaced, answered_at}
-use Rattle.cluster_client.specs.Links.PipeReplies.{pipeline_result}
-use Rattle.cluster_client.specs.Links.Queues.{no_queues, queued}
-use Rattle.cluster_client.specs.Links.World.{Node, nodes, tree_result}
+use Rattle.cluster_steps.specs.Dispatches.{IsPlaced}
+use Rattle.cluster_steps.specs.Groups.{group_of, place_in}
+use Rattle.cluster_steps.specs.GroupRuns.{IsGroupPlaced, answered_at}
+use Rattle.cluster_calls.specs.Links.PipeReplies.{pipeline_result}
+use Rattle.cluster_steps.specs.Queues.{no_queues, queued}
+use Rattle.cluster_calls.specs.Links.World.{Node, nodes, tree_result}
 use Rattle.cluster_routing.specs.Lists.{draw}
-use Rattle.cluster_client.proofs.LinkLaws.OneCommand.{not_begun, not_sent, relogged_untouched}
-use Rattle.cluster_client.proofs.LinkLaws.PipeGroups.{all_unmapped, groups_placed}
-use Rattle.cluster_client.proofs.LinkLaws.PipeOrder.{replies_are}
-use Rattle.cluster_client.proofs.LinkLaws.Piping.{answers_within, dispatches_within, places_within, reply_made}
+use Rattle.cluster_calls.proofs.LinkLaws.OneCommand.{not_begun, not_sent, relogged_untouched}
+use Rattle.cluster_steps.proofs.PipeGroups.{all_unmapped, groups_placed}
+use Rattle.cluster_steps.proofs.PipeOrder.{replies_are}
+use Rattle.cluster_client.proofs.Piping.{answers_within, dispatches_within, places_within, reply_made}
 use Rattle.cluster_client.proofs.client.ClusterClient.reply_to_pipeline.Goals as goal
 
 pub returns-in_err-dispatches : goal.returns-in_err-dispatches

@@ -1,6 +1,6 @@
 use Rattle.std.proofs.Common.{map, refl}
-use Rattle.cluster_client.specs.Calls.Answer.{Added}
-use Rattle.cluster_client.specs.Calls.Call.{Xadd}
+use Rattle.cluster_calls.specs.Calls.Answer.{Added}
+use Rattle.cluster_calls.specs.Calls.Call.{Xadd}
 use Rattle.cluster_client.proofs.client.ClusterClient.xadd.Goals as goal
 
 pub returns : goal.returns

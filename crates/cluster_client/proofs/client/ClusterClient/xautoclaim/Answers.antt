@@ -1,6 +1,6 @@
 use Rattle.std.proofs.Common.{refl}
-use Rattle.cluster_client.specs.Calls.Answer.{AutoClaim}
-use Rattle.cluster_client.specs.Calls.Call.{Xautoclaim}
+use Rattle.cluster_calls.specs.Calls.Answer.{AutoClaim}
+use Rattle.cluster_calls.specs.Calls.Call.{Xautoclaim}
 use Rattle.cluster_client.proofs.client.ClusterClient.xautoclaim.Goals as goal
 
 pub returns : goal.returns

@@ -1,10 +1,10 @@
 use Rattle.std.proofs.Common.{map, refl, sym, ap, ◌∙◌}
 use Rattle.resp_core.specs.Errors.{by_cause}
 use Rattle.resp_core.specs.declared.errors.redis_error.Cause.TheVariants.{ClaimsIdsAlone}
-use Rattle.cluster_client.specs.Calls.Answer.{Claim}
-use Rattle.cluster_client.specs.Calls.Call.{Claimant, Xclaim}
-use Rattle.cluster_client.specs.Calls.Task.{refuse_if}
-use Rattle.cluster_client.proofs.LinkLaws.TypedCalls.{refused_early}
+use Rattle.cluster_calls.specs.Calls.Answer.{Claim}
+use Rattle.cluster_calls.specs.Calls.Call.{Claimant, Xclaim}
+use Rattle.cluster_calls.specs.Calls.Task.{refuse_if}
+use Rattle.cluster_client.proofs.TypedCalls.{refused_early}
 use Rattle.cluster_client.proofs.client.ClusterClient.xclaim.Goals as goal
 
 pub returns-then-justid : goal.returns-then-justid

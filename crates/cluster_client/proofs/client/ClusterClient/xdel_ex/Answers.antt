@@ -1,10 +1,10 @@
 use Rattle.std.proofs.Common.{map, refl, ap, subst}
 use Rattle.std.proofs.lemmas.List.{map-id}
-use Rattle.cluster_client.specs.Calls.Answer.{Deleted}
-use Rattle.cluster_client.specs.Calls.Call.{XdelEx}
-use Rattle.cluster_client.specs.Links.Typed.{deletion_of}
+use Rattle.cluster_calls.specs.Calls.Answer.{Deleted}
+use Rattle.cluster_calls.specs.Calls.Call.{XdelEx}
+use Rattle.cluster_calls.specs.Links.Typed.{deletion_of}
 use Rattle.cluster_client.proofs.Deletions.{codes_shown}
-use Rattle.cluster_client.proofs.LinkLaws.TypedCalls.{answered_so, shown_alike}
+use Rattle.cluster_client.proofs.TypedCalls.{answered_so, shown_alike}
 use Rattle.cluster_client.proofs.client.ClusterClient.xdel_ex.Goals as goal
 
 pub returns : goal.returns

@@ -1,6 +1,6 @@
 use Rattle.std.proofs.Common.{refl}
-use Rattle.cluster_client.specs.Calls.Answer.{Consumers}
-use Rattle.cluster_client.specs.Calls.Call.{XinfoConsumers}
+use Rattle.cluster_calls.specs.Calls.Answer.{Consumers}
+use Rattle.cluster_calls.specs.Calls.Call.{XinfoConsumers}
 use Rattle.cluster_client.proofs.client.ClusterClient.xinfo_consumers.Goals as goal
 
 pub returns : goal.returns

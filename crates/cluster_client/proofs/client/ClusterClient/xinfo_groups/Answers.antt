@@ -1,6 +1,6 @@
 use Rattle.std.proofs.Common.{refl}
-use Rattle.cluster_client.specs.Calls.Answer.{Groups}
-use Rattle.cluster_client.specs.Calls.Call.{XinfoGroups}
+use Rattle.cluster_calls.specs.Calls.Answer.{Groups}
+use Rattle.cluster_calls.specs.Calls.Call.{XinfoGroups}
 use Rattle.cluster_client.proofs.client.ClusterClient.xinfo_groups.Goals as goal
 
 pub returns : goal.returns

@@ -1,6 +1,6 @@
 use Rattle.std.proofs.Common.{refl}
-use Rattle.cluster_client.specs.Calls.Answer.{Stream}
-use Rattle.cluster_client.specs.Calls.Call.{XinfoStream}
+use Rattle.cluster_calls.specs.Calls.Answer.{Stream}
+use Rattle.cluster_calls.specs.Calls.Call.{XinfoStream}
 use Rattle.cluster_client.proofs.client.ClusterClient.xinfo_stream.Goals as goal
 
 pub returns : goal.returns

@@ -1,6 +1,6 @@
 use Rattle.std.proofs.Common.{refl}
-use Rattle.cluster_client.specs.Calls.Answer.{Pending}
-use Rattle.cluster_client.specs.Calls.Call.{Xpending}
+use Rattle.cluster_calls.specs.Calls.Answer.{Pending}
+use Rattle.cluster_calls.specs.Calls.Call.{Xpending}
 use Rattle.cluster_client.proofs.client.ClusterClient.xpending.Goals as goal
 
 pub returns : goal.returns

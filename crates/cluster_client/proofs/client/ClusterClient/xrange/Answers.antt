@@ -1,6 +1,6 @@
 use Rattle.std.proofs.Common.{refl}
-use Rattle.cluster_client.specs.Calls.Answer.{Range}
-use Rattle.cluster_client.specs.Calls.Call.{Xrange}
+use Rattle.cluster_calls.specs.Calls.Answer.{Range}
+use Rattle.cluster_calls.specs.Calls.Call.{Xrange}
 use Rattle.cluster_client.proofs.client.ClusterClient.xrange.Goals as goal
 
 pub returns : goal.returns

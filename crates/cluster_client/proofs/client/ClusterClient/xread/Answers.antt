@@ -1,11 +1,11 @@
 use Rattle.std.proofs.Common.{◌≡◌, option_map, IfOk, refl, sym, ap, ◌∙◌, subst}
 use Rattle.resp_core.specs.Errors.{by_cause}
-use Rattle.cluster_client.specs.Calls.Answer.{Read}
-use Rattle.cluster_client.specs.Calls.Call.{Xread}
+use Rattle.cluster_calls.specs.Calls.Answer.{Read}
+use Rattle.cluster_calls.specs.Calls.Call.{Xread}
 use Rattle.stream_commands.specs.Commands.{plain_command}
-use Rattle.cluster_client.specs.Calls.Task.{read_refusal}
-use Rattle.cluster_client.specs.Links.Typed.{streams_by}
-use Rattle.cluster_client.proofs.LinkLaws.TypedCalls.{read_sentence_by, refused_early, stream_keys_by, unwritten}
+use Rattle.cluster_calls.specs.Calls.Task.{read_refusal}
+use Rattle.cluster_calls.specs.Links.Typed.{streams_by}
+use Rattle.cluster_client.proofs.TypedCalls.{read_sentence_by, refused_early, stream_keys_by, unwritten}
 use Rattle.cluster_client.proofs.client.ClusterClient.xread.Goals as goal
 
 pub returns-in-Ok-None : goal.returns-in-Ok-None

@@ -1,6 +1,6 @@
 use Rattle.std.proofs.Common.{refl}
-use Rattle.cluster_client.specs.Calls.Answer.{Trimmed}
-use Rattle.cluster_client.specs.Calls.Call.{Xtrim}
+use Rattle.cluster_calls.specs.Calls.Answer.{Trimmed}
+use Rattle.cluster_calls.specs.Calls.Call.{Xtrim}
 use Rattle.cluster_client.proofs.client.ClusterClient.xtrim.Goals as goal
 
 pub returns : goal.returns

@@ -1,8 +1,8 @@
 use Rattle.std.proofs.Common.{◌≡◌, ◌≢◌, ◌<◌, ◌-◌, ◌∙◌, [], suc, is_ok, length, map, List, ℕ, refl, sym, ap, subst, arith, Some}
 use Rattle.std.proofs.lemmas.Option.{slice_get_read}
 use Rattle.resp_args.specs.declared.cmd.Arg.TheVariants.{Simple}
-use Rattle.cluster_client.specs.Calls.Call.{Entry}
-use Rattle.cluster_client.proofs.LinkLaws.LastCommand.{args_behind, index_last}
+use Rattle.cluster_calls.specs.Calls.Call.{Entry}
+use Rattle.cluster_calls.proofs.LinkLaws.LastCommand.{args_behind, index_last}
 use Rattle.cluster_client.proofs.pipeline.ClusterPipeline.arg.Goals as goal
 
 pub returns : goal.returns

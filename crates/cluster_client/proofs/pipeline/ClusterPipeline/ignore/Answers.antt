@@ -1,7 +1,7 @@
 use Rattle.std.proofs.Common.{◌≡◌, ◌<◌, ◌-◌, ◌∙◌, suc, length, List, refl, sym, ap, arith, Some}
 use Rattle.std.proofs.lemmas.Option.{slice_get_read}
-use Rattle.cluster_client.specs.Calls.Call.{Entry}
-use Rattle.cluster_client.proofs.LinkLaws.LastCommand.{last_ignored}
+use Rattle.cluster_calls.specs.Calls.Call.{Entry}
+use Rattle.cluster_calls.proofs.LinkLaws.LastCommand.{last_ignored}
 use Rattle.cluster_client.proofs.pipeline.ClusterPipeline.ignore.Goals as goal
 
 pub returns-then-len-gt0 : goal.returns-then-len-gt0

@@ -1,0 +1,84 @@
+-- A call of which nothing was sent.
+use Rattle.std.specs.Prelude.{◌||◌}
+use Rattle.std.proofs.Common.{◌≡◌, ◌≢◌, Bool, true, false, List, [], Option, refl, sym, ◌∙◌, Result, Err}
+use Rattle.std.proofs.lemmas.Bool.{false≢true}
+use Rattle.resp_core.specs.Errors.{Refusal, by_cause}
+use Rattle.resp_core.specs.declared.errors.redis_error.Cause.TheVariants.{Memory}
+use Rattle.cluster_routing.specs.Address.{Address}
+use Rattle.cluster_routing.specs.Choice.{Strategy}
+use Rattle.cluster_calls.specs.Links.Request.{Request}
+use Rattle.cluster_calls.specs.Links.World.{World}
+use Rattle.cluster_calls.specs.Links.Nodes.{link_calls}
+use Rattle.cluster_calls.specs.Links.Happened.{client_of, is_refresh, Happened, CallMade}
+use Rattle.cluster_calls.specs.Links.Run.{with_log}
+use Rattle.cluster_calls.specs.Calls.Call.{Call}
+use Rattle.cluster_calls.specs.Calls.Task.{Task, slot_map_of, one_command, pipeline_of, several_nodes, task_of}
+use Rattle.cluster_calls.specs.Calls.Plan.{plan}
+use Rattle.cluster_calls.specs.Calls.Picks.{ArePicks}
+use Rattle.cluster_calls.specs.Calls.Answer.{Answer}
+use Rattle.cluster_calls.proofs.LinkLaws.LinkCalls.{AreLinkCalls}
+use Rattle.cluster_calls.proofs.LinkLaws.MovedLaws.{answered_plain}
+use Rattle.cluster_calls.proofs.LinkLaws.Played.{call_made}
+
+-- the world stays, but for its log, which is empty, and its picks
+pub record Untouched (old new : World) : Type 0 where
+  pub nodes : new.nodes ≡ old.nodes
+  pub log : new.log ≡ []
+  pub entries : new.entries ≡ old.entries
+  pub settings : new.settings ≡ old.settings
+  pub flag : new.needs_refresh ≡ old.needs_refresh
+
+-- the world with another empty log and picks that are none
+pub relogged : (old : World) (log : List Request) (picked : List Address) → log ≡ [] → picked ≡ [] → with_log old log picked ≡ with_log old [] []
+relogged old log picked e f = λ i. with_log old (e i) (f i)
+
+-- a world whose log was emptied, and whose picks are these
+pub relogged_untouched : (old new : World) (picks : List Address) → new ≡ with_log old [] picks → Untouched old new
+relogged_untouched old new picks e = rw e (record { nodes = refl; log = refl; entries = refl; settings = refl; flag = refl })
+
+pub or_none : (b : Bool) → (b || false) ≡ b
+or_none true = refl
+or_none false = refl
+
+pub no_link_calls : (task : Task) → [] ≡ link_calls task []
+no_link_calls (slot_map_of node) = refl
+no_link_calls (one_command command number order) = refl
+no_link_calls (pipeline_of entries) = refl
+no_link_calls (several_nodes command) = refl
+
+abbrev pub nothing_happened : (strategy : Option Strategy) (old new : World) (call : Call) → Untouched old new → Happened strategy old new call
+nothing_happened strategy old new call u = record {
+  events = [];
+  runs = u.nodes;
+  unsent = [];
+  logged = u.log;
+  calls = λ node. no_link_calls (task_of call);
+  picks = λ some. absurd (some u.log);
+  begins = λ some place. absurd (some u.log);
+  settings = u.settings;
+  map_stays = λ n. u.entries;
+  flag = λ n. u.flag ∙ sym (or_none old.needs_refresh);
+}
+
+-- memory was refused before anything was sent
+pub not_begun : (strategy : Option Strategy) (old new : World) (call : Call) → Untouched old new → CallMade strategy old new call (Err (by_cause Memory))
+not_begun strategy old new call u = call_made strategy old new call (Err (by_cause Memory)) (nothing_happened strategy old new call u) (λ m. absurd (m refl)) (λ e r. record { entries = u.entries; flag = u.flag })
+
+abbrev pub refused_by : Refusal → Result Answer Refusal
+refused_by e = Err e
+
+-- a check before sending was not met, or memory was refused before anything was sent
+pub not_sent : (strategy : Option Strategy) (old new : World) (call : Call) (refusal : Refusal) → is_refresh call ≡ false → Untouched old new
+    → (refused_by refusal ≢ Err (by_cause Memory) → (plan (client_of old) new.picked call ≡ Err refusal) × ArePicks strategy (client_of old) call new.picked) → CallMade strategy old new call (Err refusal)
+not_sent strategy old new call refusal n u why =
+    let h = nothing_happened strategy old new call u in
+    call_made strategy old new call (Err refusal) h
+    (λ m. let told = why m in
+    answered_plain strategy old new call (Err refusal) h n (no_calls (task_of call)) refl u.log told.1 (λ place. rw told.0 refl) (λ faults agrees place. rw told.0 refl))
+    (λ e r. absurd (false≢true (sym n ∙ r)))
+  where
+    no_calls : (task : Task) → AreLinkCalls task []
+    no_calls (slot_map_of node) = tt
+    no_calls (one_command command number order) = tt
+    no_calls (pipeline_of entries) = tt
+    no_calls (several_nodes command) = tt

@@ -1,0 +1,173 @@
+-- A call of one command, part by part, is as good as the command on one server.
+use Rattle.std.proofs.Common.{◌≡◌, ℕ, Bool, true, false, cond, ◌||◌, nat_eq, List, [], ◌∷◌, ◌++◌, map, filter, Option, Some, None, refl, sym, ap, ◌∙◌, subst, append-nil, MatchOption}
+use Rattle.std.specs.Prelude.{IfSome, unwrap_or}
+use Rattle.std.specs.List.{AllByRecursion}
+use Rattle.std.proofs.lemmas.Bool.{false≢true}
+use Rattle.resp_core.specs.Trees.{Tree, nil}
+use Rattle.cluster_routing.specs.Lists.{concat, among, IsDistinct, Pairwise}
+use Rattle.cluster_routing.specs.Address.{Address}
+use Rattle.cluster_routing.specs.Split.{Split, split_of}
+use Rattle.cluster_routing.specs.Parts.{tuple_slot}
+use Rattle.cluster_calls.specs.OneServer.Keyspace.{Keyspace, Step, History}
+use Rattle.cluster_calls.specs.OneServer.Meaning.{Meaning, DoesTuple, IsWholeStep, DoCommand, OneServer, tree_of_steps, results}
+use Rattle.cluster_routing.specs.Combine.{combine_by}
+use Rattle.cluster_calls.specs.Links.Log.{Exchange, is_answered, is_data_reply, behind_answers}
+use Rattle.cluster_calls.specs.Calls.Plan.{Client, Dispatch}
+use Rattle.cluster_calls.specs.Calls.Legal.{PartByPart}
+use Rattle.cluster_calls.specs.Calls.Replies.{args_slot, exchange_slot, reply_or_nil, part_replies, reply_of_parts, reply_by_split}
+use Rattle.cluster_calls.specs.OneServer.Honest.{is_counted, IsDoneBy, Honest}
+use Rattle.cluster_calls.specs.OneServer.Commands.{kept_by, kept_of}
+use Rattle.cluster_calls.proofs.ServerLaws.Counted.{counted_steps, Begun, parts_begun, AllDone, parts_done}
+use Rattle.cluster_calls.proofs.ServerLaws.Splits.{part_on_slot}
+use Rattle.cluster_calls.proofs.ServerLaws.SplitCall.{IsDispatchOf, part_done, parts_done_steps, Regrouped, regrouped, kept_served}
+use Rattle.cluster_calls.proofs.ServerLaws.Combined.{Tells, combined_told}
+use Rattle.cluster_calls.proofs.LogLaws.Plans.{SendsParts}
+use Rattle.cluster_calls.specs.Links.Faults.{LinkFault}
+use Rattle.cluster_calls.specs.Calls.Refusals.{part_refusal}
+
+-- what the dispatches of a command are: its parts, or itself
+abbrev pub Sends : List (List ℕ) → List Dispatch → Option Split → Type 0
+Sends args ds None = (d : Dispatch) × (ds ≡ d ∷ []) × (d.args ≡ args)
+Sends args ds (Some split) = SendsParts split ds
+
+all-front : {X : Type 0} (P : X → Type 0) (xs ys : List X) → AllByRecursion P (xs ++ ys) → AllByRecursion P xs
+all-front P [] ys h = tt
+all-front P (x ∷ xs) ys h = (h.0, all-front P xs ys h.1)
+
+among-front : (k : ℕ) (xs ys : List Dispatch) → among nat_eq k (map (λ (d : Dispatch). (args_slot d.args)) (xs ++ ys)) ≡ false → among nat_eq k (map (λ (d : Dispatch). (args_slot d.args)) xs) ≡ false
+among-front k [] ys h = refl
+among-front k (x ∷ xs) ys h = by (nat_eq k (args_slot x.args)) h (λ g. among-front k xs ys g)
+  where
+    by : (b : Bool) → (b || among nat_eq k (map (λ (d : Dispatch). (args_slot d.args)) (xs ++ ys))) ≡ false → (among nat_eq k (map (λ (d : Dispatch). (args_slot d.args)) (xs ++ ys)) ≡ false → among nat_eq k (map (λ (d : Dispatch). (args_slot d.args)) xs) ≡ false) → (b || among nat_eq k (map (λ (d : Dispatch). (args_slot d.args)) xs)) ≡ false
+    by true h ih = h
+    by false h ih = ih h
+
+distinct-front : (xs ys : List Dispatch) → IsDistinct nat_eq (map (λ (d : Dispatch). (args_slot d.args)) (xs ++ ys)) → IsDistinct nat_eq (map (λ (d : Dispatch). (args_slot d.args)) xs)
+distinct-front [] ys h = tt
+distinct-front (x ∷ xs) ys h = (among-front (args_slot x.args) xs ys h.0, distinct-front xs ys h.1)
+
+pub filter_all : {X : Type 0} (q : X → Bool) (xs : List X) → AllByRecursion (λ x. q x ≡ true) xs → filter q xs ≡ xs
+filter_all q [] h = refl
+filter_all q (x ∷ xs) h = ap (λ b. cond b (x ∷ filter q xs) (filter q xs)) h.0 ∙ ap (λ zs. x ∷ zs) (filter_all q xs h.1)
+
+pub reply_is : (x : Exchange) (tree : Tree) → is_answered x ≡ true → IfSome x.reply (λ told. told ≡ tree) → reply_or_nil x ≡ tree
+reply_is x tree a h = by x.reply a h
+  where
+    by : (r : Option Tree) → is_data_reply r ≡ true → IfSome r (λ told. told ≡ tree) → unwrap_or r nil ≡ tree
+    by None a h = absurd (false≢true a)
+    by (Some t) a h = h
+
+module _ (meaning : Meaning) (done : ℕ → Bool) (args : List (List ℕ)) (keys keys' : Keyspace) where
+  -- ---- what is kept
+
+  whole_kept : (d : Dispatch) → d.args ≡ args → (begun later : List Dispatch) → d ∷ [] ≡ begun ++ later → (xs : List Exchange) → Pairwise (λ (d : Dispatch) (x : Exchange). x.request.args ≡ d.args) begun xs
+      → (sts : List (List Step)) → Pairwise (IsDoneBy meaning) xs sts → History keys (concat sts) keys' → (trees_of : List Tree) × OneServer meaning keys (kept_by args None xs) trees_of keys'
+  whole_kept d e begun later all [] p [] h c = ([], ([], tt, c))
+  whole_kept d e begun later all [] p (st ∷ sts) h c = absurd h
+  whole_kept d e begun later all (x ∷ xs) p [] h c = absurd h
+  whole_kept d e [] later all (x ∷ xs) p (st ∷ sts) h c = absurd p
+  whole_kept d e (d2 ∷ d3 ∷ ds) later all (x ∷ xs) p (st ∷ sts) h c = cc
+  whole_kept d e (d2 ∷ []) later all (x ∷ x2 ∷ xs) p (st ∷ sts) h c = absurd p.1
+  whole_kept d e (d2 ∷ []) later all (x ∷ []) p (st ∷ st2 ∷ sts) h c = absurd h.1
+  whole_kept d e (d2 ∷ []) later all (x ∷ []) p (st ∷ []) h c =
+      let same : d ≡ d2 = cc in
+      let is_args : x.request.args ≡ args = p.0 ∙ ap (λ (b : Dispatch). b.args) (sym same) ∙ e in
+      (h.0.tree ∷ [], (st ∷ [], ((subst (λ a. DoCommand a st h.0.tree) is_args h.0.done, h.0.allowed), tt), c))
+
+  pub command_kept : (client : Client) (ds : List Dispatch) (xs : List Exchange) → Sends args ds (split_of args) → PartByPart client ds xs → Honest meaning keys done xs keys'
+      → (trees_of : List Tree) × OneServer meaning keys (kept_of args (filter (is_counted done) xs)) trees_of keys'
+  command_kept client ds xs sends legal honest = by (split_of args) refl sends
+    where
+      begun : Begun done ds xs
+      begun = parts_begun client done ds xs legal
+
+      steps : (ts : List (List Step)) × Pairwise (IsDoneBy meaning) (filter (is_counted done) xs) ts × (concat ts ≡ concat honest.0)
+      steps = counted_steps meaning done xs honest.0 honest.1
+
+      history : History keys (concat steps.0) keys'
+      history = subst (λ q. History keys q keys') (sym steps.2) honest.2
+
+      by : (o : Option Split) → split_of args ≡ o → Sends args ds o → (trees_of : List Tree) × OneServer meaning keys (kept_by args o (filter (is_counted done) xs)) trees_of keys'
+      by None e s = whole_kept s.0 s.2 begun.begun begun.later (sym s.1 ∙ begun.all) (filter (is_counted done) xs) begun.args steps.0 steps.1 history
+      by (Some split) e s =
+          let parts = parts_done_steps meaning args split e begun.begun (all-front (IsDispatchOf split) begun.begun begun.later (subst (AllByRecursion (IsDispatchOf split)) begun.all s.each))
+          (filter (is_counted done) xs) begun.args steps.0 steps.1 in
+          kept_served meaning args split e keys keys' (λ t. among nat_eq (tuple_slot t) (map exchange_slot (filter (is_counted done) xs))) steps.0
+          (regrouped meaning args split e keys keys' begun.begun (filter (is_counted done) xs) steps.0
+          (distinct-front begun.begun begun.later (subst (λ q. IsDistinct nat_eq (map (λ (d : Dispatch). (args_slot d.args)) q)) begun.all s.distinct)) parts history)
+
+  -- ---- what is told
+
+  -- each answered part tells what its steps tell
+  tells : (split : Split) (e : split_of args ≡ Some split) (ds : List Dispatch) → AllByRecursion (IsDispatchOf split) ds → (xs : List Exchange) → Pairwise (λ (d : Dispatch) (x : Exchange). x.request.args ≡ d.args) ds xs
+      → AllByRecursion (λ x. is_answered x ≡ true) xs → (sts : List (List Step)) → Pairwise (IsDoneBy meaning) xs sts → Pairwise (Tells (split.splitting.policy)) (map (λ x. record { slot = exchange_slot x; tree = reply_or_nil x }) xs) sts
+  tells split e [] w [] p a [] h = tt
+  tells split e [] w [] p a (st ∷ sts) h = absurd h
+  tells split e [] w (x ∷ xs) p a sts h = absurd p
+  tells split e (d ∷ ds) w [] p a sts h = absurd p
+  tells split e (d ∷ ds) w (x ∷ xs) p a [] h = absurd h
+  tells split e (d ∷ ds) w (x ∷ xs) p a (st ∷ sts) h =
+      let here = part_done meaning args split e d w.0 x p.0 st h.0 in (
+        record {
+          tree_is = reply_is x h.0.tree a.0 h.0.reply ∙ here.tree_is;
+          slots = subst (λ n. AllByRecursion (λ (y : Step). y.slot ≡ n) st) (sym here.slot_is) (part_on_slot meaning split.splitting.policy split.word split.shared (args_slot d.args) split.tuples st here.steps);
+        },
+        tells split e ds w.1 xs p.1 a.1 sts h.1,
+      )
+
+  split_told : (split : Split) (e : split_of args ≡ Some split) (ds : List Dispatch) → SendsParts split ds → (xs : List Exchange) → AllDone done ds xs → (sts : List (List Step)) → Pairwise (IsDoneBy meaning) (filter (is_counted done) xs) sts
+      → History keys (concat sts) keys' → (tree : Tree) → reply_by_split (Some split) (part_replies xs) ≡ Some tree → OneServer meaning keys (args ∷ []) (tree ∷ []) keys'
+  split_told split e ds s xs all sts h c tree told =
+      let counted = filter (is_counted done) xs in
+      let parts = parts_done_steps meaning args split e ds s.each counted all.args sts h in
+      let r = regrouped meaning args split e keys keys' ds counted sts s.distinct parts c in
+      let us : filter (λ t. among nat_eq (tuple_slot t) (map exchange_slot counted)) split.tuples ≡ split.tuples =
+      ap (λ q. filter (λ t. among nat_eq (tuple_slot t) q) split.tuples) parts.slots ∙ filter_all (λ t. among nat_eq (tuple_slot t) (map (λ (d : Dispatch). (args_slot d.args)) ds)) split.tuples s.whole in
+      let g = subst (λ q. Regrouped meaning args split e keys keys' q sts) us r in
+      let replies : combine_by split.splitting.policy split (map (λ x. record { slot = exchange_slot x; tree = reply_or_nil x }) counted) ≡ Some tree =
+      subst (λ q. combine_by split.splitting.policy split (map (λ x. record { slot = exchange_slot x; tree = reply_or_nil x }) q) ≡ Some tree) all.answers told in
+      let tree_is = combined_told split (map (λ x. record { slot = exchange_slot x; tree = reply_or_nil x }) counted) sts g.steps (split.splitting.policy)
+      (tells split e ds s.each counted all.args all.answered sts h) g.same g.drawn_from tree replies in (
+        g.steps ∷ [],
+        (
+          (
+            subst (λ o. MatchOption o ((y : Step) × (g.steps ≡ y ∷ []) × IsWholeStep args y tree) (λ sp. Pairwise (DoesTuple sp.splitting.policy sp.word sp.shared) sp.tuples g.steps × (tree ≡ tree_of_steps (sp.splitting.policy) (results g.steps)))) (sym e) (g.does, tree_is),
+            g.allowed,
+          ),
+          tt,
+        ),
+        subst (λ q. History keys q keys') (sym (append-nil g.steps)) g.history,
+      )
+
+  whole_told : (d : Dispatch) → d.args ≡ args → (xs : List Exchange) → AllDone done (d ∷ []) xs → (sts : List (List Step)) → Pairwise (IsDoneBy meaning) (filter (is_counted done) xs) sts
+      → History keys (concat sts) keys' → (tree : Tree) → reply_by_split None (part_replies xs) ≡ Some tree → OneServer meaning keys (args ∷ []) (tree ∷ []) keys'
+  whole_told d e xs all sts h c tree told =
+      by (filter (is_counted done) xs) all.args all.answered sts h c (subst (λ q. reply_by_split None (map (λ x. record { slot = exchange_slot x; tree = reply_or_nil x }) q) ≡ Some tree) all.answers told)
+    where
+      by : (ys : List Exchange) → Pairwise (λ (d : Dispatch) (x : Exchange). x.request.args ≡ d.args) (d ∷ []) ys → AllByRecursion (λ x. is_answered x ≡ true) ys → (sts : List (List Step)) → Pairwise (IsDoneBy meaning) ys sts → History keys (concat sts) keys'
+          → reply_by_split None (map (λ x. record { slot = exchange_slot x; tree = reply_or_nil x }) ys) ≡ Some tree → OneServer meaning keys (args ∷ []) (tree ∷ []) keys'
+      by [] p a sts h c t = absurd p
+      by (y ∷ z ∷ ys) p a sts h c t = absurd p.1
+      by (y ∷ []) p a [] h c t = absurd h
+      by (y ∷ []) p a (st ∷ st2 ∷ sts) h c t = absurd h.1
+      by (y ∷ []) p a (st ∷ []) h c t =
+          let told_is : reply_or_nil y ≡ tree = cc in
+          let same : h.0.tree ≡ tree = sym (reply_is y h.0.tree a.0 h.0.reply) ∙ told_is in
+          (st ∷ [], ((subst (λ a. DoCommand a st tree) (p.0 ∙ e) (subst (λ t. DoCommand y.request.args st t) same h.0.done), h.0.allowed), tt), c)
+
+  pub command_told : (client : Client) (faults : Address → LinkFault) (ds : List Dispatch) (xs : List Exchange) → Sends args ds (split_of args) → PartByPart client ds xs → Honest meaning keys done xs keys'
+      → part_refusal client faults (behind_answers xs) ≡ None → (tree : Tree) → reply_of_parts args (part_replies xs) ≡ Some tree → OneServer meaning keys (args ∷ []) (tree ∷ []) keys'
+  command_told client faults ds xs sends legal honest fine tree told = by (split_of args) refl sends told
+    where
+      all : AllDone done ds xs
+      all = parts_done client faults done ds xs legal fine
+
+      steps : (ts : List (List Step)) × Pairwise (IsDoneBy meaning) (filter (is_counted done) xs) ts × (concat ts ≡ concat honest.0)
+      steps = counted_steps meaning done xs honest.0 honest.1
+
+      history : History keys (concat steps.0) keys'
+      history = subst (λ q. History keys q keys') (sym steps.2) honest.2
+
+      by : (o : Option Split) → split_of args ≡ o → Sends args ds o → reply_by_split o (part_replies xs) ≡ Some tree → OneServer meaning keys (args ∷ []) (tree ∷ []) keys'
+      by None e s t = whole_told s.0 s.2 xs (subst (λ q. AllDone done q xs) s.1 all) steps.0 steps.1 history tree t
+      by (Some split) e s t = split_told split e ds s xs all steps.0 steps.1 history tree t

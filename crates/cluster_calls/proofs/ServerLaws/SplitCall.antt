@@ -1,0 +1,113 @@
+-- A split call is as good as its command on one server.
+use Rattle.std.proofs.Common.{◌≡◌, ℕ, Bool, ◌==◌, nat_eq, List, [], ◌∷◌, map, filter, Some, refl, sym, ap, ◌∙◌, subst, append-nil, MatchOption, Contains, eqb-true}
+use Rattle.std.specs.List.{AllByRecursion}
+use Rattle.resp_core.specs.Trees.{Tree}
+use Rattle.cluster_routing.specs.Lists.{concat, among, IsDistinct, Pairwise, draw}
+use Rattle.cluster_routing.specs.Parts.{Tuple, tuple_slot}
+use Rattle.cluster_routing.specs.Split.{Split, split_of, part_tuples, sub, join_split}
+use Rattle.cluster_calls.specs.Calls.Replies.{slot_by, args_slot, exchange_slot}
+use Rattle.cluster_calls.specs.OneServer.Keyspace.{Keyspace, Step, History, on_slot}
+use Rattle.cluster_calls.specs.OneServer.Meaning.{Meaning, DoesTuple, IsWholeStep, AreAllowed, DoCommand, OneServer, tree_of_steps, results}
+use Rattle.cluster_calls.specs.Links.Log.{Exchange}
+use Rattle.cluster_calls.specs.Calls.Plan.{Dispatch}
+use Rattle.cluster_calls.specs.OneServer.Honest.{IsDoneBy}
+use Rattle.cluster_calls.specs.OneServer.Commands.{split_with}
+use Rattle.cluster_calls.proofs.ServerLaws.Recut.{split_of_some}
+use Rattle.cluster_calls.proofs.ServerLaws.Histories.{history_same_slots}
+use Rattle.cluster_calls.proofs.ServerLaws.Splits.{DoesAllowed, pairwise-zip, pairwise-left, filter-head, in_argument_order}
+
+-- the dispatch sends a part of the split command
+pub record IsDispatchOf (split : Split) (d : Dispatch) : Type 0 where
+  pub args : d.args ≡ sub split (args_slot d.args)
+  pub some : (t : Tuple) × (ts : List Tuple) × (part_tuples (args_slot d.args) split.tuples ≡ t ∷ ts)
+
+-- a command with these tuples of the split one
+abbrev with_tuples_of : Split → List Tuple → Split
+with_tuples_of split us = record { word = split.word; splitting = split.splitting; tuples = us; shared = split.shared }
+
+module _ (meaning : Meaning) (args : List (List ℕ)) (split : Split) (is_split : split_of args ≡ Some split) where
+  reparsed : (d : Dispatch) → (w : IsDispatchOf split d) → (x : Exchange) → x.request.args ≡ d.args → split_of x.request.args ≡ Some (with_tuples_of split (w.some.0 ∷ w.some.1))
+  reparsed d w x e =
+      ap split_of (e ∙ w.args ∙ ap (λ us. join_split split.word split.shared us) w.some.2)
+      ∙ split_of_some args split is_split (λ t. (args_slot d.args) == tuple_slot t) w.some.0 w.some.1 w.some.2
+
+  -- what a counted request of a part did
+  pub record PartDone (d : Dispatch) (x : Exchange) (st : List Step) (tree : Tree) : Type 0 where
+    pub steps : Pairwise (DoesAllowed meaning split.splitting.policy split.word split.shared) (part_tuples (args_slot d.args) split.tuples) st
+    pub tree_is : tree ≡ tree_of_steps (split.splitting.policy) (results st)
+    pub slot_is : exchange_slot x ≡ (args_slot d.args)
+
+  pub part_done : (d : Dispatch) → IsDispatchOf split d → (x : Exchange) → x.request.args ≡ d.args → (st : List Step) → (h : IsDoneBy meaning x st) → PartDone d x st h.tree
+  part_done d w x e st h =
+      let p = reparsed d w x e in
+      let does = subst (λ o. MatchOption o ((s : Step) × (st ≡ s ∷ []) × IsWholeStep x.request.args s h.tree) (λ sp. Pairwise (DoesTuple sp.splitting.policy sp.word sp.shared) sp.tuples st × (h.tree ≡ tree_of_steps (sp.splitting.policy) (results st)))) p h.done in
+      record {
+        steps = subst (λ us. Pairwise (DoesAllowed meaning split.splitting.policy split.word split.shared) us st) (sym w.some.2)
+            (pairwise-zip (DoesTuple split.splitting.policy split.word split.shared) (Contains meaning) (w.some.0 ∷ w.some.1) st does.0 h.allowed);
+        tree_is = does.1;
+        slot_is = ap (slot_by x.request.args) p ∙ sym (eqb-true (args_slot d.args) (tuple_slot w.some.0) (filter-head (λ t. (args_slot d.args) == tuple_slot t) split.tuples w.some.0 w.some.1 w.some.2));
+      }
+
+  -- the parts that count, with their steps
+  pub record PartsDone (ds : List Dispatch) (xs : List Exchange) (sts : List (List Step)) : Type 0 where
+    pub steps : Pairwise (λ k st. Pairwise (DoesAllowed meaning split.splitting.policy split.word split.shared) (part_tuples k split.tuples) st) (map (λ (d : Dispatch). (args_slot d.args)) ds) sts
+    pub slots : map exchange_slot xs ≡ map (λ (d : Dispatch). (args_slot d.args)) ds
+
+  pub parts_done_steps : (ds : List Dispatch) → AllByRecursion (IsDispatchOf split) ds → (xs : List Exchange) → Pairwise (λ (d : Dispatch) (x : Exchange). x.request.args ≡ d.args) ds xs
+      → (sts : List (List Step)) → Pairwise (IsDoneBy meaning) xs sts → PartsDone ds xs sts
+  parts_done_steps [] w [] p [] h = record { steps = tt; slots = refl }
+  parts_done_steps [] w [] p (st ∷ sts) h = absurd h
+  parts_done_steps [] w (x ∷ xs) p sts h = absurd p
+  parts_done_steps (d ∷ ds) w [] p sts h = absurd p
+  parts_done_steps (d ∷ ds) w (x ∷ xs) p [] h = absurd h
+  parts_done_steps (d ∷ ds) w (x ∷ xs) p (st ∷ sts) h =
+      let here = part_done d w.0 x p.0 st h.0 in
+      let r = parts_done_steps ds w.1 xs p.1 sts h.1 in
+      record { steps = (here.steps, r.steps); slots = ap (λ n. n ∷ map exchange_slot xs) here.slot_is ∙ ap (λ ns. (args_slot d.args) ∷ ns) r.slots }
+
+  -- the counted parts on one server: the same word with their tuples in argument order
+  pub record Regrouped (keys keys' : Keyspace) (us : List Tuple) (sts : List (List Step)) : Type 0 where
+    pub steps : List Step
+    pub does : Pairwise (DoesTuple split.splitting.policy split.word split.shared) us steps
+    pub allowed : AreAllowed meaning steps
+    pub history : History keys steps keys'
+    pub drawn_from : steps ≡ draw (map tuple_slot us) (λ s. on_slot s (concat sts))
+    pub same : (s : ℕ) → on_slot s steps ≡ on_slot s (concat sts)
+
+  pub regrouped : (keys keys' : Keyspace) (ds : List Dispatch) (xs : List Exchange) (sts : List (List Step)) → IsDistinct nat_eq (map (λ (d : Dispatch). (args_slot d.args)) ds) → PartsDone ds xs sts → History keys (concat sts) keys'
+      → Regrouped keys keys' (filter (λ t. among nat_eq (tuple_slot t) (map exchange_slot xs)) split.tuples) sts
+  regrouped keys keys' ds xs sts distinct h c =
+      subst (λ slots. Regrouped keys keys' (filter (λ t. among nat_eq (tuple_slot t) slots) split.tuples) sts) (sym h.slots)
+      (let slots = map (λ (d : Dispatch). (args_slot d.args)) ds in
+      let r = in_argument_order meaning split.splitting.policy split.word split.shared split.tuples slots sts distinct h.steps in
+      let us = filter (λ t. among nat_eq (tuple_slot t) slots) split.tuples in
+      let steps = draw (map tuple_slot us) (λ s. on_slot s (concat sts)) in
+      let both = pairwise-left (DoesTuple split.splitting.policy split.word split.shared) (Contains meaning) us steps r.0 in
+      record {
+        steps = steps;
+        does = both.0;
+        allowed = both.1;
+        drawn_from = refl;
+        same = r.1;
+        history = history_same_slots (concat sts) steps keys keys' (λ s. sym (r.1 s)) c;
+      })
+
+  -- a split command with some of the tuples, done by these steps
+  does_some : (us : List Tuple) (q : Tuple → Bool) (t : Tuple) (ts : List Tuple) → filter q split.tuples ≡ t ∷ ts → (steps : List Step) → Pairwise (DoesTuple split.splitting.policy split.word split.shared) (t ∷ ts) steps
+      → DoCommand (join_split split.word split.shared (t ∷ ts)) steps (tree_of_steps (split.splitting.policy) (results steps))
+  does_some us q t ts e steps h =
+      let args' = join_split split.word split.shared (t ∷ ts) in
+      let tree = tree_of_steps (split.splitting.policy) (results steps) in
+      subst (λ o. MatchOption o ((s : Step) × (steps ≡ s ∷ []) × IsWholeStep args' s tree) (λ sp. Pairwise (DoesTuple sp.splitting.policy sp.word sp.shared) sp.tuples steps × (tree ≡ tree_of_steps (sp.splitting.policy) (results steps))))
+      (sym (split_of_some args split is_split q t ts e)) (h, refl)
+
+  pub kept_served : (keys keys' : Keyspace) (q : Tuple → Bool) (sts : List (List Step)) → Regrouped keys keys' (filter q split.tuples) sts
+      → (trees_of : List Tree) × OneServer meaning keys (split_with split (filter q split.tuples)) trees_of keys'
+  kept_served keys keys' q sts r = by (filter q split.tuples) refl r
+    where
+      by : (us : List Tuple) → filter q split.tuples ≡ us → Regrouped keys keys' us sts → (trees_of : List Tree) × OneServer meaning keys (split_with split us) trees_of keys'
+      by [] e r = ([], ([], tt, subst (λ s. History keys s keys') r.drawn_from r.history))
+      by (t ∷ ts) e r = (
+        tree_of_steps (split.splitting.policy) (results r.steps) ∷ [],
+        (r.steps ∷ [], ((does_some (t ∷ ts) q t ts e r.steps r.does, r.allowed), tt), subst (λ s. History keys s keys') (sym (append-nil r.steps)) r.history),
+      )

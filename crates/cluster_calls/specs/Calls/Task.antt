@@ -1,0 +1,91 @@
+-- What a call comes down to: a command part by part, a pipeline, a command to several nodes, or a request for the slot map.
+use Rattle.std.specs.Prelude.{ℕ, Bool, false, not, ◌||◌, ◌==◌, nat_eq, nat_lt, if◌then◌else◌, List, [], ◌∷◌, map, length, Option, Some, None, codes}
+use Rattle.resp_core.specs.Errors.{Refusal, by_cause}
+use Rattle.resp_core.specs.declared.errors.redis_error.Cause.{Cause}
+use Rattle.resp_core.specs.declared.errors.redis_error.Cause.TheVariants.{NoKeys, SeveralSlots, BadGroupName, ClaimsIdsAlone}
+use Rattle.resp_args.specs.Command.{Command}
+use Rattle.cluster_routing.specs.Address.{Address}
+use Rattle.cluster_routing.specs.Command.{is_one_of}
+use Rattle.cluster_routing.specs.HashSlot.{hash_slot}
+use Rattle.cluster_routing.specs.Lists.{firsts}
+use Rattle.stream_commands.specs.Settings.{GroupNames, ReadSettings}
+use Rattle.stream_commands.specs.Commands as commands
+use Rattle.stream_commands.specs.Commands.{plain_command}
+use Rattle.cluster_calls.specs.Calls.Call.{Entry, Stream, StreamCall, Xadd, Xtrim, Xread, Xrange, Xclaim, Xautoclaim, Xpending, XinfoStream, XinfoGroups, XinfoConsumers, XdelEx, Call, Refresh, Query, Ordered, Pipeline, FanOut, OnStreams}
+
+-- ---- sentences of calls on streams
+
+abbrev pub stream_keys : List Stream → List (List ℕ)
+stream_keys streams = map (λ (s : Stream). s.key) streams
+
+abbrev pub stream_ids : List Stream → List (List ℕ)
+stream_ids streams = map (λ (s : Stream). s.id) streams
+
+-- the arguments that a call on streams is sent as
+abbrev pub sentence : StreamCall → List (List ℕ)
+sentence (Xadd key options id fields) = commands.xadd key options id fields
+sentence (Xtrim key options) = commands.xtrim key options
+sentence (Xread streams options) = commands.xread options (stream_keys streams) (stream_ids streams)
+sentence (Xrange key start end) = commands.xrange key start end
+sentence (Xclaim c ids options) = commands.xclaim c.key c.group c.consumer c.min_idle ids options
+sentence (Xautoclaim c start options) = commands.xautoclaim c.key c.group c.consumer c.min_idle start options
+sentence (Xpending key group) = commands.xpending key group
+sentence (XinfoStream key) = commands.xinfo_stream key
+sentence (XinfoGroups key) = commands.xinfo_groups key
+sentence (XinfoConsumers key group) = commands.xinfo_consumers key group
+sentence (XdelEx key ids policy) = commands.xdelex key policy ids
+
+-- ---- the checks of calls on streams, before all others
+
+abbrev pub refuse_if : Bool → Cause → Option Refusal
+refuse_if unmet cause = if unmet then Some (by_cause cause) else None
+
+abbrev pub first_refusal : List (Option Refusal) → Option Refusal
+first_refusal [] = None
+first_refusal (Some refusal ∷ checks) = Some refusal
+first_refusal (None ∷ checks) = first_refusal checks
+
+abbrev pub are_of_one_slot : List (List ℕ) → Bool
+are_of_one_slot keys = nat_lt (length (firsts nat_eq (map hash_slot keys))) 2
+
+-- the name of a group or of a consumer is one argument, and not the word behind which the keys stand
+abbrev pub is_name : List (List ℕ) → Bool
+is_name (name ∷ []) = not (is_one_of (codes "STREAMS" ∷ []) name)
+is_name _ = false
+
+abbrev pub has_bad_names : Option GroupNames → Bool
+has_bad_names None = false
+has_bad_names (Some names) = not (is_name names.group) || not (is_name names.consumer)
+
+abbrev pub read_refusal : List (List ℕ) → ReadSettings → Option Refusal
+read_refusal keys options = first_refusal (
+    refuse_if (length keys == 0) NoKeys
+    ∷ refuse_if (not (are_of_one_slot keys)) SeveralSlots
+    ∷ refuse_if (has_bad_names options.group) BadGroupName
+    ∷ [])
+
+abbrev pub stream_refusal : StreamCall → Option Refusal
+stream_refusal (Xclaim claimant ids options) = refuse_if options.justid ClaimsIdsAlone
+stream_refusal (Xread streams options) = read_refusal (stream_keys streams) options
+stream_refusal _ = None
+
+abbrev pub early_refusal : Call → Option Refusal
+early_refusal (OnStreams call) = stream_refusal call
+early_refusal _ = None
+
+-- ---- tasks
+
+pub data Task : Type 0 where
+  slot_map_of : (node : Address) → Task
+  -- in parts, sent in an order of their numbers, or as they first appear
+  one_command : (command : Command) → (number : ℕ) → (order : Option (List ℕ)) → Task
+  pipeline_of : (entries : List Entry) → Task
+  several_nodes : (command : Command) → Task
+
+abbrev pub task_of : Call → Task
+task_of (Refresh node) = slot_map_of node
+task_of (Query command number) = one_command command number None
+task_of (Ordered command order number) = one_command command number (Some order)
+task_of (Pipeline entries) = pipeline_of entries
+task_of (FanOut command) = several_nodes command
+task_of (OnStreams call) = one_command (plain_command (sentence call)) 0 None

@@ -1,0 +1,4 @@
+pub mod Links
+pub mod Calls
+pub mod OneServer
+pub mod WholeCalls

@@ -1,0 +1,33 @@
+-- A call whose one reply is read as a type: the call, and the conversion of its reply.
+use Rattle.std.specs.Prelude.{◌≡◌, Option, Some, None, Result, Ok, Err}
+use Rattle.resp_core.specs.Trees.{Tree}
+use Rattle.resp_core.specs.Errors.{Refusal}
+use Rattle.cluster_routing.specs.Choice.{Strategy}
+use Rattle.cluster_routing.specs.Policies.{bad_reply}
+use Rattle.cluster_calls.specs.Links.World.{World}
+use Rattle.cluster_calls.specs.Calls.Call.{Call}
+use Rattle.cluster_calls.specs.Calls.Answer.{Answer, Refreshed, Value}
+use Rattle.cluster_calls.specs.Links.Happened.{CallMade}
+
+-- a reply, or why there is none, as an answer
+abbrev pub value_answer : Result Tree Refusal → Result Answer Refusal
+value_answer (Ok tree) = Ok (Value tree)
+value_answer (Err refusal) = Err refusal
+
+-- that a refresh was accepted, or why it was not, as an answer
+abbrev pub refresh_answer : {A : Type 0} → Result A Refusal → Result Answer Refusal
+refresh_answer (Ok a) = Ok Refreshed
+refresh_answer (Err refusal) = Err refusal
+
+-- the result is the reply's conversion, refused where it has none; a refused call's refusal stays
+abbrev pub ConvertsTo : {T M : Type 0} → (T → M) → (Tree → Option M) → Result Tree Refusal → Result T Refusal → Type 0
+ConvertsTo meaning convert (Ok tree) (Ok value) = convert tree ≡ Some (meaning value)
+ConvertsTo meaning convert (Ok tree) (Err refusal) = (convert tree ≡ None) × (refusal ≡ bad_reply)
+ConvertsTo meaning convert (Err refusal) (Ok value) = ⊥
+ConvertsTo meaning convert (Err refusal) (Err refusal') = refusal' ≡ refusal
+
+-- the call was made for some reply or refusal, and the result is its conversion
+pub record ValueMade {T M : Type 0} (strategy : Option Strategy) (old new : World) (call : Call) (meaning : T → M) (convert : Tree → Option M) (result : Result T Refusal) : Type 0 where
+  pub reply : Result Tree Refusal
+  pub made : CallMade strategy old new call (value_answer reply)
+  pub converted : ConvertsTo meaning convert reply result

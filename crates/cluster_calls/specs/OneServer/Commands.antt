@@ -1,0 +1,90 @@
+-- The commands of a call, unsplit, and what of them counts where the call is refused.
+use Rattle.std.specs.Prelude.{nat_lt, ◌^◌, unwrap_or, ◌≡◌, ℕ, nat_eq, ⊤, Bool, true, false, not, List, [], ◌∷◌, map, filter, Option, Some, None, Result, Ok, Err}
+use Rattle.std.specs.List.{list_all}
+use Rattle.resp_core.specs.Trees.{Tree}
+use Rattle.resp_core.specs.Errors.{Refusal}
+use Rattle.resp_args.specs.Command.{Command}
+use Rattle.resp_args.specs.Packed.{sent}
+use Rattle.cluster_routing.specs.Lists.{among}
+use Rattle.cluster_routing.specs.Parts.{Tuple, tuple_slot}
+use Rattle.cluster_routing.specs.Routing.{Destination, to_any_node, destination}
+use Rattle.cluster_routing.specs.Split.{Split, split_of, join_split}
+use Rattle.cluster_routing.specs.Combine.{array_of}
+use Rattle.cluster_calls.specs.Links.Log.{Exchange}
+use Rattle.cluster_calls.specs.Calls.Call.{Entry, Call}
+use Rattle.cluster_calls.specs.Calls.Task.{Task, slot_map_of, one_command, pipeline_of, several_nodes, task_of}
+use Rattle.cluster_calls.specs.Calls.Replies.{exchange_slot, in_pipeline_order, not_ignored}
+use Rattle.cluster_calls.specs.Calls.Answer.{Answer, Value, Refreshed, answer_in}
+use Rattle.cluster_calls.specs.OneServer.Honest.{is_counted}
+
+-- the calls whose keyspace is spoken of: not those to several nodes, nor commands that any node may serve
+abbrev pub is_any_node : Option Destination → Bool
+is_any_node (Some to_any_node) = true
+is_any_node _ = false
+
+-- the number for a command's gaps has 64 bits, as every number that a client is given
+abbrev pub has_small_cursor : Command → Bool
+has_small_cursor command = nat_lt (unwrap_or command.cursor 0) (2 ^ 64)
+
+abbrev pub is_task_on_slots : Task → Bool
+is_task_on_slots (one_command command number order) = not (is_any_node (destination command.args []))
+is_task_on_slots (several_nodes command) = false
+is_task_on_slots (pipeline_of entries) = list_all (λ (e : Entry). has_small_cursor e.command) entries
+is_task_on_slots (slot_map_of node) = true
+
+abbrev pub is_on_slots : Call → Bool
+is_on_slots call = is_task_on_slots (task_of call)
+
+-- ---- commands
+
+abbrev pub task_commands : Task → List (List (List ℕ))
+task_commands (one_command command number order) = sent command ∷ []
+task_commands (pipeline_of entries) = map (λ (e : Entry). sent e.command) entries
+task_commands _ = []
+
+abbrev pub commands : Call → List (List (List ℕ))
+commands call = task_commands (task_of call)
+
+-- a split command with these tuples, and nothing where there are none
+abbrev pub split_with : Split → List Tuple → List (List (List ℕ))
+split_with s [] = []
+split_with s (t ∷ ts) = join_split s.word s.shared (t ∷ ts) ∷ []
+
+abbrev pub with_slots : Split → List ℕ → List (List (List ℕ))
+with_slots s slots = split_with s (filter (λ t. among nat_eq (tuple_slot t) slots) s.tuples)
+
+-- of a command what the counted requests did
+abbrev pub kept_by : List (List ℕ) → Option Split → List Exchange → List (List (List ℕ))
+kept_by args (Some s) counted = with_slots s (map exchange_slot counted)
+kept_by args None [] = []
+kept_by args None (x ∷ xs) = args ∷ []
+
+abbrev pub kept_of : List (List ℕ) → List Exchange → List (List (List ℕ))
+kept_of args counted = kept_by args (split_of args) counted
+
+-- what counts of a refused call
+abbrev pub task_kept : (ℕ → Bool) → Task → List Exchange → List (List (List ℕ))
+task_kept done (one_command command number order) xs = kept_of (sent command) (filter (is_counted done) xs)
+task_kept done (pipeline_of entries) xs = map (λ (x : Exchange). x.request.args) (filter (is_counted done) (in_pipeline_order entries xs))
+task_kept done _ xs = []
+
+abbrev pub kept : (ℕ → Bool) → Call → List Exchange → List (List (List ℕ))
+kept done call xs = task_kept done (task_of call) xs
+
+-- the commands that count: all of an answered call, and what is kept of a refused one
+abbrev pub counting : (ℕ → Bool) → Call → Result Answer Refusal → List Exchange → List (List (List ℕ))
+counting done call (Ok answer) xs = commands call
+counting done call (Err refusal) xs = kept done call xs
+
+-- ---- answers
+
+-- the answer is what the trees of the call's commands say
+abbrev pub IsTaskAnswer : Call → Task → Answer → List Tree → Type 0
+IsTaskAnswer call (slot_map_of node) answer trees = (answer ≡ Refreshed) × (trees ≡ [])
+IsTaskAnswer call (one_command command number order) answer trees = (tree : Tree) × (trees ≡ tree ∷ []) × (answer_in call tree ≡ Some answer)
+IsTaskAnswer call (pipeline_of entries) answer trees = answer ≡ Value (array_of (not_ignored entries trees))
+IsTaskAnswer call (several_nodes command) answer trees = ⊥
+
+abbrev pub IsAnswerBy : Call → Result Answer Refusal → List Tree → Type 0
+IsAnswerBy call (Ok answer) trees = IsTaskAnswer call (task_of call) answer trees
+IsAnswerBy call (Err refusal) trees = ⊤

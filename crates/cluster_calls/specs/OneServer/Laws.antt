@@ -1,0 +1,120 @@
+-- Laws of calls and runs, each as one statement over the definitions.
+use Rattle.std.specs.Prelude.{◌≡◌, ◌↔◌, ◌≤◌, ◌*◌, ℕ, suc, Bool, true, false, not, nat_eq, ⊤, List, [], ◌∷◌, map, filter, length, Contains, Option, Some, None, Ok, MatchBool}
+use Rattle.std.specs.List.{AllByRecursion}
+use Rattle.resp_core.specs.Trees.{Tree}
+use Rattle.resp_args.specs.Command.{Command}
+use Rattle.resp_args.specs.Packed.{sent}
+use Rattle.resp_args.specs.declared.cmd.Arg.TheVariants.{Simple}
+use Rattle.cluster_routing.specs.Address.{Address, same_address}
+use Rattle.cluster_routing.specs.Choice.{Strategy}
+use Rattle.cluster_routing.specs.Laws.{AddressesAscend}
+use Rattle.cluster_routing.specs.Lists.{among, IsDistinct, group_by_group}
+use Rattle.cluster_routing.specs.Routing.{to_route, destination}
+use Rattle.cluster_routing.specs.declared.route.Route.{Route}
+use Rattle.cluster_calls.specs.Links.Reply.{Sort, Moved, Ask, sort_of}
+use Rattle.cluster_calls.specs.Links.Log.{Exchange, is_answered}
+use Rattle.cluster_calls.specs.Calls.Call.{Call}
+use Rattle.cluster_calls.specs.Calls.Task.{Task, slot_map_of, one_command, pipeline_of, several_nodes, task_of}
+use Rattle.cluster_calls.specs.Calls.Plan.{Client, Dispatch, plan}
+use Rattle.cluster_calls.specs.Calls.Legal.{IsLegalCall}
+use Rattle.cluster_calls.specs.Links.Faults.{LinkFault}
+use Rattle.cluster_calls.specs.Calls.Refusals.{sent_refusal}
+use Rattle.cluster_calls.specs.Calls.Answer.{Answer}
+use Rattle.cluster_calls.specs.OneServer.Keyspace.{Keyspace, Step, History, Leads, on_slot}
+use Rattle.cluster_calls.specs.OneServer.Meaning.{Meaning, OneServer}
+use Rattle.cluster_calls.specs.OneServer.Honest.{HonestRun}
+use Rattle.cluster_calls.specs.OneServer.Commands.{has_small_cursor}
+use Rattle.cluster_calls.specs.OneServer.Headline.{RepliedCall, IsPlayedFrom, command_logs, AreOnSlots}
+
+-- ---- how many requests a call makes
+
+abbrev pub request_bound : ℕ → ℕ → Task → ℕ
+request_bound budget parts (slot_map_of node) = 1
+request_bound budget parts (one_command command number order) = parts * suc budget
+request_bound budget parts (pipeline_of entries) = length entries
+request_bound budget parts (several_nodes command) = parts
+
+-- a part has at most one request more than the budget
+abbrev pub RequestsAreBounded : Type 0
+RequestsAreBounded = (client : Client) (picks : List Address) (call : Call) (ds : List Dispatch) (xs : List Exchange)
+    → plan client picks call ≡ Ok ds → IsLegalCall client picks call xs → length xs ≤ request_bound client.settings.budget (length ds) (task_of call)
+
+-- a command to several nodes goes to each of them once, ascending
+abbrev pub NodesOnceAscending : Type 0
+NodesOnceAscending = (client : Client) (picks : List Address) (call : Call) (command : Command) (xs : List Exchange)
+    → task_of call ≡ several_nodes command → IsLegalCall client picks call xs → AddressesAscend (map (λ (x : Exchange). x.request.node) xs)
+
+-- ---- what is sent again
+
+abbrev pub is_redirect_sort : Sort → Bool
+is_redirect_sort (Moved e) = true
+is_redirect_sort (Ask e) = true
+is_redirect_sort _ = false
+
+abbrev pub is_redirect_reply : Option Tree → Bool
+is_redirect_reply None = false
+is_redirect_reply (Some tree) = is_redirect_sort (sort_of tree)
+
+abbrev pub is_redirected : Exchange → Bool
+is_redirected x = is_redirect_reply x.reply
+
+-- behind an answered request stands the next part's, behind any other the same again, and that one was redirected
+abbrev pub AreRepeatsRedirected : List Exchange → Type 0
+AreRepeatsRedirected [] = ⊤
+AreRepeatsRedirected (x ∷ []) = ⊤
+AreRepeatsRedirected (x ∷ y ∷ xs) =
+    MatchBool (is_answered x) ⊤ ((is_redirected x ≡ true) × (y.request.args ≡ x.request.args)) × AreRepeatsRedirected (y ∷ xs)
+
+abbrev pub OnlyRedirectsRepeat : Type 0
+OnlyRedirectsRepeat = (client : Client) (picks : List Address) (call : Call) (command : Command) (number : ℕ) (order : Option (List ℕ)) (xs : List Exchange)
+    → task_of call ≡ one_command command number order → IsLegalCall client picks call xs → AreRepeatsRedirected xs
+
+-- of a command that was answered each part has one request whose reply is no redirect, in the order of sending
+abbrev pub EachPartIsAnsweredOnce : Type 0
+EachPartIsAnsweredOnce = (client : Client) (picks : List Address) (faults : Address → LinkFault) (call : Call) (command : Command) (number : ℕ) (order : Option (List ℕ)) (ds : List Dispatch) (xs : List Exchange)
+    → task_of call ≡ one_command command number order → plan client picks call ≡ Ok ds → IsLegalCall client picks call xs → sent_refusal client faults (task_of call) xs ≡ None
+    → map (λ (x : Exchange). x.request.args) (filter (λ x. not (is_redirected x)) xs) ≡ map (λ (d : Dispatch). d.args) ds
+
+-- a command with a gap routes as the arguments that it is sent as, wherever it routes to a slot; the number for its gaps has 64 bits
+abbrev pub GapsNameNoKey : Type 0
+GapsNameNoKey = (command : Command) (read_only : List (List ℕ)) (route : Route) → has_small_cursor command ≡ true
+    → destination command.args read_only ≡ Some (to_route route) → destination (map (λ bytes. Simple bytes) (sent command)) read_only ≡ Some (to_route route)
+
+-- ---- histories of steps
+
+-- a list is a history exactly if each slot's steps, in order, lead from its first cell to its last
+abbrev pub HistoriesAreBySlot : Type 0
+HistoriesAreBySlot = (keys keys' : Keyspace) (steps : List Step) → History keys steps keys' ↔ ((slot : ℕ) → Leads (keys slot) (on_slot slot steps) (keys' slot))
+
+-- sent part by part, each part one slot, in any order of the parts, steps are a history exactly as in argument order
+abbrev pub PartsKeepHistories : Type 0
+PartsKeepHistories = (parts : List ℕ) (keys keys' : Keyspace) (steps : List Step) → IsDistinct nat_eq parts → AllByRecursion (λ (x : Step). among nat_eq x.slot parts ≡ true) steps
+    → History keys (group_by_group nat_eq (λ (x : Step). x.slot) parts steps) keys' ↔ History keys steps keys'
+
+-- sent node by node, each slot at one node, steps are a history exactly as in pipeline order
+abbrev pub NodesKeepHistories : Type 0
+NodesKeepHistories = (node_of : ℕ → Address) (nodes : List Address) (keys keys' : Keyspace) (steps : List Step) → IsDistinct same_address nodes → AllByRecursion (λ (x : Step). among same_address (node_of x.slot) nodes ≡ true) steps
+    → History keys (group_by_group same_address (λ (x : Step). node_of x.slot) nodes steps) keys' ↔ History keys steps keys'
+
+-- ---- one outcome
+
+-- a meaning without clock and chance: a deed at a cell has at most one step
+abbrev pub IsDeterministic : Meaning → Type 0
+IsDeterministic meaning = (x y : Step) → Contains meaning x → Contains meaning y → x.deed ≡ y.deed → x.before ≡ y.before → x ≡ y
+
+-- given the same commands, one server answers the same trees and leaves the same keyspace
+abbrev pub OneServerIsDetermined : Type 0
+OneServerIsDetermined = (meaning : Meaning) (keys left right : Keyspace) (commands : List (List (List ℕ))) (ts us : List Tree) → IsDeterministic meaning
+    → OneServer meaning keys commands ts left → OneServer meaning keys commands us right → (ts ≡ us) × ((slot : ℕ) → left slot ≡ right slot)
+
+abbrev pub IsAnswered : RepliedCall → Type 0
+IsAnswered t = (answer : Answer) × (t.answer ≡ Ok answer)
+
+-- two runs of the same calls, all answered, get the same answers and leave the same keyspace, whatever maps, orders of nodes and picks
+abbrev pub RunsAgree : Type 0
+RunsAgree = (strategy strategy' : Option Strategy) (client client' : Client) (faults faults' : Address → LinkFault) (ts us : List RepliedCall)
+    (meaning : Meaning) (keys left right : Keyspace) (done done' : ℕ → Bool) → IsDeterministic meaning
+    → map (λ (t : RepliedCall). t.call) ts ≡ map (λ (t : RepliedCall). t.call) us → AreOnSlots ts → AllByRecursion IsAnswered ts → AllByRecursion IsAnswered us
+    → IsPlayedFrom strategy client faults ts → IsPlayedFrom strategy' client' faults' us
+    → HonestRun meaning keys done (command_logs ts) left → HonestRun meaning keys done' (command_logs us) right
+    → (map (λ (t : RepliedCall). t.answer) ts ≡ map (λ (t : RepliedCall). t.answer) us) × ((slot : ℕ) → left slot ≡ right slot)

@@ -1,0 +1,117 @@
+//! Laws of every call of a cluster client, over plain data.
+ghost use Rattle.cluster_routing.specs.CombineLaws.{OrderOfParts, OrderOfReplies, PartsAreRouted, SubsRouteToTheirSlot};
+ghost use Rattle.cluster_calls.specs.Links.Leaves.{UnaskedNodesStay};
+ghost use Rattle.cluster_calls.specs.OneServer.Headline.{AnswersAndKeyspace, Refusals};
+ghost use Rattle.cluster_calls.specs.OneServer.Laws.{HistoriesAreBySlot, EachPartIsAnsweredOnce, GapsNameNoKey, NodesKeepHistories, NodesOnceAscending, OneServerIsDetermined, OnlyRedirectsRepeat, PartsKeepHistories, RequestsAreBounded, RunsAgree};
+ghost use Rattle.cluster_calls.specs.OneServer.OneCall.{OneCallAsOnOneServer, RepliesDetermineLogs};
+ghost use Rattle.cluster_calls.specs.OneServer.Played.{PlayedAsOnOneServer};
+ghost use Rattle.cluster_calls.specs.OneServer.Respelling.{RespelledRuns};
+
+/// A call leaves the links of all nodes that its log does not name, also where memory is refused.
+pub fn unasked_nodes_stay()
+    ensures { UnaskedNodesStay }
+{}
+
+/// A list of steps is a history exactly if it is one at each slot.
+pub fn histories_are_by_slot()
+    ensures { HistoriesAreBySlot }
+{}
+
+/// Parts may be sent in any order.
+pub fn parts_keep_histories()
+    ensures { PartsKeepHistories }
+{}
+
+/// A pipeline may be sent node by node.
+pub fn nodes_keep_histories()
+    ensures { NodesKeepHistories }
+{}
+
+/// Any list of keyed, split, stream and pipeline calls and refreshes, played over honest nodes, gets
+/// the answers and leaves the keyspace of one server that is given the commands one after another.
+pub fn answers_and_keyspace()
+    ensures { AnswersAndKeyspace }
+{}
+
+/// What `refresh` and `query` ensure makes each of their calls, played over honest nodes, as good as
+/// its command on one server.
+pub fn one_call_as_on_one_server()
+    ensures { OneCallAsOnOneServer }
+{}
+
+/// What `play` ensures makes its calls, played over honest nodes, as good as their commands on one
+/// server that is given them unsplit, one after another: the answers are that server's, and so is the
+/// keyspace.
+pub fn played_as_on_one_server()
+    ensures { PlayedAsOnOneServer }
+{}
+
+/// Legal logs of a call for equal replies are equal.
+pub fn replies_determine_logs()
+    ensures { RepliesDetermineLogs }
+{}
+
+/// Each call is refused exactly where and as a written function says.
+pub fn refusals()
+    ensures { Refusals }
+{}
+
+/// With a meaning that leaves no choice, one server has one outcome.
+pub fn one_server_is_determined()
+    ensures { OneServerIsDetermined }
+{}
+
+/// Two runs of the same calls, all answered, get the same answers and leave the same keyspace.
+pub fn runs_agree()
+    ensures { RunsAgree }
+{}
+
+/// A request is sent again only after a redirect that was read for it.
+pub fn only_redirects_repeat()
+    ensures { OnlyRedirectsRepeat }
+{}
+
+/// A command with a gap goes to the slot that it names when it is sent.
+pub fn gaps_name_no_key()
+    ensures { GapsNameNoKey }
+{}
+
+/// A call makes at most so many requests.
+pub fn requests_are_bounded()
+    ensures { RequestsAreBounded }
+{}
+
+/// A command to several nodes goes to each of them once, ascending.
+pub fn nodes_once_ascending()
+    ensures { NodesOnceAscending }
+{}
+
+/// Of an answered command each part has one request whose reply is no redirect.
+pub fn each_part_is_answered_once()
+    ensures { EachPartIsAnsweredOnce }
+{}
+
+/// Replies to reads of streams that are spelled in another shape change nothing of a run.
+pub fn respelled_runs()
+    ensures { RespelledRuns }
+{}
+
+/// Sums, least numbers and maps of counts do not depend on the order of the replies.
+pub fn order_of_replies()
+    ensures { OrderOfReplies }
+{}
+
+/// The reply to a split command does not depend on the order of its parts' replies.
+pub fn order_of_parts()
+    ensures { OrderOfParts }
+{}
+
+/// A split command's parts are those of its destination.
+pub fn parts_are_routed()
+    ensures { PartsAreRouted }
+{}
+
+/// The command of a part routes to the part's slot, with the role of the whole command.
+pub fn subs_route_to_their_slot()
+    ensures { SubsRouteToTheirSlot }
+{}

@@ -1,5 +1,0 @@
-use Rattle.std.proofs.Common.{◌≡◌, map, take}
-use Rattle.cluster_client.proofs.asked.copied.Given as goal
-
-abbrev pub invariant-loop-arg : goal.invariant-loop-arg
-invariant-loop-arg l = map (λ arg. arg.items) l.copies.items ≡ map (λ arg. arg.items) (take l.arg-index l.args)

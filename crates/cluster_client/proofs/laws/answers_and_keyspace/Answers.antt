@@ -1,6 +1,0 @@
-use Rattle.cluster_client.proofs.LogLaws.Gaps.{gaps_name_no_key}
-use Rattle.cluster_client.proofs.ServerLaws.Runs.{run_served}
-use Rattle.cluster_client.proofs.laws.answers_and_keyspace.Goals as goal
-
-pub returns : goal.returns
-returns c = λ strategy client faults ts meaning keys keys' done on played honest. run_served strategy faults meaning done ts client keys keys' gaps_name_no_key on played honest

@@ -1,5 +1,0 @@
-use Rattle.cluster_client.proofs.LogLaws.Gaps as gaps
-use Rattle.cluster_client.proofs.laws.gaps_name_no_key.Goals as goal
-
-pub returns : goal.returns
-returns c = λ command read_only route small e. gaps.gaps_name_no_key command read_only route small e

@@ -1,5 +1,0 @@
-use Rattle.cluster_client.proofs.LogLaws.SentOnce as nodes
-use Rattle.cluster_client.proofs.laws.nodes_once_ascending.Goals as goal
-
-pub returns : goal.returns
-returns c = λ client picks call command xs t legal. nodes.nodes_once_ascending client picks call command xs t legal

@@ -1,5 +1,0 @@
-use Rattle.cluster_client.proofs.LogLaws.Repeats.{legal_repeats}
-use Rattle.cluster_client.proofs.laws.only_redirects_repeat.Goals as goal
-
-pub returns : goal.returns
-returns c = λ client picks call command number order xs t legal. legal_repeats client picks call command number order xs t legal

@@ -1,5 +1,0 @@
-use Rattle.cluster_client.proofs.LogLaws.Order as orders
-use Rattle.cluster_client.proofs.laws.order_of_parts.Goals as goal
-
-pub returns : goal.returns
-returns c = orders.order_of_parts

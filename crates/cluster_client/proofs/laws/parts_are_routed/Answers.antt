@@ -1,5 +1,0 @@
-use Rattle.cluster_client.proofs.LogLaws.Routed as routes
-use Rattle.cluster_client.proofs.laws.parts_are_routed.Goals as goal
-
-pub returns : goal.returns
-returns c = routes.parts_are_routed

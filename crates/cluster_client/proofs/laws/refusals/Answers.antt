@@ -1,5 +1,0 @@
-use Rattle.cluster_client.proofs.ServerLaws.Runs.{run_refused}
-use Rattle.cluster_client.proofs.laws.refusals.Goals as goal
-
-pub returns : goal.returns
-returns c = λ strategy client faults ts played. run_refused strategy faults ts client played

@@ -1,5 +1,0 @@
-use Rattle.cluster_client.proofs.LogLaws.SameLogs.{replies_determine_logs}
-use Rattle.cluster_client.proofs.laws.replies_determine_logs.Goals as goal
-
-pub returns : goal.returns
-returns c = replies_determine_logs

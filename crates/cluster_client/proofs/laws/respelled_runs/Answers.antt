@@ -1,6 +1,0 @@
-use Rattle.cluster_client.specs.Links.Log.{replies}
-use Rattle.cluster_client.proofs.LogLaws.RespelledRuns.{runs_alike}
-use Rattle.cluster_client.proofs.laws.respelled_runs.Goals as goal
-
-pub returns : goal.returns
-returns c = λ strategy strategy' client faults faults' taken taken' ts us calls picks left right said. runs_alike strategy strategy' client faults faults' (replies taken) (replies taken') 0 ts us calls picks left right said

@@ -1,5 +1,0 @@
-use Rattle.cluster_client.proofs.LogLaws.Routed as routes
-use Rattle.cluster_client.proofs.laws.subs_route_to_their_slot.Goals as goal
-
-pub returns : goal.returns
-returns c = routes.subs_route_to_their_slot

@@ -1,5 +1,0 @@
-use Rattle.cluster_client.proofs.LinkLaws.LinkCalls.{leaves}
-use Rattle.cluster_client.proofs.laws.unasked_nodes_stay.Goals as goal
-
-pub returns : goal.returns
-returns c = leaves

@@ -1,6 +1,0 @@
-use Rattle.std.proofs.Common.{◌≡◌, drop}
-use Rattle.cluster_client.specs.Links.World.{nodes, has_repeats, addresses_of}
-use Rattle.cluster_client.proofs.links.has_repeats.Given as goal
-
-abbrev pub invariant-links : goal.invariant-links
-invariant-links g l = has_repeats (addresses_of (nodes g.L.ConnectionLike.seen l.links)) ≡ has_repeats (addresses_of (nodes g.L.ConnectionLike.seen (drop l.which l.links)))

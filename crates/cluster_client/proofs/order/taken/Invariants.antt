@@ -1,5 +1,0 @@
-use Rattle.cluster_client.proofs.LinkLaws.Ordering.{Taking}
-use Rattle.cluster_client.proofs.order.taken.Given as goal
-
-abbrev pub invariant-numbers : goal.invariant-numbers
-invariant-numbers g l = Taking l.fn.items.items l.order l.number-index l.left.items l.all.items

@@ -1,0 +1,10 @@
+pub mod GroupCalls
+pub mod Queueing
+pub mod PipeGroups
+pub mod PipeOrder
+pub mod PipeGrouping
+pub mod Dispatching
+pub mod Dispatched
+pub mod SplitCommands
+pub mod PartReplies
+pub mod OneSlot

@@ -1,0 +1,97 @@
+-- The parts of a command whose word is split by its keys, as the code finds them.
+use Rattle.std.specs.List.{list_any, zip}
+use Rattle.std.specs.Prelude.{is_some}
+use Rattle.std.proofs.Common.{◌≡◌, ℕ, true, false, List, [], ◌∷◌, map, append-nil, Option, Some, None, option_map, option_and_then, refl, sym, ap, ◌∙◌, subst, Result, Ok, Err}
+use Rattle.resp_core.specs.Errors.{by_cause}
+use Rattle.resp_core.specs.declared.errors.redis_error.Cause.TheVariants.{BrokenTuples, CursorInSplit}
+use Rattle.resp_args.specs.Command.{Command, new_command}
+use Rattle.resp_args.specs.Packed.{sent, wire}
+use Rattle.resp_args.specs.declared.cmd.Arg.TheVariants.{Simple, Cursor}
+use Rattle.cluster_routing.specs.Command.{Args, all_bytes}
+use Rattle.cluster_routing.specs.Routing.{name_of, role_of, route_to}
+use Rattle.cluster_routing.specs.Split.{Split, Splitting, PartsByPlace, splitting_of, with_tuples, shared_by, cut, split_of, has_split_word, part_slots, part_places, split_routes, split_by_place, parts_by_place, sub, sub_at, with_texts}
+use Rattle.cluster_routing.specs.declared.route.Route.{Route}
+use Rattle.cluster_routing.specs.declared.route.SlotAddr.{SlotAddr}
+use Rattle.cluster_routing.proofs.SplitWords.{split_words_are_names}
+use Rattle.cluster_routing.proofs.PartPlaces.{subs_are_at_their_places}
+use Rattle.cluster_calls.specs.Calls.Parts.{Part, is_gap, role_by, slot_part, split_parts, parts_of}
+use Rattle.cluster_steps.specs.CodeParts.{part_at}
+
+-- ---- arguments without a gap
+
+all_of : (cursor : ℕ) (args : Args) → list_any is_gap args ≡ false → all_bytes args ≡ Some (wire cursor args)
+all_of cursor [] e = refl
+all_of cursor (Simple bytes ∷ args) e = ap (option_map (λ rest. bytes ∷ rest)) (all_of cursor args e)
+all_of cursor (Cursor ∷ args) e = cc
+
+-- ---- a command of another word
+
+pub unsplit : (read_only : List (List ℕ)) (args : Args) → has_split_word args ≡ false → None ≡ parts_by_place args read_only
+unsplit read_only [] e = refl
+unsplit read_only (Cursor ∷ args) e = refl
+unsplit read_only (Simple word ∷ args) e = by (all_bytes args)
+  where
+    at : (rest : List (List ℕ)) (o : Option Splitting) → is_some o ≡ false → None ≡ option_map (split_by_place read_only) (option_and_then (λ (p : Splitting). with_tuples word p (shared_by p.pattern rest) (cut p.pattern rest)) o)
+    at rest None k = refl
+    at rest (Some p) k = cc
+
+    by : (o : Option (List (List ℕ))) → None ≡ option_map (split_by_place read_only) (option_and_then split_of (option_map (λ rest. word ∷ rest) o))
+    by None = refl
+    by (Some rest) = at rest (splitting_of word) e
+
+-- ---- the command at a route's places
+
+abbrev pub command_at : Args → Route × List ℕ → Command
+command_at args p = with_texts new_command (sub_at args p.1)
+
+texts_sent : (texts : List (List ℕ)) → sent (with_texts new_command texts) ≡ texts
+texts_sent [] = refl
+texts_sent (t ∷ texts) = ap (λ ts. t ∷ ts) (texts_sent texts)
+
+-- ---- a command that is cut
+
+module _ (read_only : List (List ℕ)) (command : Command) (g : list_any is_gap command.args ≡ false) (split : Split) (s : split_of (sent command) ≡ Some split) where
+  abbrev role : SlotAddr
+  role = role_by (name_of command.args) read_only
+
+  named : role ≡ role_of split.word read_only
+  named = ap (λ name. role_by name read_only) (split_words_are_names command.args (sent command) split (all_of _ command.args g) s)
+
+  abbrev route_at : ℕ → Route × List ℕ
+  route_at slot = (route_to (role_of split.word read_only) slot, part_places slot split.tuples)
+
+  one : (slot : ℕ) → part_at (route_at slot, command_at command.args (route_at slot)) ≡ slot_part role split slot
+  one slot = rw (named, texts_sent (sub_at command.args (part_places slot split.tuples)), subs_are_at_their_places command.args (sent command) split slot (all_of _ command.args g) s) refl
+
+  every : (slots : List ℕ) → map part_at (zip (map route_at slots) (map (command_at command.args) (map route_at slots))) ≡ map (slot_part role split) slots
+  every [] = refl
+  every (slot ∷ slots) = rw (one slot, every slots) refl
+
+-- ---- a command of a split word
+
+pub cut_bytes : (read_only : List (List ℕ)) (command : Command) → list_any is_gap command.args ≡ false → parts_by_place command.args read_only ≡ option_map (split_by_place read_only) (split_of (sent command))
+cut_bytes read_only command g = ap (λ o. option_map (split_by_place read_only) (option_and_then split_of o)) (all_of _ command.args g)
+
+module _ (read_only : List (List ℕ)) (command : Command) (response : command.no_response ≡ false) (word : has_split_word command.args ≡ true) (number : ℕ) where
+  pub gapped : list_any is_gap command.args ≡ true → parts_of read_only command number ≡ Err (by_cause CursorInSplit)
+  gapped g = rw (response, word, g) refl
+
+  cut_up : list_any is_gap command.args ≡ false → parts_of read_only command number ≡ split_parts (role_by (name_of command.args) read_only) (split_of (sent command))
+  cut_up g = rw (response, word, g) refl
+
+  pub broken : list_any is_gap command.args ≡ false → None ≡ parts_by_place command.args read_only → parts_of read_only command number ≡ Err (by_cause BrokenTuples)
+  broken g e = by (split_of (sent command)) refl (e ∙ cut_bytes read_only command g)
+    where
+      by : (o : Option Split) → split_of (sent command) ≡ o → None ≡ option_map (split_by_place read_only) o → parts_of read_only command number ≡ Err (by_cause BrokenTuples)
+      by None s k = cut_up g ∙ ap (split_parts (role_by (name_of command.args) read_only)) s
+      by (Some split) s k = cc
+
+  pub parted : list_any is_gap command.args ≡ false → (made : PartsByPlace) → Some made ≡ parts_by_place command.args read_only
+      → parts_of read_only command number ≡ Ok (map part_at (zip made.routes (map (command_at command.args) made.routes)))
+  parted g made e = by (split_of (sent command)) refl (e ∙ cut_bytes read_only command g)
+    where
+      by : (o : Option Split) → split_of (sent command) ≡ o → Some made ≡ option_map (split_by_place read_only) o → parts_of read_only command number ≡ Ok (map part_at (zip made.routes (map (command_at command.args) made.routes)))
+      by None s k = cc
+      by (Some split) s k =
+          let same : made ≡ split_by_place read_only split = cc in
+          rw same (cut_up g ∙ ap (split_parts (role_by (name_of command.args) read_only)) s ∙ ap (λ ps. Ok ps) (sym (every read_only command g split s (part_slots split.tuples))))

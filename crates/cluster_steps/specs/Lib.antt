@@ -1,0 +1,9 @@
+pub mod Links
+pub mod FirstPlaces
+pub mod CodeParts
+pub mod Dispatches
+pub mod Turns
+pub mod WholeParts
+pub mod Groups
+pub mod GroupRuns
+pub mod Queues

@@ -1,0 +1,62 @@
+//! Where all parts of a call go first, found before the first byte is sent.
+ghost use Rattle.std.specs.Prelude.{◌≡◌, ◌≢◌, [], map, IfOk, Err, option_map};
+ghost use Rattle.std.specs.List.{AllByRecursion};
+ghost use Rattle.resp_core.specs.Errors.{by_cause};
+ghost use Rattle.resp_core.specs.declared.errors.redis_error.Cause.TheVariants.{Memory};
+ghost use Rattle.cluster_routing.specs.Seen.{addresses};
+ghost use Rattle.cluster_calls.specs.Links.World.{Settings, nodes};
+ghost use Rattle.cluster_steps.specs.Dispatches.{AreDispatched, IsPlaced, client_with, dispatches_of};
+ghost use Rattle.cluster_steps.specs.FirstPlaces.{part_of};
+
+use crate::links::Links;
+use crate::place::{Place, first_place};
+use crate::route::Part;
+use cluster_routing::{NodeAddress, ReadRoutingStrategy, SlotMap, SplitParts};
+use resp_core::RedisError;
+use resp_link::ConnectionLike;
+use std::alloc::Global;
+
+/// A part's arguments, and the place that they go to first.
+#[derive(Drop)]
+pub struct Dispatch {
+    pub place: Place,
+    pub args: Vec<Vec<u8>>,
+}
+
+/// What is there of a command before its first byte: where each of its parts goes first, and how the
+/// replies to the parts of a split command become one.
+#[derive(Drop)]
+pub struct Prepared {
+    pub dispatches: Vec<Dispatch>,
+    pub split: Option<SplitParts>,
+}
+
+/// The parts with the places that they go to first, in the order given. `picked` then has what the
+/// strategy answered.
+///
+/// # Errors
+/// `NoNode` and `NoLink` of the first part that no node serves, or to whose node no usable link
+/// leads; the strategy is asked for no later part. `Memory`.
+pub fn dispatches<L: ConnectionLike>(
+    links: &Links<L>,
+    alloc: Global,
+    slots: &SlotMap,
+    parts: Vec<Part>,
+    strategy: Option<&dyn ReadRoutingStrategy>,
+    picked: &mut Vec<NodeAddress>,
+) -> Result<Vec<Dispatch>, RedisError>
+    requires { picked.old.items ≡ [] }
+    ensures dispatched { result ≢ Err (by_cause Memory) → (settings : Settings) → AreDispatched (option_map (λ s. admits s.now) strategy.entry)
+        (client_with settings slots.now (nodes L.seen links.now.nodes.items)) (map part_of parts.items) (addresses picked.new.items) (dispatches_of result) }
+    ensures placed { IfOk result (λ v. AllByRecursion (IsPlaced (nodes L.seen links.now.nodes.items)) v.items) }
+{
+    let mut all = Vec::new(alloc);
+    'parts: for part in parts {
+        let place = first_place(links, alloc, slots, &part.target, strategy, picked)?;
+        all.push(Dispatch {
+            place,
+            args: part.args,
+        })?;
+    }
+    Ok(all)
+}

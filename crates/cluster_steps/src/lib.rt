@@ -1,0 +1,17 @@
+//! The steps of a call, for a client over links: its parts are routed and placed, requests go out over
+//! a link and are written to the log, and a reply is the answer, a refusal, or leads on.
+#![tactic(auto)]
+
+pub mod asked;
+pub mod dispatch;
+pub mod drawn;
+pub mod exchange;
+pub mod grouped;
+pub mod links;
+pub mod order;
+pub mod place;
+pub mod read_checks;
+pub mod reply;
+pub mod route;
+pub mod slots;
+pub mod turn;

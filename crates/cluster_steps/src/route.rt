@@ -1,0 +1,180 @@
+//! The parts of a command, and where each of them is to go.
+ghost use Rattle.std.specs.List.{list_any, zip};
+ghost use Rattle.std.specs.Prelude.{ℕ, ◌≡◌, ◌≢◌, Err, map, option_map, true, false, IfOk};
+ghost use Rattle.resp_args.specs.Left.{shown};
+ghost use Rattle.resp_core.specs.Errors.{by_cause};
+ghost use Rattle.resp_core.specs.declared.errors.redis_error.Cause.TheVariants.{Memory};
+ghost use Rattle.resp_args.specs.Packed.{sent};
+ghost use Rattle.cluster_routing.specs.Routing.{destination};
+ghost use Rattle.cluster_routing.specs.Info.{shown_info, shown_parts, shown_split, texts};
+ghost use Rattle.cluster_routing.specs.Split.{has_split_word, parts_by_place};
+ghost use Rattle.cluster_calls.specs.Calls.Parts.{is_gap, only_part, parts_of};
+ghost use Rattle.cluster_steps.specs.CodeParts.{part_at, parts_by};
+ghost use Rattle.cluster_steps.specs.FirstPlaces.{one_part, part_of, target_by, target_of};
+
+use cluster_routing::{
+    MultiSlotArgPattern, Routable, Route, RoutingInfo, SingleNodeRoutingInfo, SplitParts,
+};
+use resp_args::{Arg, ArgsIter, Cmd};
+use resp_core::{Cause, RedisError};
+use std::alloc::{AllocError, Global};
+
+/// Where a part is to go first.
+#[derive(Drop)]
+pub enum Target {
+    /// To a node of a slot.
+    Slot(Route),
+    /// To the node with this number among all nodes, modulo their count.
+    Number(u64),
+}
+
+/// A command, or a part of one, as it stands on the wire, and where it is to go first.
+#[derive(Drop)]
+pub struct Part {
+    pub target: Target,
+    pub args: Vec<Vec<u8>>,
+}
+
+/// The parts of a command, and how the replies of a split one become one.
+#[derive(Drop)]
+pub struct Parts {
+    pub list: Vec<Part>,
+    pub split: Option<SplitParts>,
+}
+
+/// The parts of a command.
+///
+/// # Errors
+/// `NoResponse` for a command that waits for none; for one whose word is split by its keys,
+/// `CursorInSplit` where an argument is a gap, and `BrokenTuples` where its last tuple is broken or
+/// it has none; `NoRoute` for one that goes nowhere or to several nodes by the routing table;
+/// `Memory`.
+pub fn parts_of(
+    alloc: Global,
+    cmd: &Cmd,
+    read_only: &[Vec<u8>],
+    number: u64,
+) -> Result<Parts, RedisError>
+    ensures parts { result ≢ Err (by_cause Memory) → parts_by result ≡ parts_of (texts read_only.now) cmd.now number }
+    ensures split { IfOk result (λ p. option_map shown_split p.split ≡ parts_by_place cmd.now.args (texts read_only.now)) }
+{
+    if cmd.is_no_response() {
+        return Err(RedisError::from(Cause::NoResponse));
+    }
+    if has_split_word(cmd) {
+        return split_parts(alloc, cmd, read_only);
+    }
+    let part = only_part(alloc, cmd, read_only, number)?;
+    let mut list = Vec::new(alloc);
+    list.push(part)?;
+    Ok(Parts { list, split: None })
+}
+
+/// Whether the command's word is one of those that are split by their keys.
+fn has_split_word(cmd: &Cmd) -> bool
+    ensures { result ≡ has_split_word cmd.now.args }
+{
+    match cmd.arg_idx(0) {
+        None => false,
+        Some(word) => MultiSlotArgPattern::for_command(word).is_some(),
+    }
+}
+
+/// Whether an argument is a gap.
+fn has_gap(args: ArgsIter<'_>) -> bool
+    ensures { result ≡ list_any is_gap args.entry }
+{
+    'arguments: for arg in args {
+        if is_gap(arg) {
+            return true;
+        }
+    }
+    false
+}
+
+fn is_gap(arg: Arg<&[u8]>) -> bool
+    ensures { result ≡ is_gap (shown arg.entry) }
+{
+    match arg {
+        Arg::Simple(_) => false,
+        Arg::Cursor => true,
+    }
+}
+
+/// The parts of a command whose word is split by its keys: one for each of their slots.
+fn split_parts(alloc: Global, cmd: &Cmd, read_only: &[Vec<u8>]) -> Result<Parts, RedisError>
+    requires word { has_split_word cmd.now.args ≡ true }
+    requires response { cmd.now.no_response ≡ false }
+    ensures parts { result ≢ Err (by_cause Memory) → (number : ℕ) → parts_by result ≡ parts_of (texts read_only.now) cmd.now number }
+    ensures split { IfOk result (λ p. option_map shown_split p.split ≡ parts_by_place cmd.now.args (texts read_only.now)) }
+{
+    if has_gap(cmd.args_iter()) {
+        return Err(RedisError::from(Cause::CursorInSplit));
+    }
+    let Some(split) = SplitParts::for_routable(alloc, cmd, read_only)? else {
+        return Err(RedisError::from(Cause::BrokenTuples));
+    };
+    let commands = split.commands(alloc, cmd)?;
+    let list = parts_at(alloc, &split.routes, &commands)?;
+    Ok(Parts {
+        list,
+        split: Some(split),
+    })
+}
+
+/// The part of each command, for the route that stands at its place.
+fn parts_at(
+    alloc: Global,
+    routes: &[(Route, Vec<usize>)],
+    commands: &[Cmd],
+) -> Result<Vec<Part>, AllocError>
+    ensures { IfOk result (λ v. map part_of v.items ≡ map part_at (zip (shown_parts routes.now) commands.now)) }
+{
+    let mut parts = Vec::new(alloc);
+    let mut left = routes;
+    'parts: for command in commands {
+        let [route, others @ ..] = left else {
+            return Ok(parts);
+        };
+        parts.push(Part {
+            target: Target::Slot(route.0),
+            args: command.wire_args()?,
+        })?;
+        left = others;
+    }
+    Ok(parts)
+}
+
+/// The target of a command that goes to one node; `None` for every other.
+fn target_in(info: Option<RoutingInfo>, number: u64) -> Option<Target>
+    ensures { option_map target_of result ≡ target_by number (option_map shown_info info) }
+{
+    match info {
+        Some(RoutingInfo::SingleNode(SingleNodeRoutingInfo::SpecificNode(route))) => {
+            Some(Target::Slot(route))
+        }
+        Some(RoutingInfo::SingleNode(SingleNodeRoutingInfo::Random)) => Some(Target::Number(
+            number,
+        )),
+        _ => None,
+    }
+}
+
+/// The one part of a command that is not split: the command whole.
+fn only_part(
+    alloc: Global,
+    cmd: &Cmd,
+    read_only: &[Vec<u8>],
+    number: u64,
+) -> Result<Part, RedisError>
+    ensures { result ≢ Err (by_cause Memory) → one_part result ≡ only_part (sent cmd.now) number (destination cmd.now.args (texts read_only.now)) }
+{
+    let info = RoutingInfo::for_routable(alloc, cmd, read_only)?;
+    let Some(target) = target_in(info, number) else {
+        return Err(RedisError::from(Cause::NoRoute));
+    };
+    Ok(Part {
+        target,
+        args: cmd.wire_args()?,
+    })
+}
