@@ -1,9 +1,12 @@
 -- What a session prints for an answer and for a refusal: the form's name, then its parts, all separated by one space.
 -- Sources: the session language is this repository's own (docs/SESSIONS.md); the forms are those of the RESP3 specification, the names of kinds those of the crate `redis`, the first words of pushes those of the Redis documentation, "Pub/Sub" and "Client side caching".
-use Rattle.std.specs.Prelude.{ℕ, suc, Bool, true, false, List, [], ◌∷◌, ◌++◌, codes, Result, Ok, Err}
+use Rattle.std.specs.Prelude.{ℕ, ℤ, suc, Bool, true, false, List, [], ◌∷◌, ◌++◌, length, codes, Option, Some, None, Result, Ok, Err}
+use Rattle.std.specs.List.{flat_map}
 use Rattle.std.specs.Fmt.{decimal, signed_decimal}
 use Rattle.resp_core.specs.Errors.{Refusal, kind_of}
-use Rattle.cluster_calls.specs.Calls.Answer.{Answer, Value}
+use Rattle.stream_commands.specs.Entries.{Entry}
+use Rattle.stream_commands.specs.ReadReply.{Row}
+use Rattle.cluster_calls.specs.Calls.Answer.{Answer, Value, Range, Read}
 use Rattle.cluster_session.specs.KindNames.{kind_name}
 use Rattle.hex.specs.Hex.{encode_lower}
 use Rattle.resp_core.specs.Trees.{Format, unknown, markdown, text, Kind, disconnection, other, invalidate, message, pmessage, smessage, unsubscribe, punsubscribe, sunsubscribe, subscribe, psubscribe, ssubscribe, Tree, nil, int, bulk, array, simple, okay, set, attribute, double, boolean, verbatim, big_number, push, server_error, Trees, no_trees, tree, Pairs, no_pairs, pair}
@@ -76,13 +79,44 @@ abbrev mutual
   pair_words no_pairs = []
   pair_words (pair key value ps) = codes " " ++ (answer_words key ++ (codes " " ++ (answer_words value ++ pair_words ps)))
 
+-- ---- entries of streams
+
+-- a number where there is one, else a dash
+abbrev pub number_word : Option ℤ → List ℕ
+number_word None = codes "-"
+number_word (Some n) = signed_decimal n
+
+-- a name and its value, a space before each
+abbrev pub field_words : List ℕ × Tree → List ℕ
+field_words field = codes " " ++ (hex_word field.0 ++ (codes " " ++ answer_words field.1))
+
+-- an entry: its id, its fields behind their number, and when and how often it was delivered
+abbrev pub entry_words : Entry → List ℕ
+entry_words entry =
+    codes "id " ++ (hex_word entry.id ++ (codes " " ++ (decimal (length entry.fields) ++ (flat_map field_words entry.fields
+    ++ (codes " " ++ (number_word entry.milliseconds ++ (codes " " ++ number_word entry.deliveries)))))))
+
+abbrev pub entries_words : List Entry → List ℕ
+entries_words entries = codes "ids " ++ (decimal (length entries) ++ flat_map (λ entry. codes " " ++ entry_words entry) entries)
+
+-- a stream: its key, and its entries
+abbrev pub row_words : Row → List ℕ
+row_words row = codes "key " ++ (hex_word row.key ++ (codes " " ++ entries_words row.entries))
+
+abbrev pub rows_words : List Row → List ℕ
+rows_words rows = codes "keys " ++ (decimal (length rows) ++ flat_map (λ row. codes " " ++ row_words row) rows)
+
+-- ---- the lines of a call
+
 -- the line of a refused call
 abbrev pub refused_line : Refusal → List ℕ
 refused_line refusal = codes "err " ++ (kind_name (kind_of refusal) ++ codes "\n")
 
--- the line of a call: an accepted refresh has nothing more to print, and no line of a session makes the others
+-- the line of an answered call: an accepted refresh has nothing more to print, and no line of a session makes the others
 abbrev pub answer_line : Answer → List ℕ
 answer_line (Value reply) = codes "ok " ++ (answer_words reply ++ codes "\n")
+answer_line (Range entries) = codes "ok " ++ (entries_words entries ++ codes "\n")
+answer_line (Read rows) = codes "ok " ++ (rows_words rows ++ codes "\n")
 answer_line _ = codes "ok\n"
 
 abbrev pub call_line : Result Answer Refusal → List ℕ

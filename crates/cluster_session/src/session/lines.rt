@@ -1,7 +1,7 @@
 //! A line of a session: its words and what they say.
 use crate::session::calls;
 use crate::session::script::{Access, Line, Node};
-use cluster_client::{Call, Cmd};
+use cluster_client::{Call, Cmd, StreamReadOptions};
 use hex::FromHexError;
 use std::alloc::{AllocError, AllocFailed, Global};
 
@@ -101,8 +101,32 @@ fn read_words(alloc: Global, text: &str) -> Result<Line, LineError> {
         ["fan", first, others @ ..] => Ok(Line::Call(Call::FanOut(command_of(
             alloc, first, others,
         )?))),
+        ["pipe"] => Ok(Line::Pipe),
+        ["cmd", first, others @ ..] => Ok(Line::Command {
+            command: command_of(alloc, first, others)?,
+            ignored: false,
+        }),
+        ["skip", first, others @ ..] => Ok(Line::Command {
+            command: command_of(alloc, first, others)?,
+            ignored: true,
+        }),
+        ["run"] => Ok(Line::Run),
+        ["xrange", key, start, end] => Ok(Line::Call(Call::Xrange {
+            key: bytes_of(alloc, key)?,
+            start: bytes_of(alloc, start)?,
+            end: bytes_of(alloc, end)?,
+        })),
+        ["xread", keys, ids] => Ok(Line::Call(Call::Xread {
+            streams: streams_of(alloc, keys, ids)?,
+            options: StreamReadOptions::empty(),
+        })),
         _ => Err(LineError::Bad),
     }
+}
+
+/// Whether the line ends a pipeline.
+pub(super) fn is_run(line: &[u8]) -> bool {
+    line == b"run".as_slice()
 }
 
 fn number_of(word: &str) -> Result<u64, LineError> {
@@ -173,4 +197,27 @@ fn command_of(alloc: Global, first: &str, others: &[&str]) -> Result<Cmd, LineEr
         command.arg(bytes_of(alloc, word)?.as_slice())?;
     }
     Ok(command)
+}
+
+/// The texts of a word, with commas between them.
+fn texts_of(alloc: Global, word: &str) -> Result<Vec<Vec<u8>>, LineError> {
+    let mut texts = Vec::new(alloc);
+    for text in word.split(',') {
+        texts.push(bytes_of(alloc, text)?)?;
+    }
+    Ok(texts)
+}
+
+/// The keys of streams, and for each the id behind which it is read.
+fn streams_of(alloc: Global, keys: &str, ids: &str) -> Result<Vec<(Vec<u8>, Vec<u8>)>, LineError> {
+    let keys = texts_of(alloc, keys)?;
+    let ids = texts_of(alloc, ids)?;
+    if keys.len() != ids.len() {
+        return Err(LineError::Bad);
+    }
+    let mut streams = Vec::with_capacity(alloc, keys.len())?;
+    for stream in keys.into_iter().zip(ids) {
+        streams.push(stream)?;
+    }
+    Ok(streams)
 }

@@ -48,6 +48,7 @@ fn play_script(alloc: Global, script: Script) -> Result<Printed, RedisError>
         read_only,
         budget,
         calls,
+        ..
     } = script;
     let links = links(alloc, nodes)?;
     let mut client = calls::client(alloc, links, read_only, budget.unwrap_or(BUDGET))?;

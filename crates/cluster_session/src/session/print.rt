@@ -1,18 +1,24 @@
 //! The lines that a session prints.
+mod entries;
 mod kinds;
 mod value;
 mod words;
 
-ghost use Rattle.std.specs.Prelude.{◌≡◌, ◌++◌, OnOk, string_bytes};
+ghost use Rattle.std.specs.Prelude.{◌≡◌, ◌++◌, OnOk, map, string_bytes, codes};
 ghost use Rattle.cluster_session.specs.Output.{fault_line};
 ghost use Rattle.cluster_client.specs.Shown.{answer_result};
-ghost use Rattle.cluster_session.specs.Printed.{call_line, refused_line};
+ghost use Rattle.std.specs.List.{flat_map};
+ghost use Rattle.cluster_routing.specs.Address.{written};
+ghost use Rattle.cluster_routing.specs.Seen.{address};
+ghost use Rattle.cluster_session.specs.Printed.{call_line, hex_word, refused_line};
+ghost use Rattle.cluster_session.specs.PrintedLines.{manner_word, request_line, sent_line};
 
 use cluster_client::{Answer, Asked, NodeAddress};
+use entries::{print_entries, print_rows};
 use resp_core::RedisError;
 use std::alloc::AllocError;
 use value::print_value;
-use words::{push_bytes, push_number};
+use words::{print_bytes, push_number};
 
 /// The line of a text with a bad line: that line's number.
 pub(super) fn fault(output: &mut String, number: u64) -> Result<(), AllocError>
@@ -36,6 +42,16 @@ pub(super) fn answered(
             print_value(output, value)?;
             output.push_str("\n")
         }
+        Ok(Answer::Range(reply)) => {
+            output.push_str("ok ")?;
+            print_entries(output, &reply.ids)?;
+            output.push_str("\n")
+        }
+        Ok(Answer::Read(reply)) => {
+            output.push_str("ok ")?;
+            print_rows(output, &reply.keys)?;
+            output.push_str("\n")
+        }
         // A refresh has nothing more to print, and no line of a session makes the others.
         Ok(_) => output.push_str("ok\n"),
         Err(error) => refused(output, error),
@@ -51,37 +67,54 @@ fn refused(output: &mut String, error: &RedisError) -> Result<(), AllocError>
 }
 
 /// A line for each request.
-pub(super) fn requests(output: &mut String, asked: &[Asked]) -> Result<(), AllocError> {
+pub(super) fn requests(output: &mut String, asked: &[Asked]) -> Result<(), AllocError>
+    ensures { OnOk result (string_bytes output.new ≡ string_bytes output.old ++ flat_map request_line asked.now) }
+{
     for request in asked {
         print_request(output, request)?;
     }
     Ok(())
 }
 
-fn print_request(output: &mut String, request: &Asked) -> Result<(), AllocError> {
+fn print_request(output: &mut String, request: &Asked) -> Result<(), AllocError>
+    ensures { OnOk result (string_bytes output.new ≡ string_bytes output.old ++ request_line request.now) }
+{
     output.push_str("asked ")?;
     push_address(output, &request.node)?;
-    output.push_str(if request.asking { " asking" } else { " plain" })?;
-    for arg in &request.args {
-        output.push_str(" ")?;
-        push_bytes(output, arg)?;
-    }
+    output.push_str(" ")?;
+    output.push_str(manner(request.asking))?;
+    print_args(output, &request.args)?;
     output.push_str("\n")
+}
+
+fn manner(asking: bool) -> &'static str
+    ensures { result.now ≡ manner_word asking }
+{
+    if asking { "asking" } else { "plain" }
+}
+
+// Each argument, a space before it.
+fn print_args(output: &mut String, args: &[Vec<u8>]) -> Result<(), AllocError>
+    ensures { OnOk result (string_bytes output.new ≡ string_bytes output.old ++ flat_map (λ arg. codes " " ++ hex_word arg) (map (λ arg. arg.items) args.now)) }
+{
+    for arg in args {
+        print_bytes(output, " ", arg)?;
+    }
+    Ok(())
 }
 
 /// The line of the bytes that went out to a node.
-pub(super) fn sent(
-    output: &mut String,
-    node: &NodeAddress,
-    bytes: &[u8],
-) -> Result<(), AllocError> {
+pub(super) fn sent(output: &mut String, node: &NodeAddress, bytes: &[u8]) -> Result<(), AllocError>
+    ensures { OnOk result (string_bytes output.new ≡ string_bytes output.old ++ sent_line (address node.now) bytes.now) }
+{
     output.push_str("sent ")?;
     push_address(output, node)?;
-    output.push_str(" ")?;
-    push_bytes(output, bytes)?;
+    print_bytes(output, " ", bytes)?;
     output.push_str("\n")
 }
 
-fn push_address(output: &mut String, address: &NodeAddress) -> Result<(), AllocError> {
-    write!(output, "{address}")
+fn push_address(output: &mut String, node: &NodeAddress) -> Result<(), AllocError>
+    ensures { OnOk result (string_bytes output.new ≡ string_bytes output.old ++ written (address node.now)) }
+{
+    write!(output, "{node}")
 }

@@ -1,7 +1,7 @@
 //! A checked session as data.
-use crate::session::lines::{LineError, read_line};
-use cluster_client::{Call, NodeAddress};
-use std::alloc::{AllocFailed, Global};
+use crate::session::lines::{LineError, is_run, read_line};
+use cluster_client::{Call, ClusterPipeline, Cmd, NodeAddress};
+use std::alloc::{AllocError, Global};
 use std::collections::BTreeMap;
 
 /// What is set up for a node: the bytes that come from it, at most `piece` a read, and the numbers
@@ -44,6 +44,12 @@ pub(super) enum Line {
     ReadOnly(Vec<u8>),
     Budget(u16),
     Call(Call),
+    /// It begins a pipeline.
+    Pipe,
+    /// A command of a pipeline.
+    Command { command: Cmd, ignored: bool },
+    /// It ends a pipeline.
+    Run,
 }
 
 /// Why a text is no session.
@@ -55,6 +61,17 @@ pub(super) enum ScriptError {
     Memory,
 }
 
+impl From<AllocError> for ScriptError {
+    ghost use Rattle.std.specs.Prelude.{◌≡◌};
+    ghost use Rattle.cluster_session.specs.declared.session.script.ScriptError.TheVariants.{Memory};
+
+    ghost from_gives = { λ _ e. e ≡ Memory };
+
+    fn from(_e: AllocError) -> ScriptError {
+        ScriptError::Memory
+    }
+}
+
 /// A session: what is set up for each node, the names of commands that only read, a budget of
 /// redirects where a line sets it, and the calls in order.
 #[derive(Drop)]
@@ -63,6 +80,8 @@ pub(super) struct Script {
     pub read_only: Vec<Vec<u8>>,
     pub budget: Option<u16>,
     pub calls: Vec<Call>,
+    // The pipeline that no line has ended yet.
+    pub open: Option<ClusterPipeline>,
 }
 
 impl Script {
@@ -75,6 +94,7 @@ impl Script {
             read_only: Vec::new(alloc),
             budget: None,
             calls: Vec::new(alloc),
+            open: None,
         }
     }
 
@@ -82,25 +102,45 @@ impl Script {
     pub(super) fn read(alloc: Global, text: &[u8]) -> Result<Script, ScriptError>
         ensures { IfErr result FromOne }
     {
+        let lines: Vec<&[u8]> = text.split(|byte| *byte == b'\n').collect(alloc)?;
         let mut script = Script::empty(alloc);
-        for (number, line) in (1..=u64::MAX).zip(text.split(|byte| *byte == b'\n')) {
-            match script.add_line(alloc, line) {
+        for (index, line) in lines.iter().enumerate() {
+            match script.add_line(alloc, line, &lines[index + 1..]) {
                 Ok(()) => {}
-                Err(LineError::Bad) => return Err(ScriptError::BadLine(number)),
+                Err(LineError::Bad) => return Err(ScriptError::BadLine(index as u64 + 1)),
                 Err(LineError::Memory) => return Err(ScriptError::Memory),
             }
         }
         Ok(script)
     }
 
-    fn add_line(&mut self, alloc: Global, line: &[u8]) -> Result<(), LineError> {
+    // A line, of which those behind it are known too.
+    fn add_line(&mut self, alloc: Global, line: &[u8], later: &[&[u8]]) -> Result<(), LineError> {
         match read_line(alloc, line)? {
             None => Ok(()),
-            Some(Line::Node(address, node)) => self.add_node(address, node),
-            Some(Line::Fault(address, access, number)) => self.add_fault(&address, access, number),
-            Some(Line::ReadOnly(name)) => self.add_read_only(name),
-            Some(Line::Budget(budget)) => self.set_budget(budget),
-            Some(Line::Call(call)) => self.add_call(call),
+            Some(line) if self.open.is_some() => self.add_inside(line),
+            Some(line) => self.add_outside(alloc, line, later),
+        }
+    }
+
+    // A line of an open pipeline.
+    fn add_inside(&mut self, line: Line) -> Result<(), LineError> {
+        match line {
+            Line::Command { command, ignored } => self.add_command(command, ignored),
+            Line::Run => self.end_pipeline(),
+            _ => Err(LineError::Bad),
+        }
+    }
+
+    fn add_outside(&mut self, alloc: Global, line: Line, later: &[&[u8]]) -> Result<(), LineError> {
+        match line {
+            Line::Node(address, node) => self.add_node(address, node),
+            Line::Fault(address, access, number) => self.add_fault(&address, access, number),
+            Line::ReadOnly(name) => self.add_read_only(name),
+            Line::Budget(budget) => self.set_budget(budget),
+            Line::Call(call) => self.add_call(call),
+            Line::Pipe => self.begin_pipeline(alloc, later),
+            Line::Command { .. } | Line::Run => Err(LineError::Bad),
         }
     }
 
@@ -150,5 +190,32 @@ impl Script {
     fn add_call(&mut self, call: Call) -> Result<(), LineError> {
         self.calls.push(call)?;
         Ok(())
+    }
+
+    // Refused where no line behind it ends the pipeline.
+    fn begin_pipeline(&mut self, alloc: Global, later: &[&[u8]]) -> Result<(), LineError> {
+        if !later.iter().any(|line| is_run(line)) {
+            return Err(LineError::Bad);
+        }
+        self.open = Some(ClusterPipeline::new(alloc));
+        Ok(())
+    }
+
+    fn add_command(&mut self, command: Cmd, ignored: bool) -> Result<(), LineError> {
+        let Some(pipeline) = &mut self.open else {
+            return Err(LineError::Bad);
+        };
+        pipeline.add_command(command)?;
+        if ignored {
+            pipeline.ignore();
+        }
+        Ok(())
+    }
+
+    fn end_pipeline(&mut self) -> Result<(), LineError> {
+        match self.open.take() {
+            None => Err(LineError::Bad),
+            Some(pipeline) => self.add_call(Call::Pipeline(pipeline)),
+        }
     }
 }

@@ -1,10 +1,10 @@
 //! Answers as words: the form's name, then its parts.
 ghost use Rattle.std.specs.Prelude.{◌≡◌, ◌++◌, OnOk, string_bytes, length, decimal};
 ghost use Rattle.resp_core.specs.View.{view, trees_view, pairs_view, format_view};
-ghost use Rattle.cluster_session.specs.Printed.{answer_words, each_words, pair_words, format_text, hex_word};
+ghost use Rattle.cluster_session.specs.Printed.{answer_words, each_words, pair_words, format_text};
 
 use crate::session::print::kinds::push_name;
-use crate::session::print::words::{push_bytes, push_number};
+use crate::session::print::words::{print_bytes, print_count};
 use resp_core::{Value, VerbatimFormat};
 use std::alloc::AllocError;
 
@@ -51,20 +51,6 @@ fn format_name(format: &VerbatimFormat) -> &str
         VerbatimFormat::Markdown => "mkd",
         VerbatimFormat::Text => "txt",
     }
-}
-
-fn print_bytes(output: &mut String, name: &str, bytes: &[u8]) -> Result<(), AllocError>
-    ensures { OnOk result (string_bytes output.new ≡ string_bytes output.old ++ (name.now ++ hex_word bytes.now)) }
-{
-    output.push_str(name)?;
-    push_bytes(output, bytes)
-}
-
-fn print_count(output: &mut String, name: &str, count: usize) -> Result<(), AllocError>
-    ensures { OnOk result (string_bytes output.new ≡ string_bytes output.old ++ (name.now ++ decimal count)) }
-{
-    output.push_str(name)?;
-    push_number(output, count as u64)
 }
 
 #[cycle(print)]
