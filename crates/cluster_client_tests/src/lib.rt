@@ -6,8 +6,6 @@ mod answers;
 #[cfg(test)]
 mod clients;
 #[cfg(test)]
-mod fan_outs;
-#[cfg(test)]
 mod pipelines;
 #[cfg(test)]
 mod reads;

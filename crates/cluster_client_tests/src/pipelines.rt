@@ -9,11 +9,15 @@ use std::test::Fail;
 const HALVES: &[u8] =
     b"*2\r\n*3\r\n:0\r\n:8191\r\n*2\r\n$2\r\nn1\r\n:7001\r\n*3\r\n:8192\r\n:16383\r\n*2\r\n$2\r\nn2\r\n:7002\r\n+OK\r\n$1\r\n1\r\n";
 
-/// A client of n1:7001 and n2:7002.
-fn client(alloc: Global) -> Result<Client, RedisError> {
+/// The same slots, then an error.
+const HALVES_AND_AN_ERROR: &[u8] =
+    b"*2\r\n*3\r\n:0\r\n:8191\r\n*2\r\n$2\r\nn1\r\n:7001\r\n*3\r\n:8192\r\n:16383\r\n*2\r\n$2\r\nn2\r\n:7002\r\n-ERR x\r\n";
+
+/// A client of n1:7001 and n2:7002 to which these bytes come.
+fn client(alloc: Global, n1: &[u8], n2: &[u8]) -> Result<Client, RedisError> {
     let mut links = Vec::new(alloc);
-    add_link(alloc, &mut links, "n1:7001", HALVES)?;
-    add_link(alloc, &mut links, "n2:7002", b"$1\r\n5\r\n")?;
+    add_link(alloc, &mut links, "n1:7001", n1)?;
+    add_link(alloc, &mut links, "n2:7002", n2)?;
     ClusterClient::new(alloc, links, Vec::new(alloc), 1)
 }
 
@@ -33,7 +37,7 @@ fn pipeline(alloc: Global) -> Result<ClusterPipeline, AllocError> {
 #[test]
 fn a_pipeline_answers_in_its_order(rt: HostRuntime) -> Result<(), Fail> {
     let alloc = rt.alloc();
-    let mut client = client(alloc)?;
+    let mut client = client(alloc, HALVES, b"$1\r\n5\r\n")?;
     assert!(rt; is_refreshed(alloc, &mut client)?);
     let pipeline = pipeline(alloc)?;
     assert_eq!(rt; pipeline.commands().len(), 3);
@@ -44,12 +48,94 @@ fn a_pipeline_answers_in_its_order(rt: HostRuntime) -> Result<(), Fail> {
     Ok(())
 }
 
+/// `GET b` ignored, then a command of one word.
+fn refused_pipeline(alloc: Global, word: &str) -> Result<ClusterPipeline, AllocError> {
+    let mut pipeline = cluster_pipe(alloc);
+    pipeline.cmd(alloc, "GET")?;
+    pipeline.arg("b")?;
+    pipeline.ignore();
+    pipeline.cmd(alloc, word)?;
+    Ok(pipeline)
+}
+
+/// The position that the refusal of a pipeline tells.
+fn refused_position(
+    alloc: Global,
+    client: &mut Client,
+    pipeline: &ClusterPipeline,
+) -> Option<usize> {
+    let outcome: Result<Vec<i64>, RedisError> = pipeline.query(alloc, client);
+    match outcome {
+        Ok(_) => None,
+        Err(e) => e.position(),
+    }
+}
+
 #[test]
-fn a_pipeline_without_commands_sends_nothing(rt: HostRuntime) -> Result<(), Fail> {
+fn a_refused_pipeline_tells_the_position(rt: HostRuntime) -> Result<(), Fail> {
     let alloc = rt.alloc();
-    let mut client: Client = ClusterClient::new(alloc, Vec::new(alloc), Vec::new(alloc), 1)?;
-    let answer: Vec<i64> = cluster_pipe(alloc).query(alloc, &mut client)?;
-    assert_eq!(rt; answer.len(), 0);
+    let mut client = client(alloc, HALVES, b"$1\r\n5\r\n")?;
+    assert!(rt; is_refreshed(alloc, &mut client)?);
+    let pipeline = refused_pipeline(alloc, "TIME")?;
+    assert_eq!(rt; refused_position(alloc, &mut client, &pipeline), Some(1));
     assert_eq!(rt; client.asked().len(), 0);
+    Ok(())
+}
+
+/// `SET a 1`, `GET b` ignored, `GET a`.
+fn three_commands(alloc: Global) -> Result<ClusterPipeline, AllocError> {
+    let mut pipeline = cluster_pipe(alloc);
+    pipeline.cmd(alloc, "SET")?;
+    pipeline.arg("a")?;
+    pipeline.arg(1)?;
+    pipeline.cmd(alloc, "GET")?;
+    pipeline.arg("b")?;
+    pipeline.ignore();
+    pipeline.add_command(get_a(alloc)?)?;
+    Ok(pipeline)
+}
+
+/// The positions of the errors that refuse a pipeline, none where no server refused it.
+fn positions_of_errors(
+    alloc: Global,
+    client: &mut Client,
+    pipeline: &ClusterPipeline,
+) -> Result<Vec<usize>, AllocError> {
+    let outcome: Result<Vec<i64>, RedisError> = pipeline.query(alloc, client);
+    let mut positions = Vec::new(alloc);
+    if let Err(e) = outcome {
+        for (position, _) in e.into_server_errors(alloc)? {
+            positions.push(position)?;
+        }
+    }
+    Ok(positions)
+}
+
+#[test]
+fn all_errors_of_a_pipeline_tell_their_positions(rt: HostRuntime) -> Result<(), Fail> {
+    let alloc = rt.alloc();
+    let replies = b"+OK\r\n-MOVED 15495 n1:7001\r\n";
+    let mut client = client(alloc, HALVES_AND_AN_ERROR, replies)?;
+    assert!(rt; is_refreshed(alloc, &mut client)?);
+    let positions = positions_of_errors(alloc, &mut client, &three_commands(alloc)?)?;
+    assert_eq!(rt; positions.as_slice(), [1, 2].as_slice());
+    assert!(rt; client.needs_refresh());
+    Ok(())
+}
+
+#[test]
+fn a_moved_before_an_early_end_raises_no_flag(rt: HostRuntime) -> Result<(), Fail> {
+    let alloc = rt.alloc();
+    let mut client = client(alloc, HALVES, b"-MOVED 15495 n1:7001\r\n")?;
+    assert!(rt; is_refreshed(alloc, &mut client)?);
+    let mut pipeline = cluster_pipe(alloc);
+    pipeline.add_command(get_a(alloc)?)?;
+    pipeline.add_command(get_a(alloc)?)?;
+    assert_eq!(rt;
+        positions_of_errors(alloc, &mut client, &pipeline)?.len(),
+        0
+    );
+    assert!(rt; !client.needs_refresh());
+    assert_eq!(rt; client.link_state(&node(alloc, "n2:7002")?), Some(false));
     Ok(())
 }

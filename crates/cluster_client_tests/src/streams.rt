@@ -7,13 +7,13 @@ use std::test::Fail;
 
 /// All slots at n1:7001, then a reply to each call of `answer` in turn.
 const REPLIES: &[u8] =
-    b"*1\r\n*3\r\n:0\r\n:16383\r\n*2\r\n$2\r\nn1\r\n:7001\r\n$3\r\n1-0\r\n:2\r\n*1\r\n*2\r\n$1\r\na\r\n*1\r\n*2\r\n$3\r\n1-0\r\n*2\r\n$1\r\nf\r\n$1\r\nv\r\n*1\r\n*2\r\n$3\r\n1-0\r\n*2\r\n$1\r\nf\r\n$1\r\nv\r\n*1\r\n*2\r\n$3\r\n1-0\r\n*2\r\n$1\r\nf\r\n$1\r\nv\r\n*3\r\n$3\r\n0-0\r\n*1\r\n*2\r\n$3\r\n1-0\r\n*2\r\n$1\r\nf\r\n$1\r\nv\r\n*0\r\n*4\r\n:1\r\n$3\r\n1-0\r\n$3\r\n1-0\r\n*1\r\n*2\r\n$1\r\nc\r\n$1\r\n1\r\n*4\r\n$6\r\nlength\r\n:1\r\n$6\r\ngroups\r\n:2\r\n*1\r\n*4\r\n$4\r\nname\r\n$1\r\ng\r\n$7\r\npending\r\n:1\r\n*1\r\n*6\r\n$4\r\nname\r\n$1\r\nc\r\n$7\r\npending\r\n:1\r\n$4\r\nidle\r\n:5\r\n*2\r\n:1\r\n:-1\r\n";
+    b"*1\r\n*3\r\n:0\r\n:16383\r\n*2\r\n$2\r\nn1\r\n:7001\r\n$3\r\n5-0\r\n:2\r\n*1\r\n*2\r\n$1\r\na\r\n*1\r\n*4\r\n$3\r\n1-0\r\n*2\r\n$1\r\nf\r\n$1\r\nv\r\n:5\r\n:1\r\n*1\r\n*2\r\n$3\r\n1-0\r\n*2\r\n$1\r\nf\r\n$1\r\nv\r\n*1\r\n*2\r\n$3\r\n1-0\r\n*2\r\n$1\r\nf\r\n$1\r\nv\r\n*3\r\n$3\r\n0-0\r\n*1\r\n*2\r\n$3\r\n1-0\r\n*2\r\n$1\r\nf\r\n$1\r\nv\r\n*0\r\n*4\r\n:1\r\n$3\r\n1-0\r\n$3\r\n1-0\r\n*1\r\n*2\r\n$1\r\nc\r\n$1\r\n1\r\n*4\r\n$6\r\nlength\r\n:1\r\n$6\r\ngroups\r\n:2\r\n*1\r\n*4\r\n$4\r\nname\r\n$1\r\ng\r\n$7\r\npending\r\n:1\r\n*1\r\n*6\r\n$4\r\nname\r\n$1\r\nc\r\n$7\r\npending\r\n:1\r\n$4\r\nidle\r\n:5\r\n*2\r\n:1\r\n:-1\r\n";
 
 /// What the calls answer.
 const ANSWERS: [&str; 11] = [
-    "Some(\"1-0\")",
+    "Some(\"5-0\")",
     "2",
-    "StreamReadReply { keys: [StreamKey { key: \"a\", ids: [StreamId { id: \"1-0\", map: {\"f\": BulkString([118])}, milliseconds_elapsed_from_delivery: None, delivered_count: None }] }] }",
+    "StreamReadReply { keys: [StreamKey { key: \"a\", ids: [StreamId { id: \"1-0\", map: {\"f\": BulkString([118])}, milliseconds_elapsed_from_delivery: Some(5), delivered_count: Some(1) }] }] }",
     "StreamRangeReply { ids: [StreamId { id: \"1-0\", map: {\"f\": BulkString([118])}, milliseconds_elapsed_from_delivery: None, delivered_count: None }] }",
     "StreamClaimReply { ids: [StreamId { id: \"1-0\", map: {\"f\": BulkString([118])}, milliseconds_elapsed_from_delivery: None, delivered_count: None }] }",
     "StreamAutoClaimReply { next_stream_id: \"0-0\", claimed: [StreamId { id: \"1-0\", map: {\"f\": BulkString([118])}, milliseconds_elapsed_from_delivery: None, delivered_count: None }], deleted_ids: [], invalid_entries: false }",
@@ -26,9 +26,9 @@ const ANSWERS: [&str; 11] = [
 
 /// What the calls send, each as its arguments with a space between two.
 const SENT: [&str; 11] = [
-    "XADD a * f v",
+    "XADD a NOMKSTREAM MAXLEN ~ 10 * f v",
     "XTRIM a MAXLEN = 2",
-    "XREAD STREAMS a 0",
+    "XREADGROUP GROUP g c STREAMS a >",
     "XRANGE a - +",
     "XCLAIM a g c 60000 1-0",
     "XAUTOCLAIM a g c 60000 0-0",
@@ -49,7 +49,8 @@ fn shown<T: Debug + Drop>(
 }
 
 fn xadd(alloc: Global, client: &mut Client) -> Result<String, RedisError> {
-    let options = StreamAddOptions::empty();
+    let trim = StreamTrimStrategy::maxlen(StreamTrimmingMode::Approx, 10);
+    let options = StreamAddOptions::empty().nomkstream().trim(trim);
     shown(
         alloc,
         client.xadd(alloc, "a", &options, "*", &[("f", "v")], None),
@@ -62,8 +63,8 @@ fn xtrim(alloc: Global, client: &mut Client) -> Result<String, RedisError> {
 }
 
 fn xread(alloc: Global, client: &mut Client) -> Result<String, RedisError> {
-    let options = StreamReadOptions::empty();
-    shown(alloc, client.xread(alloc, &[("a", "0")], &options, None))
+    let options = StreamReadOptions::empty().group(alloc, "g", "c")?;
+    shown(alloc, client.xread(alloc, &[("a", ">")], &options, None))
 }
 
 fn xclaim(alloc: Global, client: &mut Client) -> Result<String, RedisError> {
@@ -132,6 +133,51 @@ fn each_call_sends_its_command_and_answers_its_record(rt: HostRuntime) -> Result
         assert_eq!(rt; text.as_str(), ANSWERS[which]);
         let sent = asked(alloc, &client)?;
         assert_eq!(rt; sent.as_slice(), SENT[which].as_bytes());
+    }
+    Ok(())
+}
+
+/// The kind of the refusal of a call that is to be refused: a read of no stream, one by a group whose
+/// name is the word `STREAMS`, and a claim of ids alone.
+fn refusal(alloc: Global, client: &mut Client, which: usize) -> Option<ErrorKind> {
+    let outcome = match which {
+        0 => read_of_nothing(alloc, client),
+        1 => read_by_streams(alloc, client),
+        _ => claim_of_ids(alloc, client),
+    };
+    match outcome {
+        Ok(_) => None,
+        Err(e) => Some(e.kind()),
+    }
+}
+
+fn read_of_nothing(alloc: Global, client: &mut Client) -> Result<String, RedisError> {
+    let none: &[(&str, &str)] = &[];
+    shown(
+        alloc,
+        client.xread(alloc, none, &StreamReadOptions::empty(), None),
+    )
+}
+
+fn read_by_streams(alloc: Global, client: &mut Client) -> Result<String, RedisError> {
+    let options = StreamReadOptions::empty().group(alloc, "streams", "c")?;
+    shown(alloc, client.xread(alloc, &[("a", ">")], &options, None))
+}
+
+fn claim_of_ids(alloc: Global, client: &mut Client) -> Result<String, RedisError> {
+    let options = StreamClaimOptions::empty().with_justid();
+    let outcome = client.xclaim(alloc, "a", "g", "c", 60000, &["1-0"], &options, None);
+    shown(alloc, outcome)
+}
+
+#[test]
+fn calls_that_are_refused_send_nothing(rt: HostRuntime) -> Result<(), Fail> {
+    let alloc = rt.alloc();
+    let mut client = client(alloc)?;
+    assert!(rt; is_refreshed(alloc, &mut client)?);
+    for which in 0..3 {
+        assert_eq!(rt; refusal(alloc, &mut client, which), Some(ErrorKind::Client));
+        assert!(rt; client.asked().is_empty());
     }
     Ok(())
 }

@@ -92,6 +92,18 @@ const CLAIMS: &[(&[u8], &str)] = &[
         b"*2\r\n$3\r\n5-0\r\n*2\r\n$3\r\n1-0\r\n$-1\r\n",
         "StreamAutoClaimReply { next_stream_id: \"5-0\", claimed: [StreamId { id: \"1-0\", map: {}, milliseconds_elapsed_from_delivery: None, delivered_count: None }], deleted_ids: [], invalid_entries: true }",
     ),
+    (
+        b"*3\r\n$15\r\n1713465536578-0\r\n*2\r\n*2\r\n$15\r\n1713465533411-0\r\n*4\r\n$4\r\nname\r\n$4\r\ntest\r\n$5\r\nother\r\n$9\r\nwhaterver\r\n*2\r\n$15\r\n1713465536069-0\r\n*4\r\n$4\r\nname\r\n$12\r\nanother test\r\n$5\r\nother\r\n$9\r\nsomething\r\n*1\r\n$11\r\n123456789-0\r\n",
+        "StreamAutoClaimReply { next_stream_id: \"1713465536578-0\", claimed: [StreamId { id: \"1713465533411-0\", map: {\"name\": BulkString([116, 101, 115, 116]), \"other\": BulkString([119, 104, 97, 116, 101, 114, 118, 101, 114])}, milliseconds_elapsed_from_delivery: None, delivered_count: None }, StreamId { id: \"1713465536069-0\", map: {\"name\": BulkString([97, 110, 111, 116, 104, 101, 114, 32, 116, 101, 115, 116]), \"other\": BulkString([115, 111, 109, 101, 116, 104, 105, 110, 103])}, milliseconds_elapsed_from_delivery: None, delivered_count: None }], deleted_ids: [\"123456789-0\"], invalid_entries: false }",
+    ),
+    (
+        b"*3\r\n$15\r\n1713465536578-0\r\n*2\r\n$15\r\n1713465533411-0\r\n$15\r\n1713465536069-0\r\n*1\r\n$11\r\n123456789-0\r\n",
+        "StreamAutoClaimReply { next_stream_id: \"1713465536578-0\", claimed: [StreamId { id: \"1713465533411-0\", map: {}, milliseconds_elapsed_from_delivery: None, delivered_count: None }, StreamId { id: \"1713465536069-0\", map: {}, milliseconds_elapsed_from_delivery: None, delivered_count: None }], deleted_ids: [\"123456789-0\"], invalid_entries: false }",
+    ),
+    (
+        b"*2\r\n$15\r\n1713465536578-0\r\n*2\r\n*2\r\n$15\r\n1713465533411-0\r\n*4\r\n$4\r\nname\r\n$4\r\ntest\r\n$5\r\nother\r\n$9\r\nwhaterver\r\n*2\r\n$15\r\n1713465536069-0\r\n*4\r\n$4\r\nname\r\n$12\r\nanother test\r\n$5\r\nother\r\n$9\r\nsomething\r\n",
+        "StreamAutoClaimReply { next_stream_id: \"1713465536578-0\", claimed: [StreamId { id: \"1713465533411-0\", map: {\"name\": BulkString([116, 101, 115, 116]), \"other\": BulkString([119, 104, 97, 116, 101, 114, 118, 101, 114])}, milliseconds_elapsed_from_delivery: None, delivered_count: None }, StreamId { id: \"1713465536069-0\", map: {\"name\": BulkString([97, 110, 111, 116, 104, 101, 114, 32, 116, 101, 115, 116]), \"other\": BulkString([115, 111, 109, 101, 116, 104, 105, 110, 103])}, milliseconds_elapsed_from_delivery: None, delivered_count: None }], deleted_ids: [], invalid_entries: false }",
+    ),
 ];
 
 #[test]
