@@ -8,7 +8,7 @@ use Rattle.cluster_calls.specs.Calls.Answer.{Answer}
 use Rattle.cluster_calls.specs.Calls.Call.{Call, Refresh}
 use Rattle.cluster_calls.specs.Calls.Picks.{ArePicks}
 use Rattle.cluster_calls.specs.Calls.Plan.{Client}
-use Rattle.cluster_calls.specs.Links.Happened.{Happened, Answered, CallMade, client_of}
+use Rattle.cluster_calls.specs.Links.Happened.{Happened, CallMade, client_of}
 use Rattle.cluster_calls.specs.Links.World.{World, is_linked}
 use Rattle.cluster_calls.proofs.LinkLaws.Played.{call_made}
 

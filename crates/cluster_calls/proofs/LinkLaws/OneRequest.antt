@@ -1,7 +1,7 @@
 -- The exchange of one request is one link call, and its reply is the one that the link answered.
 use Rattle.std.specs.Prelude.{slice_get, ⊤, ◌⊎◌, ◌||◌, ◌&&◌}
 use Rattle.std.specs.List.{list_any}
-use Rattle.std.proofs.Common.{◌≡◌, ◌≢◌, ℕ, ◌+◌, Bool, true, false, List, [], ◌∷◌, ◌++◌, Option, Some, None, Result, Ok, Err, refl, sym, ap, ◌∙◌, subst, inl, inr, arith, length}
+use Rattle.std.proofs.Common.{◌≡◌, ◌≢◌, ℕ, Bool, true, false, List, [], ◌∷◌, ◌++◌, Option, Some, None, Result, Ok, Err, refl, sym, ap, ◌∙◌, inl, inr, arith}
 use Rattle.resp_core.specs.Trees.{Tree}
 use Rattle.resp_core.specs.Errors.{Refusal, by_cause}
 use Rattle.resp_core.specs.declared.errors.redis_error.Cause.TheVariants.{Memory}
@@ -9,11 +9,11 @@ use Rattle.resp_link.specs.Call.{Seen}
 use Rattle.resp_link.specs.Replies.{replies_of}
 use Rattle.cluster_routing.specs.Address.{Address}
 use Rattle.cluster_calls.specs.Links.Request.{Request, bytes_of, skipped}
-use Rattle.cluster_calls.specs.Links.Log.{Exchange, is_moved, is_moved_reply}
+use Rattle.cluster_calls.specs.Links.Log.{is_moved, is_moved_reply}
 use Rattle.cluster_calls.specs.Links.World.{Node, Called, Calls, one_reply, link_at, is_usable, open_links}
 use Rattle.cluster_calls.specs.Links.Places.{IsOpenAt}
 use Rattle.cluster_calls.specs.Links.Faults.{LinkFault, refusal_by_fault}
-use Rattle.cluster_calls.specs.Links.Events.{Event, Ending, answers, fails, lacks_memory, EndsBy, LinkCalled, AgreesAt, is_memory_ending, is_answer_ending, exchanges_at, pair_up}
+use Rattle.cluster_calls.specs.Links.Events.{Event, Ending, answers, fails, lacks_memory, EndsBy, LinkCalled, AgreesAt, is_memory_ending, is_answer_ending, exchanges_at}
 use Rattle.cluster_calls.specs.Links.Exchanges.{Exchanges, not_begun, made}
 use Rattle.cluster_calls.proofs.LinkLaws.LinkEnds.{ending_of, ending_refusal, ended_refusal, had_memory_by, refusal_agrees, link_called_at}
 use Rattle.cluster_calls.proofs.LinkLaws.EndLaws.{single_answered, single_failed, ends_usable, ends_was_open}

@@ -1,7 +1,7 @@
 -- The errors in the replies to a pipeline, and the replies that are kept.
-use Rattle.std.proofs.Common.{◌≡◌, ℕ, suc, Bool, true, false, cond, List, [], ◌∷◌, ◌++◌, map, Option, Some, None, Result, Ok, Err, refl, sym, ap, ◌∙◌, append-nil, append_assoc}
+use Rattle.std.proofs.Common.{◌≡◌, ℕ, suc, Bool, true, false, cond, List, [], ◌∷◌, ◌++◌, Option, Some, None, Ok, Err, refl, sym, ap, ◌∙◌, append-nil, append_assoc}
 use Rattle.resp_core.specs.Trees.{Tree, ErrorText}
-use Rattle.resp_core.specs.Errors.{Refusal, by_servers}
+use Rattle.resp_core.specs.Errors.{by_servers}
 use Rattle.resp_core.specs.Parts.{first_error}
 use Rattle.cluster_routing.specs.Combine.{array_of}
 use Rattle.cluster_calls.specs.Calls.Answer.{unless}

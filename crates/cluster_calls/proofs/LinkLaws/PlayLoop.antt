@@ -1,12 +1,11 @@
 -- Calls played one after another.
-use Rattle.std.proofs.Common.{◌≡◌, ◌∙◌, Bool, true, false, List, [], ◌∷◌, ◌++◌, map, Option, Some, None, Result, Err, refl, sym, ap, subst}
-use Rattle.std.proofs.lemmas.List.{append-nil, map-append}
-use Rattle.cluster_routing.specs.Address.{Address}
+use Rattle.std.proofs.Common.{◌≡◌, ◌∙◌, Bool, true, List, [], ◌∷◌, ◌++◌, map, Option, refl, sym, ap}
+use Rattle.std.proofs.lemmas.List.{append-nil}
 use Rattle.cluster_routing.specs.Choice.{Strategy}
 use Rattle.cluster_calls.specs.Calls.Call.{Call}
 use Rattle.cluster_calls.specs.Links.Events.{Event}
 use Rattle.cluster_calls.specs.Links.Play.{PlaysOne, Plays, Shown, shown_of}
-use Rattle.cluster_calls.specs.Links.Run.{CallsMade, IsRun}
+use Rattle.cluster_calls.specs.Links.Run.{CallsMade}
 use Rattle.cluster_calls.specs.Links.World.{World}
 use Rattle.cluster_calls.specs.OneServer.Headline.{PlayedCall}
 use Rattle.cluster_calls.proofs.LinkLaws.PlayedRuns.{calls_more, is_run}

@@ -1,7 +1,6 @@
 -- A refresh, from its one link call.
-use Rattle.std.specs.Prelude.{filter, ◌||◌}
-use Rattle.std.specs.List.{list_any, AllByRecursion}
-use Rattle.std.proofs.Common.{◌≡◌, ◌≢◌, ℕ, Bool, true, false, cond, List, [], ◌∷◌, ◌++◌, map, inl, inr, Option, Some, None, refl, sym, ap, ◌∙◌, subst, append-nil, Result, Ok, Err}
+use Rattle.std.specs.Prelude.{◌||◌}
+use Rattle.std.proofs.Common.{◌≡◌, ◌≢◌, ℕ, true, false, List, [], ◌∷◌, ◌++◌, inl, inr, Option, Some, None, refl, sym, ap, ◌∙◌, subst, Result, Ok, Err}
 use Rattle.std.proofs.lemmas.Bool.{false≢true}
 use Rattle.resp_core.specs.Trees.{Tree, nil, int, bulk, array, simple, okay, set, attribute, double, boolean, verbatim, big_number, push, server_error, ErrorText}
 use Rattle.resp_core.specs.Trees as trees
@@ -10,29 +9,23 @@ use Rattle.resp_core.specs.Errors.{Refusal, by_cause, by_server, server_kind}
 use Rattle.resp_core.specs.declared.errors.server_error.ServerErrorKind.{ServerErrorKind}
 use Rattle.resp_core.specs.declared.errors.server_error.ServerErrorKind.TheVariants as kinds
 use Rattle.resp_core.specs.declared.errors.redis_error.Cause.TheVariants.{Memory, NoLink}
-use Rattle.resp_link.specs.Replies.{replies_of}
 use Rattle.cluster_routing.specs.Address.{Address}
 use Rattle.cluster_routing.specs.SlotMap.{put_all}
 use Rattle.cluster_routing.specs.SlotsReply.{ranges}
 use Rattle.cluster_calls.specs.Links.Request.{Request, slots_command, skipped}
-use Rattle.cluster_calls.specs.Links.Log.{Exchange, requests, is_data}
+use Rattle.cluster_calls.specs.Links.Log.{is_data}
 use Rattle.cluster_calls.specs.Links.Reply.{sort_of, error_sort}
 use Rattle.cluster_calls.specs.Links.World.{World, Node, open_links, is_linked, one_reply}
-use Rattle.cluster_calls.specs.Links.Faults.{LinkFault, refusal_by_fault}
-use Rattle.cluster_calls.specs.Links.Events.{Event, exchanges_of, Agrees, lack_memory}
+use Rattle.cluster_calls.specs.Links.Events.{lack_memory}
 use Rattle.cluster_calls.specs.Links.Places.{IsOpenAt}
 use Rattle.cluster_calls.specs.Links.Exchanges.{Exchanges}
-use Rattle.cluster_calls.specs.Links.Accepted.{IsAccepted}
-use Rattle.cluster_calls.specs.Links.Converted.{refresh_answer}
-use Rattle.cluster_calls.specs.Links.Happened.{client_of, Happened, Answered, LeavesMap, CallMade}
-use Rattle.cluster_calls.specs.Calls.Call.{Call, Refresh}
+use Rattle.cluster_calls.specs.Links.Happened.{Happened, CallMade}
+use Rattle.cluster_calls.specs.Calls.Call.{Refresh}
 use Rattle.cluster_calls.specs.Calls.Task.{slot_map_of}
-use Rattle.cluster_calls.specs.Calls.Plan.{plan}
-use Rattle.cluster_calls.specs.Calls.Answer.{Answer, Refreshed}
-use Rattle.cluster_calls.proofs.LinkLaws.FaultsAgree.{Agrees-last}
+use Rattle.cluster_calls.specs.Calls.Answer.{Refreshed}
 use Rattle.cluster_calls.proofs.LinkLaws.LinkCalls.{link_calls_made}
 use Rattle.cluster_calls.proofs.LinkLaws.OneCommand.{Untouched, nothing_happened, not_begun, refused_by}
-use Rattle.cluster_calls.proofs.LinkLaws.OneRequest.{exchanged_one, reply_in, single, OneMade, one_reply_is, one_had_memory, one_fault}
+use Rattle.cluster_calls.proofs.LinkLaws.OneRequest.{exchanged_one, single, OneMade, one_reply_is, one_had_memory, one_fault}
 use Rattle.cluster_calls.proofs.LinkLaws.Played.{call_made}
 use Rattle.cluster_calls.proofs.ServerLaws.Counted.{tree_answered}
 

@@ -1,5 +1,5 @@
 -- Runs of calls over honest nodes, from what the contract of `play` says.
-use Rattle.std.specs.Prelude.{◌≡◌, ℕ, Bool, true, Option, List, map}
+use Rattle.std.specs.Prelude.{◌≡◌, ℕ, Bool, true, Option, List}
 use Rattle.std.specs.List.{AllByRecursion}
 use Rattle.cluster_routing.specs.Choice.{Strategy}
 use Rattle.cluster_calls.specs.Calls.Call.{Call}

@@ -1,4 +1,4 @@
-use Rattle.std.proofs.Common.{◌≡◌, ℕ, ◌+◌, true, List, [], ◌∷◌, ◌++◌, map, length, refl, ap, subst}
+use Rattle.std.proofs.Common.{◌≡◌, ℕ, ◌+◌, true, List, [], ◌∷◌, ◌++◌, map, length, subst}
 use Rattle.std.specs.List.{AllByRecursion}
 use Rattle.resp_core.specs.Trees.{Tree}
 use Rattle.cluster_routing.specs.Address.{Address}
