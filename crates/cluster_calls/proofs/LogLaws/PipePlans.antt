@@ -25,7 +25,7 @@ use Rattle.cluster_calls.specs.Calls.Replies.{args_slot, slot_by, first_tuple_sl
 use Rattle.cluster_calls.specs.OneServer.Commands.{has_small_cursor}
 use Rattle.cluster_calls.specs.OneServer.Laws.{GapsNameNoKey}
 use Rattle.cluster_calls.specs.OneServer.Keyspace.{Step}
-use Rattle.cluster_calls.specs.OneServer.Meaning.{LeadsToSlot, DoCommand, DoesTuple, IsWholeStep, tree_of_steps, results}
+use Rattle.cluster_calls.specs.OneServer.Meaning.{LeadsToSlot, DoCommand, DoesTuple, IsWholeStep, tree_of_steps, step_trees}
 use Rattle.cluster_calls.proofs.ServerLaws.Distinct.{among-firsts}
 use Rattle.cluster_calls.proofs.ServerLaws.Recut.{cut_of}
 use Rattle.cluster_calls.proofs.LogLaws.Plans.{role, split_parts_are, whole_route, tuples_among, all-weaker}
@@ -79,7 +79,7 @@ module _ (command : Command) (part : Part) (p : parts_of [] command 0 ≡ Ok (pa
       or_none false h = h
 
       by : (o : Option Split) → split_of (sent command) ≡ o
-          → MatchOption o ((x : Step) × (st ≡ x ∷ []) × IsWholeStep (sent command) x tree) (λ sp. Pairwise (DoesTuple sp.splitting.policy sp.word sp.shared) sp.tuples st × (tree ≡ tree_of_steps sp.splitting.policy (results st)))
+          → MatchOption o ((x : Step) × (st ≡ x ∷ []) × IsWholeStep (sent command) x tree) (λ sp. Pairwise (DoesTuple sp.splitting.policy sp.word sp.shared) sp.tuples st × (tree ≡ tree_of_steps sp.splitting.policy (step_trees st)))
           → AllByRecursion (λ (x : Step). x.slot ≡ args_slot (sent command)) st
       by None e d =
           subst (AllByRecursion (λ (x : Step). x.slot ≡ args_slot (sent command))) (sym d.1)

@@ -24,7 +24,8 @@ use Rattle.cluster_calls.specs.Calls.Answer.{Answer, answer_in, reply_of, unless
 use Rattle.cluster_calls.specs.OneServer.Keyspace.{Keyspace, History}
 use Rattle.cluster_calls.specs.OneServer.Meaning.{Meaning, OneServer}
 use Rattle.cluster_calls.specs.OneServer.Honest.{Honest, Accounts, is_counted}
-use Rattle.cluster_calls.specs.OneServer.Commands.{task_commands, kept_of, kept_by, split_with, task_kept, counting, IsAnswerBy, IsTaskAnswer}
+use Rattle.cluster_calls.specs.OneServer.Commands.{task_operations, kept_of, kept_by, split_with, task_kept, counting, IsAnswerBy, IsTaskAnswer}
+use Rattle.cluster_calls.specs.OneServer.Operations.{Response, Reply, run_each}
 use Rattle.cluster_calls.proofs.ServerLaws.Draw.{pairwise-nil}
 use Rattle.cluster_calls.proofs.LogLaws.Plans.{IsFor, dispatches_for, sends_parts, role, split_parts_are, whole_part_is}
 use Rattle.cluster_calls.proofs.ServerLaws.Orders.{sends_ordered}
@@ -32,9 +33,9 @@ use Rattle.cluster_calls.proofs.ServerLaws.PartCall.{Sends, command_kept, comman
 
 -- a call is served by one server
 pub record CallServed (meaning : Meaning) (keys : Keyspace) (done : ℕ → Bool) (call : Call) (answer : Result Answer Refusal) (xs : List Exchange) (keys' : Keyspace) : Type 0 where
-  pub trees : List Tree
-  pub served : OneServer meaning keys (counting done call answer xs) trees keys'
-  pub answer_is : IsAnswerBy call answer trees
+  pub responses : List Response
+  pub served : OneServer meaning keys (counting done call answer xs) responses keys'
+  pub answer_is : IsAnswerBy call answer responses
 
 -- no exchange, no change
 pub nothing_done : (meaning : Meaning) (keys keys' : Keyspace) (done : ℕ → Bool) → Honest meaning keys done [] keys' → History keys [] keys'
@@ -122,24 +123,24 @@ plan_sends client picks call command number order ds t e = at_early (early_refus
 module _ (client : Client) (faults : Address → LinkFault) (meaning : Meaning) (keys keys' : Keyspace) (done : ℕ → Bool) (picks : List Address) (call : Call) (command : Command) (number : ℕ) (order : Option (List ℕ))
     (is_command : task_of call ≡ one_command command number order) (xs : List Exchange) (honest : Honest meaning keys done xs keys') where
   -- a refused call keeps what was counted
-  refused : (r : Refusal) → (trees : List Tree) × OneServer meaning keys (kept_of (sent command) (filter (is_counted done) xs)) trees keys' → CallServed meaning keys done call (Err r) xs keys'
-  refused r k = record { trees = k.0; served = subst (λ t. OneServer meaning keys (task_kept done t xs) k.0 keys') (sym is_command) k.1; answer_is = tt }
+  refused : (r : Refusal) → (responses : List Response) × OneServer meaning keys (run_each (kept_of (sent command) (filter (is_counted done) xs))) responses keys' → CallServed meaning keys done call (Err r) xs keys'
+  refused r k = record { responses = k.0; served = subst (λ t. OneServer meaning keys (task_kept done t xs) k.0 keys') (sym is_command) k.1; answer_is = tt }
 
-  unsent : xs ≡ [] → (trees : List Tree) × OneServer meaning keys (kept_of (sent command) (filter (is_counted done) xs)) trees keys'
+  unsent : xs ≡ [] → (responses : List Response) × OneServer meaning keys (run_each (kept_of (sent command) (filter (is_counted done) xs))) responses keys'
   unsent e =
       let h = subst (λ q. Honest meaning keys done q keys') e honest in
-      ([], subst (λ q. OneServer meaning keys q [] keys') (sym (kept_none (sent command)) ∙ ap (λ q. kept_of (sent command) (filter (is_counted done) q)) (sym e)) ([], tt, nothing_done meaning keys keys' done h))
+      ([], subst (λ q. OneServer meaning keys q [] keys') (ap run_each (sym (kept_none (sent command)) ∙ ap (λ q. kept_of (sent command) (filter (is_counted done) q)) (sym e))) ([], tt, nothing_done meaning keys keys' done h))
 
   module _ (ds : List Dispatch) (sends : Sends (sent command) ds (split_of (sent command))) (legal : PartByPart client ds xs) where
-    kept_here : (trees : List Tree) × OneServer meaning keys (kept_of (sent command) (filter (is_counted done) xs)) trees keys'
+    kept_here : (responses : List Response) × OneServer meaning keys (run_each (kept_of (sent command) (filter (is_counted done) xs))) responses keys'
     kept_here = command_kept meaning done (sent command) keys keys' client ds xs sends legal honest
 
     -- an answered call has its one reply from the server
     answered : part_refusal client faults (behind_answers xs) ≡ None → (tree : Tree) → reply_of_parts (sent command) (part_replies xs) ≡ Some tree → (answer : Answer) → answer_in call tree ≡ Some answer → CallServed meaning keys done call (Ok answer) xs keys'
     answered fine tree made answer e = record {
-      trees = tree ∷ [];
-      served = subst (λ t. OneServer meaning keys (task_commands t) (tree ∷ []) keys') (sym is_command) (command_told meaning done (sent command) keys keys' client faults ds xs sends legal honest fine tree made);
-      answer_is = subst (λ t. IsTaskAnswer call t answer (tree ∷ [])) (sym is_command) (tree, refl, e);
+      responses = Reply tree ∷ [];
+      served = subst (λ t. OneServer meaning keys (task_operations t) (Reply tree ∷ []) keys') (sym is_command) (command_told meaning done (sent command) keys keys' client faults ds xs sends legal honest fine tree made);
+      answer_is = subst (λ t. IsTaskAnswer call t answer (Reply tree ∷ [])) (sym is_command) (tree, refl, e);
     }
 
     by_answer : part_refusal client faults (behind_answers xs) ≡ None → (tree : Tree) → reply_of_parts (sent command) (part_replies xs) ≡ Some tree → (o : Option Answer) → answer_in call tree ≡ o → CallServed meaning keys done call (or_bad_reply o) xs keys'

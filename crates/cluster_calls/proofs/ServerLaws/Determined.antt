@@ -9,7 +9,8 @@ use Rattle.cluster_routing.specs.Routing.{destination}
 use Rattle.cluster_routing.specs.declared.policy.ResponsePolicy.{ResponsePolicy}
 use Rattle.cluster_calls.proofs.LogLaws.PipePlans.{leads_slot}
 use Rattle.cluster_calls.specs.OneServer.Keyspace.{Keyspace, Step, History, with_cell}
-use Rattle.cluster_calls.specs.OneServer.Meaning.{Meaning, DoCommand, DoesTuple, IsWholeStep, AreAllowed, DoAll, tree_of_steps, results}
+use Rattle.cluster_calls.specs.OneServer.Meaning.{Meaning, DoCommand, DoOperation, DoesTuple, IsWholeStep, AreAllowed, DoAll, tree_of_steps, step_trees}
+use Rattle.cluster_calls.specs.OneServer.Operations.{Operation, RunCommand, Response, Reply}
 use Rattle.cluster_calls.specs.OneServer.Laws.{IsDeterministic}
 use Rattle.cluster_calls.proofs.ServerLaws.Histories.{history_split, history_from}
 
@@ -43,22 +44,30 @@ twin_tuples meaning policy word shared (t ∷ ts) (x ∷ xs) (y ∷ ys) h k a b 
 twin_steps : (meaning : Meaning) (args : List (List ℕ)) (xs ys : List Step) (t u : Tree) → DoCommand args xs t → DoCommand args ys u → AreAllowed meaning xs → AreAllowed meaning ys → Pairwise (AreTwins meaning) xs ys × (xs ≡ ys → t ≡ u)
 twin_steps meaning args xs ys t u h k a b = by (split_of args) h k
   where
-    head_result : List Step → Tree → Tree
-    head_result [] d = d
-    head_result (x ∷ xs) d = x.result
+    first_response : List Step → Response
+    first_response [] = Reply t
+    first_response (x ∷ xs) = x.response
 
-    by : (o : Option Split) → MatchOption o ((x : Step) × (xs ≡ x ∷ []) × IsWholeStep args x t) (λ sp. Pairwise (DoesTuple sp.splitting.policy sp.word sp.shared) sp.tuples xs × (t ≡ tree_of_steps (sp.splitting.policy) (results xs)))
-        → MatchOption o ((y : Step) × (ys ≡ y ∷ []) × IsWholeStep args y u) (λ sp. Pairwise (DoesTuple sp.splitting.policy sp.word sp.shared) sp.tuples ys × (u ≡ tree_of_steps (sp.splitting.policy) (results ys)))
+    same_tree : Reply t ≡ Reply u → t ≡ u
+    same_tree e = cc
+
+    by : (o : Option Split) → MatchOption o ((x : Step) × (xs ≡ x ∷ []) × IsWholeStep args x t) (λ sp. Pairwise (DoesTuple sp.splitting.policy sp.word sp.shared) sp.tuples xs × (t ≡ tree_of_steps (sp.splitting.policy) (step_trees xs)))
+        → MatchOption o ((y : Step) × (ys ≡ y ∷ []) × IsWholeStep args y u) (λ sp. Pairwise (DoesTuple sp.splitting.policy sp.word sp.shared) sp.tuples ys × (u ≡ tree_of_steps (sp.splitting.policy) (step_trees ys)))
         → Pairwise (AreTwins meaning) xs ys × (xs ≡ ys → t ≡ u)
     by None h k =
         let ax = subst (AreAllowed meaning) h.1 a in
         let ay = subst (AreAllowed meaning) k.1 b in (
           subst (λ q. Pairwise (AreTwins meaning) q ys) (sym h.1) (subst (λ q. Pairwise (AreTwins meaning) (h.0 ∷ []) q) (sym k.1)
               (record { deed = h.2.deed ∙ sym k.2.deed; slot = sym (leads_slot h.0.slot (destination (map (λ bytes. Simple bytes) args) []) h.2.slot) ∙ leads_slot k.0.slot (destination (map (λ bytes. Simple bytes) args) []) k.2.slot; left = ax.0; right = ay.0 }, tt)),
-          λ e. sym h.2.result ∙ ap (λ q. head_result q t) (sym h.1 ∙ e ∙ k.1) ∙ k.2.result,
+          λ e. same_tree (sym h.2.response ∙ ap first_response (sym h.1 ∙ e ∙ k.1) ∙ k.2.response),
         )
     by (Some sp) h k =
-        (twin_tuples meaning sp.splitting.policy sp.word sp.shared sp.tuples xs ys h.0 k.0 a b, λ e. h.1 ∙ ap (λ q. tree_of_steps (sp.splitting.policy) (results q)) e ∙ sym k.1)
+        (twin_tuples meaning sp.splitting.policy sp.word sp.shared sp.tuples xs ys h.0 k.0 a b, λ e. h.1 ∙ ap (λ q. tree_of_steps (sp.splitting.policy) (step_trees q)) e ∙ sym k.1)
+
+twin_operations : (meaning : Meaning) (operation : Operation) (xs ys : List Step) (t u : Response) → DoOperation operation xs t → DoOperation operation ys u → AreAllowed meaning xs → AreAllowed meaning ys → Pairwise (AreTwins meaning) xs ys × (xs ≡ ys → t ≡ u)
+twin_operations meaning (RunCommand args) xs ys t u h k a b =
+    let w = twin_steps meaning args xs ys h.0 k.0 h.2 k.2 a b in
+    (w.0, λ e. h.1 ∙ ap Reply (w.1 e) ∙ sym k.1)
 
 twins-append : (meaning : Meaning) (xs ys us vs : List Step) → Pairwise (AreTwins meaning) xs ys → Pairwise (AreTwins meaning) us vs → Pairwise (AreTwins meaning) (xs ++ us) (ys ++ vs)
 twins-append meaning [] [] us vs h k = k
@@ -66,7 +75,7 @@ twins-append meaning [] (y ∷ ys) us vs h k = absurd h
 twins-append meaning (x ∷ xs) [] us vs h k = absurd h
 twins-append meaning (x ∷ xs) (y ∷ ys) us vs h k = (h.0, twins-append meaning xs ys us vs h.1 k)
 
-pub determined : (meaning : Meaning) → IsDeterministic meaning → (cs : List (List (List ℕ))) (ss rs : List (List Step)) (ts us : List Tree) (keys left right : Keyspace)
+pub determined : (meaning : Meaning) → IsDeterministic meaning → (cs : List Operation) (ss rs : List (List Step)) (ts us : List Response) (keys left right : Keyspace)
     → DoAll meaning cs ss ts → DoAll meaning cs rs us → History keys (concat ss) left → History keys (concat rs) right → (ts ≡ us) × ((slot : ℕ) → left slot ≡ right slot)
 determined meaning one [] [] [] [] [] keys left right h k c d = (refl, λ s. sym (c s) ∙ d s)
 determined meaning one [] [] [] [] (u ∷ us) keys left right h k c d = absurd k
@@ -80,7 +89,7 @@ determined meaning one (x ∷ cs) (s ∷ ss) (r ∷ rs) (t ∷ ts) [] keys left 
 determined meaning one (x ∷ cs) (s ∷ ss) (r ∷ rs) (t ∷ ts) (u ∷ us) keys left right h k c d =
     let a = history_split s (concat ss) keys left c in
     let b = history_split r (concat rs) keys right d in
-    let w = twin_steps meaning x s r t u h.0.0 k.0.0 h.0.1 k.0.1 in
+    let w = twin_operations meaning x s r t u h.0.0 k.0.0 h.0.1 k.0.1 in
     let e = twin_histories meaning one s r keys a.0 b.0 w.0 a.1.0 b.1.0 in
     let rest = determined meaning one cs ss rs ts us a.0 left right h.1 k.1 a.1.1 (history_from (concat rs) b.0 a.0 right (λ n. sym (e.1 n)) b.1.1) in
     (ap (λ q. q ∷ ts) (w.1 e.0) ∙ ap (λ q. u ∷ q) rest.0, rest.1)

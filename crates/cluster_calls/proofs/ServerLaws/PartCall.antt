@@ -9,7 +9,8 @@ use Rattle.cluster_routing.specs.Address.{Address}
 use Rattle.cluster_routing.specs.Split.{Split, split_of}
 use Rattle.cluster_routing.specs.Parts.{tuple_slot}
 use Rattle.cluster_calls.specs.OneServer.Keyspace.{Keyspace, Step, History}
-use Rattle.cluster_calls.specs.OneServer.Meaning.{Meaning, DoesTuple, IsWholeStep, DoCommand, OneServer, tree_of_steps, results}
+use Rattle.cluster_calls.specs.OneServer.Meaning.{Meaning, DoesTuple, IsWholeStep, DoCommand, OneServer, tree_of_steps, step_trees}
+use Rattle.cluster_calls.specs.OneServer.Operations.{RunCommand, Response, Reply, response_by, run_each}
 use Rattle.cluster_routing.specs.Combine.{combine_by}
 use Rattle.cluster_calls.specs.Links.Log.{Exchange, is_answered, is_data_reply, behind_answers}
 use Rattle.cluster_calls.specs.Calls.Plan.{Client, Dispatch}
@@ -50,18 +51,21 @@ pub filter_all : {X : Type 0} (q : X → Bool) (xs : List X) → AllByRecursion 
 filter_all q [] h = refl
 filter_all q (x ∷ xs) h = ap (λ b. cond b (x ∷ filter q xs) (filter q xs)) h.0 ∙ ap (λ zs. x ∷ zs) (filter_all q xs h.1)
 
-pub reply_is : (x : Exchange) (tree : Tree) → is_answered x ≡ true → IfSome x.reply (λ told. told ≡ tree) → reply_or_nil x ≡ tree
-reply_is x tree a h = by x.reply a h
+pub reply_is : (meaning : Meaning) (x : Exchange) (steps : List Step) → is_answered x ≡ true → (h : IsDoneBy meaning x steps) → reply_or_nil x ≡ h.done.0
+reply_is meaning x steps a h = by x.reply a h.reply
   where
-    by : (r : Option Tree) → is_data_reply r ≡ true → IfSome r (λ told. told ≡ tree) → unwrap_or r nil ≡ tree
-    by None a h = absurd (false≢true a)
-    by (Some t) a h = h
+    same : (t : Tree) → Reply t ≡ Reply h.done.0 → t ≡ h.done.0
+    same t e = cc
+
+    by : (r : Option Tree) → is_data_reply r ≡ true → IfSome r (λ tree. response_by (RunCommand x.request.args) tree ≡ h.response) → unwrap_or r nil ≡ h.done.0
+    by None a e = absurd (false≢true a)
+    by (Some t) a e = same t (e ∙ h.done.1)
 
 module _ (meaning : Meaning) (done : ℕ → Bool) (args : List (List ℕ)) (keys keys' : Keyspace) where
   -- ---- what is kept
 
   whole_kept : (d : Dispatch) → d.args ≡ args → (begun later : List Dispatch) → d ∷ [] ≡ begun ++ later → (xs : List Exchange) → Pairwise (λ (d : Dispatch) (x : Exchange). x.request.args ≡ d.args) begun xs
-      → (sts : List (List Step)) → Pairwise (IsDoneBy meaning) xs sts → History keys (concat sts) keys' → (trees_of : List Tree) × OneServer meaning keys (kept_by args None xs) trees_of keys'
+      → (sts : List (List Step)) → Pairwise (IsDoneBy meaning) xs sts → History keys (concat sts) keys' → (responses : List Response) × OneServer meaning keys (run_each (kept_by args None xs)) responses keys'
   whole_kept d e begun later all [] p [] h c = ([], ([], tt, c))
   whole_kept d e begun later all [] p (st ∷ sts) h c = absurd h
   whole_kept d e begun later all (x ∷ xs) p [] h c = absurd h
@@ -72,10 +76,10 @@ module _ (meaning : Meaning) (done : ℕ → Bool) (args : List (List ℕ)) (key
   whole_kept d e (d2 ∷ []) later all (x ∷ []) p (st ∷ []) h c =
       let same : d ≡ d2 = cc in
       let is_args : x.request.args ≡ args = p.0 ∙ ap (λ (b : Dispatch). b.args) (sym same) ∙ e in
-      (h.0.tree ∷ [], (st ∷ [], ((subst (λ a. DoCommand a st h.0.tree) is_args h.0.done, h.0.allowed), tt), c))
+      (h.0.response ∷ [], (st ∷ [], (((h.0.done.0, h.0.done.1, subst (λ a. DoCommand a st h.0.done.0) is_args h.0.done.2), h.0.allowed), tt), c))
 
   pub command_kept : (client : Client) (ds : List Dispatch) (xs : List Exchange) → Sends args ds (split_of args) → PartByPart client ds xs → Honest meaning keys done xs keys'
-      → (trees_of : List Tree) × OneServer meaning keys (kept_of args (filter (is_counted done) xs)) trees_of keys'
+      → (responses : List Response) × OneServer meaning keys (run_each (kept_of args (filter (is_counted done) xs))) responses keys'
   command_kept client ds xs sends legal honest = by (split_of args) refl sends
     where
       begun : Begun done ds xs
@@ -87,7 +91,7 @@ module _ (meaning : Meaning) (done : ℕ → Bool) (args : List (List ℕ)) (key
       history : History keys (concat steps.0) keys'
       history = subst (λ q. History keys q keys') (sym steps.2) honest.2
 
-      by : (o : Option Split) → split_of args ≡ o → Sends args ds o → (trees_of : List Tree) × OneServer meaning keys (kept_by args o (filter (is_counted done) xs)) trees_of keys'
+      by : (o : Option Split) → split_of args ≡ o → Sends args ds o → (responses : List Response) × OneServer meaning keys (run_each (kept_by args o (filter (is_counted done) xs))) responses keys'
       by None e s = whole_kept s.0 s.2 begun.begun begun.later (sym s.1 ∙ begun.all) (filter (is_counted done) xs) begun.args steps.0 steps.1 history
       by (Some split) e s =
           let parts = parts_done_steps meaning args split e begun.begun (all-front (IsDispatchOf split) begun.begun begun.later (subst (AllByRecursion (IsDispatchOf split)) begun.all s.each))
@@ -109,14 +113,14 @@ module _ (meaning : Meaning) (done : ℕ → Bool) (args : List (List ℕ)) (key
   tells split e (d ∷ ds) w (x ∷ xs) p a (st ∷ sts) h =
       let here = part_done meaning args split e d w.0 x p.0 st h.0 in (
         record {
-          tree_is = reply_is x h.0.tree a.0 h.0.reply ∙ here.tree_is;
+          tree_is = reply_is meaning x st a.0 h.0 ∙ here.tree_is;
           slots = subst (λ n. AllByRecursion (λ (y : Step). y.slot ≡ n) st) (sym here.slot_is) (part_on_slot meaning split.splitting.policy split.word split.shared (args_slot d.args) split.tuples st here.steps);
         },
         tells split e ds w.1 xs p.1 a.1 sts h.1,
       )
 
   split_told : (split : Split) (e : split_of args ≡ Some split) (ds : List Dispatch) → SendsParts split ds → (xs : List Exchange) → AllDone done ds xs → (sts : List (List Step)) → Pairwise (IsDoneBy meaning) (filter (is_counted done) xs) sts
-      → History keys (concat sts) keys' → (tree : Tree) → reply_by_split (Some split) (part_replies xs) ≡ Some tree → OneServer meaning keys (args ∷ []) (tree ∷ []) keys'
+      → History keys (concat sts) keys' → (tree : Tree) → reply_by_split (Some split) (part_replies xs) ≡ Some tree → OneServer meaning keys (run_each (args ∷ [])) (Reply tree ∷ []) keys'
   split_told split e ds s xs all sts h c tree told =
       let counted = filter (is_counted done) xs in
       let parts = parts_done_steps meaning args split e ds s.each counted all.args sts h in
@@ -131,7 +135,7 @@ module _ (meaning : Meaning) (done : ℕ → Bool) (args : List (List ℕ)) (key
         g.steps ∷ [],
         (
           (
-            subst (λ o. MatchOption o ((y : Step) × (g.steps ≡ y ∷ []) × IsWholeStep args y tree) (λ sp. Pairwise (DoesTuple sp.splitting.policy sp.word sp.shared) sp.tuples g.steps × (tree ≡ tree_of_steps (sp.splitting.policy) (results g.steps)))) (sym e) (g.does, tree_is),
+            (tree, refl, subst (λ o. MatchOption o ((y : Step) × (g.steps ≡ y ∷ []) × IsWholeStep args y tree) (λ sp. Pairwise (DoesTuple sp.splitting.policy sp.word sp.shared) sp.tuples g.steps × (tree ≡ tree_of_steps (sp.splitting.policy) (step_trees g.steps)))) (sym e) (g.does, tree_is)),
             g.allowed,
           ),
           tt,
@@ -140,23 +144,23 @@ module _ (meaning : Meaning) (done : ℕ → Bool) (args : List (List ℕ)) (key
       )
 
   whole_told : (d : Dispatch) → d.args ≡ args → (xs : List Exchange) → AllDone done (d ∷ []) xs → (sts : List (List Step)) → Pairwise (IsDoneBy meaning) (filter (is_counted done) xs) sts
-      → History keys (concat sts) keys' → (tree : Tree) → reply_by_split None (part_replies xs) ≡ Some tree → OneServer meaning keys (args ∷ []) (tree ∷ []) keys'
+      → History keys (concat sts) keys' → (tree : Tree) → reply_by_split None (part_replies xs) ≡ Some tree → OneServer meaning keys (run_each (args ∷ [])) (Reply tree ∷ []) keys'
   whole_told d e xs all sts h c tree told =
       by (filter (is_counted done) xs) all.args all.answered sts h c (subst (λ q. reply_by_split None (map (λ x. record { slot = exchange_slot x; tree = reply_or_nil x }) q) ≡ Some tree) all.answers told)
     where
       by : (ys : List Exchange) → Pairwise (λ (d : Dispatch) (x : Exchange). x.request.args ≡ d.args) (d ∷ []) ys → AllByRecursion (λ x. is_answered x ≡ true) ys → (sts : List (List Step)) → Pairwise (IsDoneBy meaning) ys sts → History keys (concat sts) keys'
-          → reply_by_split None (map (λ x. record { slot = exchange_slot x; tree = reply_or_nil x }) ys) ≡ Some tree → OneServer meaning keys (args ∷ []) (tree ∷ []) keys'
+          → reply_by_split None (map (λ x. record { slot = exchange_slot x; tree = reply_or_nil x }) ys) ≡ Some tree → OneServer meaning keys (run_each (args ∷ [])) (Reply tree ∷ []) keys'
       by [] p a sts h c t = absurd p
       by (y ∷ z ∷ ys) p a sts h c t = absurd p.1
       by (y ∷ []) p a [] h c t = absurd h
       by (y ∷ []) p a (st ∷ st2 ∷ sts) h c t = absurd h.1
       by (y ∷ []) p a (st ∷ []) h c t =
           let told_is : reply_or_nil y ≡ tree = cc in
-          let same : h.0.tree ≡ tree = sym (reply_is y h.0.tree a.0 h.0.reply) ∙ told_is in
-          (st ∷ [], ((subst (λ a. DoCommand a st tree) (p.0 ∙ e) (subst (λ t. DoCommand y.request.args st t) same h.0.done), h.0.allowed), tt), c)
+          let same : h.0.done.0 ≡ tree = sym (reply_is meaning y st a.0 h.0) ∙ told_is in
+          (st ∷ [], (((tree, refl, subst (λ a. DoCommand a st tree) (p.0 ∙ e) (subst (λ t. DoCommand y.request.args st t) same h.0.done.2)), h.0.allowed), tt), c)
 
   pub command_told : (client : Client) (faults : Address → LinkFault) (ds : List Dispatch) (xs : List Exchange) → Sends args ds (split_of args) → PartByPart client ds xs → Honest meaning keys done xs keys'
-      → part_refusal client faults (behind_answers xs) ≡ None → (tree : Tree) → reply_of_parts args (part_replies xs) ≡ Some tree → OneServer meaning keys (args ∷ []) (tree ∷ []) keys'
+      → part_refusal client faults (behind_answers xs) ≡ None → (tree : Tree) → reply_of_parts args (part_replies xs) ≡ Some tree → OneServer meaning keys (run_each (args ∷ [])) (Reply tree ∷ []) keys'
   command_told client faults ds xs sends legal honest fine tree told = by (split_of args) refl sends told
     where
       all : AllDone done ds xs
@@ -168,6 +172,6 @@ module _ (meaning : Meaning) (done : ℕ → Bool) (args : List (List ℕ)) (key
       history : History keys (concat steps.0) keys'
       history = subst (λ q. History keys q keys') (sym steps.2) honest.2
 
-      by : (o : Option Split) → split_of args ≡ o → Sends args ds o → reply_by_split o (part_replies xs) ≡ Some tree → OneServer meaning keys (args ∷ []) (tree ∷ []) keys'
+      by : (o : Option Split) → split_of args ≡ o → Sends args ds o → reply_by_split o (part_replies xs) ≡ Some tree → OneServer meaning keys (run_each (args ∷ [])) (Reply tree ∷ []) keys'
       by None e s t = whole_told s.0 s.2 xs (subst (λ q. AllDone done q xs) s.1 all) steps.0 steps.1 history tree t
       by (Some split) e s t = split_told split e ds s xs all steps.0 steps.1 history tree t

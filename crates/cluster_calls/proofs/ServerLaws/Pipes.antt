@@ -26,6 +26,7 @@ use Rattle.cluster_calls.specs.Calls.Replies.{args_slot, pipeline_reply, not_ign
 use Rattle.cluster_calls.specs.Calls.Refusals.{pipeline_refusal, errors_from, with_error}
 use Rattle.resp_core.specs.Parts.{first_error}
 use Rattle.cluster_calls.specs.OneServer.Honest.{Honest, Accounts, IsDoneBy, is_counted}
+use Rattle.cluster_calls.specs.OneServer.Operations.{Reply, run_each}
 use Rattle.cluster_calls.proofs.ServerLaws.Histories.{history_same_slots}
 use Rattle.cluster_calls.proofs.ServerLaws.Regroup.{filter-group_by_group}
 use Rattle.cluster_calls.proofs.ServerLaws.Distinct.{firsts_distinct, among-firsts}
@@ -146,7 +147,7 @@ steps_on meaning done Q (d ∷ ds) [] h = absurd h
 steps_on meaning done Q (d ∷ ds) (z ∷ zs) h = (by (is_counted done z.0) h.0.accounts, steps_on meaning done Q ds zs h.1)
   where
     by : (b : Bool) → MatchBool b (IsDoneBy meaning z.0 z.1) (z.1 ≡ []) → AllByRecursion (λ (x : Step). x.slot ≡ exchange_slot z.0) z.1
-    by true a = subst (λ q. AllByRecursion (λ (x : Step). x.slot ≡ args_slot q) z.1) (sym h.0.args) (h.0.one z.1 a.tree (subst (λ q. DoCommand q z.1 a.tree) h.0.args a.done))
+    by true a = subst (λ q. AllByRecursion (λ (x : Step). x.slot ≡ args_slot q) z.1) (sym h.0.args) (h.0.one z.1 a.done.0 (subst (λ q. DoCommand q z.1 a.done.0) h.0.args a.done.2))
     by false a = subst (AllByRecursion (λ (x : Step). x.slot ≡ exchange_slot z.0)) (sym a) tt
 
 accounts_of : (meaning : Meaning) (done : ℕ → Bool) (Q : Exchange → Type 0) (ds : List Dispatch) (zs : List (Exchange × List Step)) → Pairwise (Matches meaning done Q) ds zs
@@ -258,13 +259,13 @@ module _ (client : Client) (meaning : Meaning) (done : ℕ → Bool) (Q : Exchan
 -- ---- the call
 
 counted_trees : (meaning : Meaning) (cs : List Exchange) (ts : List (List Step)) → Pairwise (IsDoneBy meaning) cs ts
-    → (trees_of : List Tree) × DoAll meaning (map (λ (x : Exchange). x.request.args) cs) ts trees_of × (AllByRecursion (λ x. is_answered x ≡ true) cs → map reply_or_nil cs ≡ trees_of)
+    → (trees : List Tree) × DoAll meaning (run_each (map (λ (x : Exchange). x.request.args) cs)) ts (map Reply trees) × (AllByRecursion (λ x. is_answered x ≡ true) cs → map reply_or_nil cs ≡ trees)
 counted_trees meaning [] [] h = ([], tt, λ a. refl)
 counted_trees meaning [] (t ∷ ts) h = absurd h
 counted_trees meaning (c ∷ cs) [] h = absurd h
 counted_trees meaning (c ∷ cs) (t ∷ ts) h =
     let r = counted_trees meaning cs ts h.1 in
-    (h.0.tree ∷ r.0, ((h.0.done, h.0.allowed), r.1), λ a. ap (λ q. q ∷ map reply_or_nil cs) (reply_is c h.0.tree a.0 h.0.reply) ∙ ap (λ q. h.0.tree ∷ q) (r.2 a.1))
+    (h.0.done.0 ∷ r.0, (((h.0.done.0, refl, h.0.done.2), h.0.allowed), r.1), λ a. ap (λ q. q ∷ map reply_or_nil cs) (reply_is meaning c t a.0 h.0) ∙ ap (λ q. h.0.done.0 ∷ q) (r.2 a.1))
 
 drawn_none : (ks : List ℕ) (f : ℕ → List Exchange) → ((s : ℕ) → f s ≡ []) → draw ks f ≡ []
 drawn_none [] f h = refl
@@ -372,8 +373,8 @@ pipeline_served client faults meaning keys keys' done picks entries xs gaps smal
     unsent e r s =
         let nothing : in_pipeline_order entries xs ≡ [] = ap (in_pipeline_order entries) e ∙ drawn_none (map (λ (x : Entry). args_slot (sent x.command)) entries) (λ slot. with_slot slot []) (λ n. refl) in
         record {
-          trees = [];
-          served = subst (λ q. OneServer meaning keys (map (λ (x : Exchange). x.request.args) (filter (is_counted done) q)) [] keys') (sym nothing) ([], tt, nothing_done meaning keys keys' done (subst (λ q. Honest meaning keys done q keys') e honest));
+          responses = [];
+          served = subst (λ q. OneServer meaning keys (run_each (map (λ (x : Exchange). x.request.args) (filter (is_counted done) q))) [] keys') (sym nothing) ([], tt, nothing_done meaning keys keys' done (subst (λ q. Honest meaning keys done q keys') e honest));
           answer_is = tt;
         }
 
@@ -383,7 +384,7 @@ pipeline_served client faults meaning keys keys' done picks entries xs gaps smal
         let o = log_in_order client meaning done (λ x. Unit {0}) entries ds f.0 f.1 r.first distinct xs r.pairs (all_true xs) keys keys' honest in
         let c = counted_steps meaning done (in_pipeline_order entries xs) o.honest.0 o.honest.1 in
         let t = counted_trees meaning (filter (is_counted done) (in_pipeline_order entries xs)) c.0 c.1 in
-        record { trees = t.0; served = (c.0, t.1, subst (λ q. History keys q keys') (sym c.2) o.honest.2); answer_is = tt }
+        record { responses = map Reply t.0; served = (c.0, t.1, subst (λ q. History keys q keys') (sym c.2) o.honest.2); answer_is = tt }
     at_refusal ds f r None e =
         let fine = fine_pipeline faults xs (errors_from 0 (in_pipeline_order entries xs)) e in
         let distinct = distinct-front same_address r.first r.later (subst (IsDistinct same_address) r.all (firsts_distinct same_address (map (λ (d : Dispatch). d.node) ds))) in
@@ -399,9 +400,9 @@ pipeline_served client faults meaning keys keys' done picks entries xs gaps smal
         ∙ filter_all (λ (d : Dispatch). among same_address (primary_of client (args_slot d.args)) (nodes_in_use ds)) ds (nodes_reached client ds ds f.0 (λ a g. among-firsts same_address same_true a (map (λ (d : Dispatch). d.node) ds) g)) in
         let args : map (λ (x : Exchange). x.request.args) ys ≡ map (λ (x : Entry). sent x.command) entries = o.args ∙ ap (map (λ (d : Dispatch). d.args)) sent_all ∙ entry_args entries ds f.1 in
         record {
-          trees = t.0;
-          served = subst (λ q. OneServer meaning keys q t.0 keys') args (c.0, t.1, subst (λ q. History keys q keys') (sym c.2) o.honest.2);
-          answer_is = ap (λ q. Value (array_of (not_ignored entries q))) (t.2 answered);
+          responses = map Reply t.0;
+          served = subst (λ q. OneServer meaning keys (run_each q) (map Reply t.0) keys') args (c.0, t.1, subst (λ q. History keys q keys') (sym c.2) o.honest.2);
+          answer_is = (t.0, refl, ap (λ q. Value (array_of (not_ignored entries q))) (t.2 answered));
         }
 
     at_parts : (o : Result (List Part) Refusal) → pipeline_parts 0 entries ≡ o → MatchResult (result_then o (λ parts. result_then (dispatches client picks parts) (λ ds. Ok ds))) (λ ds. NodeByNode (node_groups ds) xs) (λ refusal. xs ≡ [])

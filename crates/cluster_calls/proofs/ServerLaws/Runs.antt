@@ -1,7 +1,6 @@
 -- A run is as good as one server, and is refused as its kinds say.
 use Rattle.std.proofs.Common.{◌≡◌, ℕ, suc, Bool, true, List, [], ◌∷◌, ◌++◌, map, length, Option, Some, None, Result, Ok, Err, refl, sym, ap, ◌∙◌, subst, append_assoc}
 use Rattle.std.proofs.lemmas.Bool.{false≢true}
-use Rattle.resp_core.specs.Trees.{Tree}
 use Rattle.resp_core.specs.Errors.{Refusal}
 use Rattle.cluster_routing.specs.Address.{Address}
 use Rattle.cluster_routing.specs.Choice.{Strategy}
@@ -21,6 +20,7 @@ use Rattle.resp_core.specs.Parts.{or_else}
 use Rattle.cluster_calls.specs.Calls.After.{client_after}
 use Rattle.cluster_calls.specs.OneServer.Keyspace.{Keyspace, Step, History}
 use Rattle.cluster_calls.specs.OneServer.Meaning.{Meaning, DoAll, OneServer}
+use Rattle.cluster_calls.specs.OneServer.Operations.{Operation, Response}
 use Rattle.cluster_calls.specs.OneServer.Honest.{Honest, Accounts, HonestRun, AccountsFor}
 use Rattle.cluster_calls.specs.OneServer.Commands.{is_on_slots, counting}
 use Rattle.cluster_calls.specs.OneServer.Headline.{RepliedCall, task_log, command_log, command_logs, all_counting, IsPlayedFrom, AsOneServer, AreOnSlots, RefusedByKind}
@@ -55,7 +55,7 @@ of_one_call meaning done call xs keys keys' h = (h.0, walk xs h.0 h.1, h.2)
     walk (y ∷ ys) [] g = absurd g
     walk (y ∷ ys) (s ∷ ss) g = (g.0, walk ys ss g.1)
 
-do_all-append : (meaning : Meaning) (cs ds : List (List (List ℕ))) (ss rs : List (List Step)) (ts us : List Tree) → DoAll meaning cs ss ts → DoAll meaning ds rs us → DoAll meaning (cs ++ ds) (ss ++ rs) (ts ++ us)
+do_all-append : (meaning : Meaning) (cs ds : List Operation) (ss rs : List (List Step)) (ts us : List Response) → DoAll meaning cs ss ts → DoAll meaning ds rs us → DoAll meaning (cs ++ ds) (ss ++ rs) (ts ++ us)
 do_all-append meaning [] ds [] rs [] us h k = k
 do_all-append meaning (c ∷ cs) ds (s ∷ ss) rs (t ∷ ts) us h k = (h.0, do_all-append meaning cs ds ss rs ts us h.1 k)
 do_all-append meaning [] ds [] rs (t ∷ ts) us h k = absurd h
@@ -63,7 +63,7 @@ do_all-append meaning [] ds (s ∷ ss) rs ts us h k = absurd h
 do_all-append meaning (c ∷ cs) ds [] rs ts us h k = absurd h
 do_all-append meaning (c ∷ cs) ds (s ∷ ss) rs [] us h k = absurd h
 
-do_all_length : (meaning : Meaning) (cs : List (List (List ℕ))) (ss : List (List Step)) (ts : List Tree) → DoAll meaning cs ss ts → length ts ≡ length cs
+do_all_length : (meaning : Meaning) (cs : List Operation) (ss : List (List Step)) (ts : List Response) → DoAll meaning cs ss ts → length ts ≡ length cs
 do_all_length meaning [] [] [] h = refl
 do_all_length meaning (c ∷ cs) (s ∷ ss) (t ∷ ts) h = ap suc (do_all_length meaning cs ss ts h.1)
 do_all_length meaning [] [] (t ∷ ts) h = absurd h
@@ -71,7 +71,7 @@ do_all_length meaning [] (s ∷ ss) ts h = absurd h
 do_all_length meaning (c ∷ cs) [] ts h = absurd h
 do_all_length meaning (c ∷ cs) (s ∷ ss) [] h = absurd h
 
-one_server-join : (meaning : Meaning) (cs ds : List (List (List ℕ))) (ts us : List Tree) (keys mid keys' : Keyspace) → OneServer meaning keys cs ts mid → OneServer meaning mid ds us keys' → OneServer meaning keys (cs ++ ds) (ts ++ us) keys'
+one_server-join : (meaning : Meaning) (cs ds : List Operation) (ts us : List Response) (keys mid keys' : Keyspace) → OneServer meaning keys cs ts mid → OneServer meaning mid ds us keys' → OneServer meaning keys (cs ++ ds) (ts ++ us) keys'
 one_server-join meaning cs ds ts us keys mid keys' h k = (
   h.0 ++ k.0,
   do_all-append meaning cs ds h.0 k.0 ts us h.1 k.1,
@@ -89,14 +89,14 @@ call_served client faults meaning keys keys' done picks (FanOut command) xs gaps
 call_served client faults meaning keys keys' done picks (Refresh node) xs gaps s legal honest = by (plan client picks (Refresh node)) (sent_refusal client faults (task_of (Refresh node)) xs)
   where
     by : (o : Result (List Dispatch) Refusal) (r : Option Refusal) → CallServed meaning keys done (Refresh node) (result_then o (λ ds. unless r (Ok Refreshed))) xs keys'
-    by (Err e) r = record { trees = []; served = ([], tt, nothing_done meaning keys keys' done honest); answer_is = tt }
-    by (Ok ds) (Some e) = record { trees = []; served = ([], tt, nothing_done meaning keys keys' done honest); answer_is = tt }
-    by (Ok ds) None = record { trees = []; served = ([], tt, nothing_done meaning keys keys' done honest); answer_is = (refl, refl) }
+    by (Err e) r = record { responses = []; served = ([], tt, nothing_done meaning keys keys' done honest); answer_is = tt }
+    by (Ok ds) (Some e) = record { responses = []; served = ([], tt, nothing_done meaning keys keys' done honest); answer_is = tt }
+    by (Ok ds) None = record { responses = []; served = ([], tt, nothing_done meaning keys keys' done honest); answer_is = (refl, refl) }
 
 -- the whole run
 pub run_served : (strategy : Option Strategy) (faults : Address → LinkFault) (meaning : Meaning) (done : ℕ → Bool) (ts : List RepliedCall) (client : Client) (keys keys' : Keyspace) → GapsNameNoKey
     → AreOnSlots ts → IsPlayedFrom strategy client faults ts → HonestRun meaning keys done (command_logs ts) keys' → AsOneServer meaning keys done ts keys'
-run_served strategy faults meaning done [] client keys keys' gaps on h honest = record { trees = []; counts = tt; served = ([], tt, nothing_done meaning keys keys' done (none_done honest)); answers = tt }
+run_served strategy faults meaning done [] client keys keys' gaps on h honest = record { responses = []; counts = tt; served = ([], tt, nothing_done meaning keys keys' done (none_done honest)); answers = tt }
   where
     none_done : HonestRun meaning keys done [] keys' → Honest meaning keys done [] keys'
     none_done h = (h.0, none h.0 h.1, h.2)
@@ -109,9 +109,9 @@ run_served strategy faults meaning done (t ∷ ts) client keys keys' gaps on h h
     let here = subst (λ a. CallServed meaning keys done t.call a t.log s.0) (sym h.2) (call_served client faults meaning keys s.0 done t.picks t.call t.log gaps on.0 h.1 (of_one_call meaning done t.call (task_log (task_of t.call) t.log) keys s.0 s.1.0)) in
     let later = run_served strategy faults meaning done ts (client_after client t.call t.log) s.0 keys' gaps on.1 h.3 s.1.1 in
     record {
-      trees = here.trees ∷ later.trees;
-      counts = (do_all_length meaning (counting done t.call t.answer t.log) here.served.0 here.trees here.served.1, later.counts);
-      served = one_server-join meaning (counting done t.call t.answer t.log) (all_counting done ts) here.trees (concat later.trees) keys s.0 keys' here.served later.served;
+      responses = here.responses ∷ later.responses;
+      counts = (do_all_length meaning (counting done t.call t.answer t.log) here.served.0 here.responses here.served.1, later.counts);
+      served = one_server-join meaning (counting done t.call t.answer t.log) (all_counting done ts) here.responses (concat later.responses) keys s.0 keys' here.served later.served;
       answers = (here.answer_is, later.answers);
     }
 

@@ -7,7 +7,8 @@ use Rattle.cluster_routing.specs.Parts.{Tuple, tuple_slot}
 use Rattle.cluster_routing.specs.Split.{Split, split_of, part_tuples, sub, join_split}
 use Rattle.cluster_calls.specs.Calls.Replies.{slot_by, args_slot, exchange_slot}
 use Rattle.cluster_calls.specs.OneServer.Keyspace.{Keyspace, Step, History, on_slot}
-use Rattle.cluster_calls.specs.OneServer.Meaning.{Meaning, DoesTuple, IsWholeStep, AreAllowed, DoCommand, OneServer, tree_of_steps, results}
+use Rattle.cluster_calls.specs.OneServer.Meaning.{Meaning, DoesTuple, IsWholeStep, AreAllowed, DoCommand, OneServer, tree_of_steps, step_trees}
+use Rattle.cluster_calls.specs.OneServer.Operations.{Response, Reply, run_each}
 use Rattle.cluster_calls.specs.Links.Log.{Exchange}
 use Rattle.cluster_calls.specs.Calls.Plan.{Dispatch}
 use Rattle.cluster_calls.specs.OneServer.Honest.{IsDoneBy}
@@ -34,13 +35,13 @@ module _ (meaning : Meaning) (args : List (List ℕ)) (split : Split) (is_split 
   -- what a counted request of a part did
   pub record PartDone (d : Dispatch) (x : Exchange) (st : List Step) (tree : Tree) : Type 0 where
     pub steps : Pairwise (DoesAllowed meaning split.splitting.policy split.word split.shared) (part_tuples (args_slot d.args) split.tuples) st
-    pub tree_is : tree ≡ tree_of_steps (split.splitting.policy) (results st)
+    pub tree_is : tree ≡ tree_of_steps (split.splitting.policy) (step_trees st)
     pub slot_is : exchange_slot x ≡ (args_slot d.args)
 
-  pub part_done : (d : Dispatch) → IsDispatchOf split d → (x : Exchange) → x.request.args ≡ d.args → (st : List Step) → (h : IsDoneBy meaning x st) → PartDone d x st h.tree
+  pub part_done : (d : Dispatch) → IsDispatchOf split d → (x : Exchange) → x.request.args ≡ d.args → (st : List Step) → (h : IsDoneBy meaning x st) → PartDone d x st h.done.0
   part_done d w x e st h =
       let p = reparsed d w x e in
-      let does = subst (λ o. MatchOption o ((s : Step) × (st ≡ s ∷ []) × IsWholeStep x.request.args s h.tree) (λ sp. Pairwise (DoesTuple sp.splitting.policy sp.word sp.shared) sp.tuples st × (h.tree ≡ tree_of_steps (sp.splitting.policy) (results st)))) p h.done in
+      let does = subst (λ o. MatchOption o ((s : Step) × (st ≡ s ∷ []) × IsWholeStep x.request.args s h.done.0) (λ sp. Pairwise (DoesTuple sp.splitting.policy sp.word sp.shared) sp.tuples st × (h.done.0 ≡ tree_of_steps (sp.splitting.policy) (step_trees st)))) p h.done.2 in
       record {
         steps = subst (λ us. Pairwise (DoesAllowed meaning split.splitting.policy split.word split.shared) us st) (sym w.some.2)
             (pairwise-zip (DoesTuple split.splitting.policy split.word split.shared) (Contains meaning) (w.some.0 ∷ w.some.1) st does.0 h.allowed);
@@ -94,20 +95,20 @@ module _ (meaning : Meaning) (args : List (List ℕ)) (split : Split) (is_split 
 
   -- a split command with some of the tuples, done by these steps
   does_some : (us : List Tuple) (q : Tuple → Bool) (t : Tuple) (ts : List Tuple) → filter q split.tuples ≡ t ∷ ts → (steps : List Step) → Pairwise (DoesTuple split.splitting.policy split.word split.shared) (t ∷ ts) steps
-      → DoCommand (join_split split.word split.shared (t ∷ ts)) steps (tree_of_steps (split.splitting.policy) (results steps))
+      → DoCommand (join_split split.word split.shared (t ∷ ts)) steps (tree_of_steps (split.splitting.policy) (step_trees steps))
   does_some us q t ts e steps h =
       let args' = join_split split.word split.shared (t ∷ ts) in
-      let tree = tree_of_steps (split.splitting.policy) (results steps) in
-      subst (λ o. MatchOption o ((s : Step) × (steps ≡ s ∷ []) × IsWholeStep args' s tree) (λ sp. Pairwise (DoesTuple sp.splitting.policy sp.word sp.shared) sp.tuples steps × (tree ≡ tree_of_steps (sp.splitting.policy) (results steps))))
+      let tree = tree_of_steps (split.splitting.policy) (step_trees steps) in
+      subst (λ o. MatchOption o ((s : Step) × (steps ≡ s ∷ []) × IsWholeStep args' s tree) (λ sp. Pairwise (DoesTuple sp.splitting.policy sp.word sp.shared) sp.tuples steps × (tree ≡ tree_of_steps (sp.splitting.policy) (step_trees steps))))
       (sym (split_of_some args split is_split q t ts e)) (h, refl)
 
   pub kept_served : (keys keys' : Keyspace) (q : Tuple → Bool) (sts : List (List Step)) → Regrouped keys keys' (filter q split.tuples) sts
-      → (trees_of : List Tree) × OneServer meaning keys (split_with split (filter q split.tuples)) trees_of keys'
+      → (responses : List Response) × OneServer meaning keys (run_each (split_with split (filter q split.tuples))) responses keys'
   kept_served keys keys' q sts r = by (filter q split.tuples) refl r
     where
-      by : (us : List Tuple) → filter q split.tuples ≡ us → Regrouped keys keys' us sts → (trees_of : List Tree) × OneServer meaning keys (split_with split us) trees_of keys'
+      by : (us : List Tuple) → filter q split.tuples ≡ us → Regrouped keys keys' us sts → (responses : List Response) × OneServer meaning keys (run_each (split_with split us)) responses keys'
       by [] e r = ([], ([], tt, subst (λ s. History keys s keys') r.drawn_from r.history))
       by (t ∷ ts) e r = (
-        tree_of_steps (split.splitting.policy) (results r.steps) ∷ [],
-        (r.steps ∷ [], ((does_some (t ∷ ts) q t ts e r.steps r.does, r.allowed), tt), subst (λ s. History keys s keys') (sym (append-nil r.steps)) r.history),
+        Reply (tree_of_steps (split.splitting.policy) (step_trees r.steps)) ∷ [],
+        (r.steps ∷ [], (((tree_of_steps (split.splitting.policy) (step_trees r.steps), refl, does_some (t ∷ ts) q t ts e r.steps r.does), r.allowed), tt), subst (λ s. History keys s keys') (sym (append-nil r.steps)) r.history),
       )

@@ -1,4 +1,4 @@
--- The commands of a call, unsplit, and what of them counts where the call is refused.
+-- The operations of a call, its commands unsplit, and what of them counts where the call is refused.
 use Rattle.std.specs.Prelude.{nat_lt, ◌^◌, unwrap_or, ◌≡◌, ℕ, nat_eq, ⊤, Bool, true, false, not, List, [], ◌∷◌, map, filter, Option, Some, None, Result, Ok, Err}
 use Rattle.std.specs.List.{list_all}
 use Rattle.resp_core.specs.Trees.{Tree}
@@ -16,6 +16,7 @@ use Rattle.cluster_calls.specs.Calls.Task.{Task, slot_map_of, one_command, pipel
 use Rattle.cluster_calls.specs.Calls.Replies.{exchange_slot, in_pipeline_order, not_ignored}
 use Rattle.cluster_calls.specs.Calls.Answer.{Answer, Value, Refreshed, answer_in}
 use Rattle.cluster_calls.specs.OneServer.Honest.{is_counted}
+use Rattle.cluster_calls.specs.OneServer.Operations.{Operation, Response, Reply, run_each}
 
 -- the calls whose keyspace is spoken of: not those to several nodes, nor commands that any node may serve
 abbrev pub is_any_node : Option Destination → Bool
@@ -35,15 +36,15 @@ is_task_on_slots (slot_map_of node) = true
 abbrev pub is_on_slots : Call → Bool
 is_on_slots call = is_task_on_slots (task_of call)
 
--- ---- commands
+-- ---- operations
 
-abbrev pub task_commands : Task → List (List (List ℕ))
-task_commands (one_command command number order) = sent command ∷ []
-task_commands (pipeline_of entries) = map (λ (e : Entry). sent e.command) entries
-task_commands _ = []
+abbrev pub task_operations : Task → List Operation
+task_operations (one_command command number order) = run_each (sent command ∷ [])
+task_operations (pipeline_of entries) = run_each (map (λ (e : Entry). sent e.command) entries)
+task_operations _ = []
 
-abbrev pub commands : Call → List (List (List ℕ))
-commands call = task_commands (task_of call)
+abbrev pub operations : Call → List Operation
+operations call = task_operations (task_of call)
 
 -- a split command with these tuples, and nothing where there are none
 abbrev pub split_with : Split → List Tuple → List (List (List ℕ))
@@ -63,28 +64,28 @@ abbrev pub kept_of : List (List ℕ) → List Exchange → List (List (List ℕ)
 kept_of args counted = kept_by args (split_of args) counted
 
 -- what counts of a refused call
-abbrev pub task_kept : (ℕ → Bool) → Task → List Exchange → List (List (List ℕ))
-task_kept done (one_command command number order) xs = kept_of (sent command) (filter (is_counted done) xs)
-task_kept done (pipeline_of entries) xs = map (λ (x : Exchange). x.request.args) (filter (is_counted done) (in_pipeline_order entries xs))
+abbrev pub task_kept : (ℕ → Bool) → Task → List Exchange → List Operation
+task_kept done (one_command command number order) xs = run_each (kept_of (sent command) (filter (is_counted done) xs))
+task_kept done (pipeline_of entries) xs = run_each (map (λ (x : Exchange). x.request.args) (filter (is_counted done) (in_pipeline_order entries xs)))
 task_kept done _ xs = []
 
-abbrev pub kept : (ℕ → Bool) → Call → List Exchange → List (List (List ℕ))
+abbrev pub kept : (ℕ → Bool) → Call → List Exchange → List Operation
 kept done call xs = task_kept done (task_of call) xs
 
--- the commands that count: all of an answered call, and what is kept of a refused one
-abbrev pub counting : (ℕ → Bool) → Call → Result Answer Refusal → List Exchange → List (List (List ℕ))
-counting done call (Ok answer) xs = commands call
+-- the operations that count: all of an answered call, and what is kept of a refused one
+abbrev pub counting : (ℕ → Bool) → Call → Result Answer Refusal → List Exchange → List Operation
+counting done call (Ok answer) xs = operations call
 counting done call (Err refusal) xs = kept done call xs
 
 -- ---- answers
 
--- the answer is what the trees of the call's commands say
-abbrev pub IsTaskAnswer : Call → Task → Answer → List Tree → Type 0
-IsTaskAnswer call (slot_map_of node) answer trees = (answer ≡ Refreshed) × (trees ≡ [])
-IsTaskAnswer call (one_command command number order) answer trees = (tree : Tree) × (trees ≡ tree ∷ []) × (answer_in call tree ≡ Some answer)
-IsTaskAnswer call (pipeline_of entries) answer trees = answer ≡ Value (array_of (not_ignored entries trees))
-IsTaskAnswer call (several_nodes command) answer trees = ⊥
+-- the answer is what the responses to the call's operations say
+abbrev pub IsTaskAnswer : Call → Task → Answer → List Response → Type 0
+IsTaskAnswer call (slot_map_of node) answer responses = (answer ≡ Refreshed) × (responses ≡ [])
+IsTaskAnswer call (one_command command number order) answer responses = (tree : Tree) × (responses ≡ Reply tree ∷ []) × (answer_in call tree ≡ Some answer)
+IsTaskAnswer call (pipeline_of entries) answer responses = (trees : List Tree) × (responses ≡ map Reply trees) × (answer ≡ Value (array_of (not_ignored entries trees)))
+IsTaskAnswer call (several_nodes command) answer responses = ⊥
 
-abbrev pub IsAnswerBy : Call → Result Answer Refusal → List Tree → Type 0
-IsAnswerBy call (Ok answer) trees = IsTaskAnswer call (task_of call) answer trees
-IsAnswerBy call (Err refusal) trees = ⊤
+abbrev pub IsAnswerBy : Call → Result Answer Refusal → List Response → Type 0
+IsAnswerBy call (Ok answer) responses = IsTaskAnswer call (task_of call) answer responses
+IsAnswerBy call (Err refusal) responses = ⊤

@@ -21,6 +21,7 @@ use Rattle.cluster_calls.specs.OneServer.Keyspace.{Keyspace}
 use Rattle.cluster_calls.specs.OneServer.Meaning.{Meaning, OneServer}
 use Rattle.cluster_calls.specs.OneServer.Honest.{HonestRun}
 use Rattle.cluster_calls.specs.OneServer.Commands.{is_on_slots, counting, IsAnswerBy}
+use Rattle.cluster_calls.specs.OneServer.Operations.{Operation, Response}
 
 -- ---- runs
 
@@ -72,16 +73,16 @@ command_log t = map (λ x. (t.call, x)) (task_log (task_of t.call) t.log)
 abbrev pub command_logs : List RepliedCall → List (Call × Exchange)
 command_logs ts = concat (map command_log ts)
 
-abbrev pub all_counting : (ℕ → Bool) → List RepliedCall → List (List (List ℕ))
+abbrev pub all_counting : (ℕ → Bool) → List RepliedCall → List Operation
 all_counting done ts = concat (map (λ (t : RepliedCall). counting done t.call t.answer t.log) ts)
 
--- the answers and the keyspace are those of one server that is given the commands that count, one after another
+-- the answers and the keyspace are those of one server that is given the operations that count, one after another
 pub record AsOneServer (meaning : Meaning) (keys : Keyspace) (done : ℕ → Bool) (ts : List RepliedCall) (keys' : Keyspace) : Type 0 where
-  pub trees : List (List Tree)
-  -- each call has as many trees as commands that count
-  pub counts : Pairwise (λ (t : RepliedCall) here. length here ≡ length (counting done t.call t.answer t.log)) ts trees
-  pub served : OneServer meaning keys (all_counting done ts) (concat trees) keys'
-  pub answers : Pairwise (λ (t : RepliedCall) here. IsAnswerBy t.call t.answer here) ts trees
+  pub responses : List (List Response)
+  -- each call has as many responses as operations that count
+  pub counts : Pairwise (λ (t : RepliedCall) here. length here ≡ length (counting done t.call t.answer t.log)) ts responses
+  pub served : OneServer meaning keys (all_counting done ts) (concat responses) keys'
+  pub answers : Pairwise (λ (t : RepliedCall) here. IsAnswerBy t.call t.answer here) ts responses
 
 abbrev pub AreOnSlots : List RepliedCall → Type 0
 AreOnSlots ts = AllByRecursion (λ (t : RepliedCall). is_on_slots t.call ≡ true) ts

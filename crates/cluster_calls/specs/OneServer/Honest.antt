@@ -1,21 +1,25 @@
 -- Nodes that serve their requests as parts of one keyspace, which no one else changes.
 use Rattle.std.specs.Prelude.{◌≡◌, ℕ, ◌||◌, ◌&&◌, Bool, List, [], IfSome, MatchBool}
-use Rattle.resp_core.specs.Trees.{Tree}
 use Rattle.cluster_routing.specs.Lists.{concat, Pairwise}
 use Rattle.cluster_calls.specs.Links.Log.{Exchange, is_answered, is_unanswered}
 use Rattle.cluster_calls.specs.Calls.Call.{Call}
 use Rattle.cluster_calls.specs.OneServer.Keyspace.{Keyspace, Step, History}
-use Rattle.cluster_calls.specs.OneServer.Meaning.{Meaning, DoCommand, AreAllowed}
+use Rattle.cluster_calls.specs.OneServer.Meaning.{Meaning, DoOperation, AreAllowed}
+use Rattle.cluster_calls.specs.OneServer.Operations.{Operation, RunCommand, Response, response_by}
 
 -- the requests that count for the keyspace: the answered ones, and of the unanswered ones those that were done
 abbrev pub is_counted : (ℕ → Bool) → Exchange → Bool
 is_counted done x = is_answered x || (is_unanswered x && done x.place)
 
--- the steps do the request, and answer its reply where it got one
+-- the operation that a request asks for
+abbrev pub operation_of : Exchange → Operation
+operation_of x = RunCommand x.request.args
+
+-- the steps do what the request asks for, and where it got a reply, that is the response
 pub record IsDoneBy (meaning : Meaning) (x : Exchange) (steps : List Step) : Type 0 where
-  pub tree : Tree
-  pub reply : IfSome x.reply (λ answer. answer ≡ tree)
-  pub done : DoCommand x.request.args steps tree
+  pub response : Response
+  pub reply : IfSome x.reply (λ tree. response_by (operation_of x) tree ≡ response)
+  pub done : DoOperation (operation_of x) steps response
   pub allowed : AreAllowed meaning steps
 
 -- a counted request has steps that do it, and another one changes nothing

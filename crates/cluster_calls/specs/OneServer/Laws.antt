@@ -24,6 +24,7 @@ use Rattle.cluster_calls.specs.OneServer.Keyspace.{Keyspace, Step, History, Lead
 use Rattle.cluster_calls.specs.OneServer.Meaning.{Meaning, OneServer}
 use Rattle.cluster_calls.specs.OneServer.Honest.{HonestRun}
 use Rattle.cluster_calls.specs.OneServer.Commands.{has_small_cursor}
+use Rattle.cluster_calls.specs.OneServer.Operations.{Operation, Response}
 use Rattle.cluster_calls.specs.OneServer.Headline.{RepliedCall, IsPlayedFrom, command_logs, AreOnSlots}
 
 -- ---- how many requests a call makes
@@ -102,10 +103,10 @@ NodesKeepHistories = (node_of : ℕ → Address) (nodes : List Address) (keys ke
 abbrev pub IsDeterministic : Meaning → Type 0
 IsDeterministic meaning = (x y : Step) → Contains meaning x → Contains meaning y → x.deed ≡ y.deed → x.before ≡ y.before → x ≡ y
 
--- given the same commands, one server answers the same trees and leaves the same keyspace
+-- given the same operations, one server responds the same and leaves the same keyspace
 abbrev pub OneServerIsDetermined : Type 0
-OneServerIsDetermined = (meaning : Meaning) (keys left right : Keyspace) (commands : List (List (List ℕ))) (ts us : List Tree) → IsDeterministic meaning
-    → OneServer meaning keys commands ts left → OneServer meaning keys commands us right → (ts ≡ us) × ((slot : ℕ) → left slot ≡ right slot)
+OneServerIsDetermined = (meaning : Meaning) (keys left right : Keyspace) (operations : List Operation) (ts us : List Response) → IsDeterministic meaning
+    → OneServer meaning keys operations ts left → OneServer meaning keys operations us right → (ts ≡ us) × ((slot : ℕ) → left slot ≡ right slot)
 
 abbrev pub IsAnswered : RepliedCall → Type 0
 IsAnswered t = (answer : Answer) × (t.answer ≡ Ok answer)

@@ -21,6 +21,7 @@ use Rattle.cluster_calls.specs.Calls.Legal.{IsLegalCall}
 use Rattle.cluster_calls.specs.Calls.Answer.{Value, kind}
 use Rattle.cluster_calls.specs.Calls.After.{flag_after, links_after}
 use Rattle.cluster_calls.specs.OneServer.Commands.{kept}
+use Rattle.cluster_calls.specs.OneServer.Operations.{RunCommand}
 use Rattle.cluster_calls.specs.WholeCalls.Base.{both, client, on_halves, a_fault, plain, log_over, answer_on, text, error, error_text, moved_to_n1}
 
 abbrev pub entry : List (List ℕ) → Entry
@@ -74,7 +75,7 @@ pub a_redirect_is_not_followed : IsLegalCall on_halves [] three_ignoring erring
 unfolding destination rule_of table hash_slot splitting_of digits
 a_redirect_is_not_followed = (refl, (refl, refl))
 
-pub only_the_answered_one_counts : kept (λ place. false) three_ignoring erring ≡ set_a ∷ []
+pub only_the_answered_one_counts : kept (λ place. false) three_ignoring erring ≡ RunCommand set_a ∷ []
 unfolding destination rule_of table hash_slot splitting_of digits first_error server_kind
 only_the_answered_one_counts = refl
 
@@ -98,7 +99,7 @@ a_fault_refuses_a_pipeline = refl
 pub a_fault_closes_its_node : links_after both broken ≡ n1 ∷ []
 a_fault_closes_its_node = refl
 
-pub what_was_answered_before_counts : kept (λ place. false) three broken ≡ set_a ∷ []
+pub what_was_answered_before_counts : kept (λ place. false) three broken ≡ RunCommand set_a ∷ []
 unfolding destination rule_of table hash_slot splitting_of digits first_error
 what_was_answered_before_counts = refl
 

@@ -23,6 +23,7 @@ use Rattle.cluster_calls.specs.Calls.Legal.{IsLegalCall}
 use Rattle.cluster_calls.specs.Calls.Answer.{Value, kind}
 use Rattle.cluster_calls.specs.Calls.After.{flag_after}
 use Rattle.cluster_calls.specs.OneServer.Commands.{kept}
+use Rattle.cluster_calls.specs.OneServer.Operations.{RunCommand}
 use Rattle.cluster_calls.specs.WholeCalls.Base.{client, on_halves, on_n1, a_fault, query, plain, goes_to, log_over, answer_on, text, one, error, error_text, moved_to_n2}
 
 -- ---- MGET a b c d: four parts, joined in argument order
@@ -122,7 +123,7 @@ pub a_refused_part_refuses : kind on_halves [] a_fault del_turned del_turned_log
 unfolding destination rule_of table hash_slot splitting_of digits first_error server_kind
 a_refused_part_refuses = refl
 
-pub the_answered_part_counts : kept (λ place. false) del_turned del_turned_log ≡ del_b ∷ []
+pub the_answered_part_counts : kept (λ place. false) del_turned del_turned_log ≡ RunCommand del_b ∷ []
 unfolding destination rule_of table hash_slot splitting_of digits first_error server_kind
 the_answered_part_counts = refl
 
