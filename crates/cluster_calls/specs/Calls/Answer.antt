@@ -80,8 +80,11 @@ reply_of faults (one_command command number order) xs = reply_of_parts (sent com
 reply_of faults (pipeline_of entries) xs = Some (pipeline_reply entries xs)
 reply_of faults (several_nodes command) xs = tree_in (several_reply faults command xs)
 
+abbrev pub task_answer : (Address → LinkFault) → Call → Task → List Exchange → Option Answer
+task_answer faults call task xs = option_and_then (answer_in call) (reply_of faults task xs)
+
 abbrev pub call_answer : (Address → LinkFault) → Call → List Exchange → Option Answer
-call_answer faults call xs = option_and_then (answer_in call) (reply_of faults (task_of call) xs)
+call_answer faults call xs = task_answer faults call (task_of call) xs
 
 abbrev pub unless : {A : Type 0} → Option Refusal → Result A Refusal → Result A Refusal
 unless None result = result

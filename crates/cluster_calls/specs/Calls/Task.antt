@@ -82,10 +82,13 @@ pub data Task : Type 0 where
   pipeline_of : (entries : List Entry) → Task
   several_nodes : (command : Command) → Task
 
+abbrev pub stream_task : StreamCall → Task
+stream_task call = one_command (plain_command (sentence call)) 0 None
+
 abbrev pub task_of : Call → Task
 task_of (Refresh node) = slot_map_of node
 task_of (Query command number) = one_command command number None
 task_of (Ordered command order number) = one_command command number (Some order)
 task_of (Pipeline entries) = pipeline_of entries
 task_of (FanOut command) = several_nodes command
-task_of (OnStreams call) = one_command (plain_command (sentence call)) 0 None
+task_of (OnStreams call) = stream_task call
