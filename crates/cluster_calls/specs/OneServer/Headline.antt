@@ -76,12 +76,16 @@ command_logs ts = concat (map command_log ts)
 abbrev pub all_counting : (ℕ → Bool) → List RepliedCall → List Operation
 all_counting done ts = concat (map (λ (t : RepliedCall). counting done t.call t.answer t.log) ts)
 
--- the answers and the keyspace are those of one server that is given the operations that count, one after another
+-- The answers and the keyspace are those of one server that is given the operations that count, one after another. Of a call that
+-- was answered all operations count; of one that was refused those that were done.
 pub record AsOneServer (meaning : Meaning) (keys : Keyspace) (done : ℕ → Bool) (ts : List RepliedCall) (keys' : Keyspace) : Type 0 where
+  -- what the server responds, call by call
   pub responses : List (List Response)
   -- each call has as many responses as operations that count
   pub counts : Pairwise (λ (t : RepliedCall) here. length here ≡ length (counting done t.call t.answer t.log)) ts responses
+  -- given all these operations, the server may respond so, and it leaves these keys
   pub served : OneServer meaning keys (all_counting done ts) (concat responses) keys'
+  -- the answer of each call that was not refused is what its responses say
   pub answers : Pairwise (λ (t : RepliedCall) here. IsAnswerBy t.call t.answer here) ts responses
 
 abbrev pub AreOnSlots : List RepliedCall → Type 0

@@ -18,7 +18,7 @@ first_on_slots [] left h queues place = tt
 first_on_slots (t ∷ ts) left h queues place = (h.0, first_on_slots ts left h.1 (left_after_all queues t.log) (place + length t.log))
 
 pub returns : goal.returns
-returns c = λ strategy old new calls before after all p had on meaning keys keys' done honest.
-    let r = p.is_run.played had in
-    let slots = first_on_slots p.run p.left (subst (λ cs. AllByRecursion (λ call. is_on_slots call ≡ true) cs) p.first on) (replies (taken_of p.is_run.events)) 0 in
-    run_served strategy r.faults meaning done (with_replies (taken_of p.is_run.events) p.run) (client_of old) keys keys' gaps_name_no_key slots r.played honest
+returns c = λ strategy old new calls before after all p meaning keys keys' done supposed.
+    let r = p.is_run.played supposed.had_memory in
+    let slots = first_on_slots p.run p.left (subst (λ cs. AllByRecursion (λ call. is_on_slots call ≡ true) cs) p.first supposed.on_slots) (replies (taken_of p.is_run.events)) 0 in
+    run_served strategy r.faults meaning done (with_replies (taken_of p.is_run.events) p.run) (client_of old) keys keys' gaps_name_no_key slots r.played supposed.honest
