@@ -204,7 +204,3 @@ number_apart c = let b = begins_some 63 c in ap (str_eq_ignore_ascii_case (codes
 pub every_gap_names_no_key : (command : Command) (read_only : List (List ℕ)) (route : Route)
     → destination command.args read_only ≡ Some (to_route route) → destination (map (λ bytes. Simple bytes) (sent command)) read_only ≡ Some (to_route route)
 every_gap_names_no_key command read_only route e = destination_stays (unwrap_or command.cursor 0) (number_apart (unwrap_or command.cursor 0)) command.args read_only route e
-
-pub gaps_name_no_key : (command : Command) (read_only : List (List ℕ)) (route : Route) → nat_lt (unwrap_or command.cursor 0) (2 ^ 64) ≡ true
-    → destination command.args read_only ≡ Some (to_route route) → destination (map (λ bytes. Simple bytes) (sent command)) read_only ≡ Some (to_route route)
-gaps_name_no_key command read_only route small e = every_gap_names_no_key command read_only route e

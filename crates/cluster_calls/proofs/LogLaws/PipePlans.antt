@@ -1,7 +1,6 @@
 -- What the plan of a pipeline sends: each command whole, to its slot's primary.
 use Rattle.std.proofs.Common.{◌≡◌, ℕ, suc, Bool, true, false, cond, ◌||◌, nat_eq, List, [], ◌∷◌, map, Option, Some, None, option_map, Result, Ok, Err, MatchOption, refl, sym, ap, ◌∙◌, subst, eqb-true}
-use Rattle.std.specs.List.{AllByRecursion, list_all}
-use Rattle.std.proofs.lemmas.Bool.{and_parts}
+use Rattle.std.specs.List.{AllByRecursion}
 use Rattle.resp_core.specs.Trees.{Tree}
 use Rattle.resp_core.specs.Errors.{Refusal, by_cause}
 use Rattle.resp_core.specs.declared.errors.redis_error.Cause.TheVariants.{NoLink}
@@ -22,7 +21,6 @@ use Rattle.cluster_calls.specs.Calls.Call.{Entry}
 use Rattle.cluster_calls.specs.Calls.Parts.{Target, at_slot, at_number, at_node, Part, part_to, slot_part, parts_of, if_at_slot, whole_part, with_whole, pipeline_parts}
 use Rattle.cluster_calls.specs.Calls.Plan.{Client, Dispatch, first_by, first_of, read_candidates, with_first, dispatch_one, dispatches}
 use Rattle.cluster_calls.specs.Calls.Replies.{args_slot, slot_by, first_tuple_slot, route_slot}
-use Rattle.cluster_calls.specs.OneServer.Commands.{has_small_cursor}
 use Rattle.cluster_calls.specs.OneServer.Laws.{GapsNameNoKey}
 use Rattle.cluster_calls.specs.OneServer.Keyspace.{Step}
 use Rattle.cluster_calls.specs.OneServer.Meaning.{LeadsToSlot, DoCommand, DoesTuple, IsWholeStep, tree_of_steps, step_trees}
@@ -143,14 +141,12 @@ whole_parts_are (x ∷ xs) position parts stay e = whole (parts_of [] x.command 
     whole (Err r) p e ih = cc
     whole (Ok (part ∷ [])) p e ih = at_target part p part.target refl e ih
 
-gaps_stay : GapsNameNoKey → (entries : List Entry) → list_all (λ (e : Entry). has_small_cursor e.command) entries ≡ true → AllByRecursion (λ (e : Entry). GapsStay e.command) entries
-gaps_stay gaps [] small = tt
-gaps_stay gaps (x ∷ xs) small =
-    let both = and_parts (has_small_cursor x.command) (list_all (λ (e : Entry). has_small_cursor e.command) xs) small in
-    (λ route h. gaps x.command [] route both.0 h, gaps_stay gaps xs both.1)
+gaps_stay : GapsNameNoKey → (entries : List Entry) → AllByRecursion (λ (e : Entry). GapsStay e.command) entries
+gaps_stay gaps [] = tt
+gaps_stay gaps (x ∷ xs) = (λ route h. gaps x.command [] route h, gaps_stay gaps xs)
 
-pub pipeline_parts_are : GapsNameNoKey → (entries : List Entry) (position : ℕ) (parts : List Part) → list_all (λ (e : Entry). has_small_cursor e.command) entries ≡ true → pipeline_parts position entries ≡ Ok parts → Pairwise IsWholePart entries parts
-pipeline_parts_are gaps entries position parts small e = whole_parts_are entries position parts (gaps_stay gaps entries small) e
+pub pipeline_parts_are : GapsNameNoKey → (entries : List Entry) (position : ℕ) (parts : List Part) → pipeline_parts position entries ≡ Ok parts → Pairwise IsWholePart entries parts
+pipeline_parts_are gaps entries position parts e = whole_parts_are entries position parts (gaps_stay gaps entries) e
 
 -- the primary of a slot, or any address where it has none
 abbrev pub primary_or_none : Option Nodes → Address

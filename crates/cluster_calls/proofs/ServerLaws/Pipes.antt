@@ -1,7 +1,7 @@
 -- A pipeline is as good as its commands on one server.
 use Rattle.std.proofs.Common.{◌≡◌, ℕ, suc, Bool, true, false, cond, ◌||◌, ◌==◌, List, [], ◌∷◌, ◌++◌, map, filter, take, drop, length, Option, Some, None, Result, Ok, Err, MatchResult, refl, sym, ap, ◌∙◌, subst, append-nil, take-append-drop, eqb-true}
 use Rattle.std.specs.Prelude.{MatchBool, unwrap_or, is_none}
-use Rattle.std.specs.List.{AllByRecursion, list_any, list_all}
+use Rattle.std.specs.List.{AllByRecursion, list_any}
 use Rattle.std.proofs.lemmas.Bool.{false≢true}
 use Rattle.resp_core.specs.Trees.{Tree, nil, ErrorText}
 use Rattle.cluster_routing.specs.Combine.{array_of}
@@ -19,7 +19,6 @@ use Rattle.cluster_calls.specs.Links.Faults.{LinkFault, refusal_by_fault}
 use Rattle.resp_core.specs.Errors.{Refusal}
 use Rattle.cluster_calls.specs.Calls.Legal.{IsLegalCall, NodeByNode, node_groups, nodes_in_use, direct}
 use Rattle.cluster_calls.specs.Calls.Parts.{pipeline_parts, result_then}
-use Rattle.cluster_calls.specs.OneServer.Commands.{has_small_cursor}
 use Rattle.cluster_calls.specs.OneServer.Laws.{GapsNameNoKey}
 use Rattle.cluster_calls.specs.Calls.Answer.{Value, unless, answer_of}
 use Rattle.cluster_calls.specs.Calls.Replies.{args_slot, pipeline_reply, not_ignored, exchange_slot, with_slot, in_pipeline_order, reply_or_nil}
@@ -362,9 +361,9 @@ all_counted : (done : ℕ → Bool) (xs : List Exchange) → AllByRecursion (λ 
 all_counted done [] h = tt
 all_counted done (x ∷ xs) h = (counted_answer done x h.0, all_counted done xs h.1)
 
-pub pipeline_served : (client : Client) (faults : Address → LinkFault) (meaning : Meaning) (keys keys' : Keyspace) (done : ℕ → Bool) (picks : List Address) (entries : List Entry) (xs : List Exchange) → GapsNameNoKey → list_all (λ (e : Entry). has_small_cursor e.command) entries ≡ true
+pub pipeline_served : (client : Client) (faults : Address → LinkFault) (meaning : Meaning) (keys keys' : Keyspace) (done : ℕ → Bool) (picks : List Address) (entries : List Entry) (xs : List Exchange) → GapsNameNoKey
     → IsLegalCall client picks (Pipeline entries) xs → Honest meaning keys done xs keys' → CallServed meaning keys done (Pipeline entries) (answer_of client picks faults (Pipeline entries) xs) xs keys'
-pipeline_served client faults meaning keys keys' done picks entries xs gaps small legal honest = at_parts (pipeline_parts 0 entries) refl legal
+pipeline_served client faults meaning keys keys' done picks entries xs gaps legal honest = at_parts (pipeline_parts 0 entries) refl legal
   where
     Served : Result (List Dispatch) Refusal → Option Refusal → Type 0
     Served o s = CallServed meaning keys done (Pipeline entries) (result_then o (λ ds. unless s (Ok (Value (pipeline_reply entries xs))))) xs keys'
@@ -414,6 +413,6 @@ pipeline_served client faults meaning keys keys' done picks entries xs gaps smal
             → Served (result_then o (λ ds. Ok ds)) (pipeline_refusal faults xs (errors_from 0 (in_pipeline_order entries xs)))
         at_sent (Err r) d l = unsent l r (pipeline_refusal faults xs (errors_from 0 (in_pipeline_order entries xs)))
         at_sent (Ok ds) d l =
-            let w = pipeline_parts_are gaps entries 0 parts small p in
+            let w = pipeline_parts_are gaps entries 0 parts p in
             at_refusal ds (dispatch_facts client entries parts ds w (dispatches_for client parts picks ds d) (pipeline_nodes client entries parts picks ds w d))
             (reached ds (nodes_in_use ds) xs l) (pipeline_refusal faults xs (errors_from 0 (in_pipeline_order entries xs))) refl

@@ -84,7 +84,7 @@ pub call_served : (client : Client) (faults : Address → LinkFault) (meaning : 
 call_served client faults meaning keys keys' done picks (Query command number) xs gaps s legal honest = command_served client faults meaning keys keys' done picks (Query command number) command number None refl xs honest legal
 call_served client faults meaning keys keys' done picks (Ordered command order number) xs gaps s legal honest = command_served client faults meaning keys keys' done picks (Ordered command order number) command number (Some order) refl xs honest legal
 call_served client faults meaning keys keys' done picks (OnStreams call) xs gaps s legal honest = command_served client faults meaning keys keys' done picks (OnStreams call) (plain_command (sentence call)) 0 None refl xs honest legal
-call_served client faults meaning keys keys' done picks (Pipeline entries) xs gaps s legal honest = pipeline_served client faults meaning keys keys' done picks entries xs gaps s legal honest
+call_served client faults meaning keys keys' done picks (Pipeline entries) xs gaps s legal honest = pipeline_served client faults meaning keys keys' done picks entries xs gaps legal honest
 call_served client faults meaning keys keys' done picks (FanOut command) xs gaps s legal honest = absurd (false≢true s)
 call_served client faults meaning keys keys' done picks (Refresh node) xs gaps s legal honest = by (plan client picks (Refresh node)) (sent_refusal client faults (task_of (Refresh node)) xs)
   where

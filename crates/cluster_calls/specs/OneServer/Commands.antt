@@ -1,9 +1,7 @@
 -- The operations of a call, its commands unsplit, and what of them counts where the call is refused.
-use Rattle.std.specs.Prelude.{nat_lt, ◌^◌, unwrap_or, ◌≡◌, ℕ, nat_eq, ⊤, Bool, true, false, not, List, [], ◌∷◌, map, filter, Option, Some, None, Result, Ok, Err}
-use Rattle.std.specs.List.{list_all}
+use Rattle.std.specs.Prelude.{◌≡◌, ℕ, nat_eq, ⊤, Bool, true, false, not, List, [], ◌∷◌, map, filter, Option, Some, None, Result, Ok, Err}
 use Rattle.resp_core.specs.Trees.{Tree}
 use Rattle.resp_core.specs.Errors.{Refusal}
-use Rattle.resp_args.specs.Command.{Command}
 use Rattle.resp_args.specs.Packed.{sent}
 use Rattle.cluster_routing.specs.Lists.{among}
 use Rattle.cluster_routing.specs.Parts.{Tuple, tuple_slot}
@@ -23,14 +21,10 @@ abbrev pub is_any_node : Option Destination → Bool
 is_any_node (Some to_any_node) = true
 is_any_node _ = false
 
--- the number for a command's gaps has 64 bits, as every number that a client is given
-abbrev pub has_small_cursor : Command → Bool
-has_small_cursor command = nat_lt (unwrap_or command.cursor 0) (2 ^ 64)
-
 abbrev pub is_task_on_slots : Task → Bool
 is_task_on_slots (one_command command number order) = not (is_any_node (destination command.args []))
 is_task_on_slots (several_nodes command) = false
-is_task_on_slots (pipeline_of entries) = list_all (λ (e : Entry). has_small_cursor e.command) entries
+is_task_on_slots (pipeline_of entries) = true
 is_task_on_slots (slot_map_of node) = true
 
 abbrev pub is_on_slots : Call → Bool

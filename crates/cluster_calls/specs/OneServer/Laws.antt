@@ -23,7 +23,6 @@ use Rattle.cluster_calls.specs.Calls.Answer.{Answer}
 use Rattle.cluster_calls.specs.OneServer.Keyspace.{Keyspace, Step, History, Leads, on_slot}
 use Rattle.cluster_calls.specs.OneServer.Meaning.{Meaning, OneServer}
 use Rattle.cluster_calls.specs.OneServer.Honest.{HonestRun}
-use Rattle.cluster_calls.specs.OneServer.Commands.{has_small_cursor}
 use Rattle.cluster_calls.specs.OneServer.Operations.{Operation, Response}
 use Rattle.cluster_calls.specs.OneServer.Headline.{RepliedCall, IsPlayedFrom, command_logs, AreOnSlots}
 
@@ -76,9 +75,9 @@ EachPartIsAnsweredOnce = (client : Client) (picks : List Address) (faults : Addr
     → task_of call ≡ one_command command number order → plan client picks call ≡ Ok ds → IsLegalCall client picks call xs → sent_refusal client faults (task_of call) xs ≡ None
     → map (λ (x : Exchange). x.request.args) (filter (λ x. not (is_redirected x)) xs) ≡ map (λ (d : Dispatch). d.args) ds
 
--- a command with a gap routes as the arguments that it is sent as, wherever it routes to a slot; the number for its gaps has 64 bits
+-- a command with a gap routes as the arguments that it is sent as, wherever it routes to a slot
 abbrev pub GapsNameNoKey : Type 0
-GapsNameNoKey = (command : Command) (read_only : List (List ℕ)) (route : Route) → has_small_cursor command ≡ true
+GapsNameNoKey = (command : Command) (read_only : List (List ℕ)) (route : Route)
     → destination command.args read_only ≡ Some (to_route route) → destination (map (λ bytes. Simple bytes) (sent command)) read_only ≡ Some (to_route route)
 
 -- ---- histories of steps

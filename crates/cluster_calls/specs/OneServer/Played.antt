@@ -59,7 +59,8 @@ pub record HonestCluster {strategy : Option Strategy} {old new : World} {calls :
     (played : Plays strategy old new calls before after all) (meaning : Meaning) (keys : Keyspace) (done : ℕ → Bool) (keys' : Keyspace) : Type 0 where
   -- no call was refused because the client had no memory for it
   pub had_memory : HadMemory played.run
-  -- each call is a refresh, or made of commands that have keys; none is to several nodes, and none has a command that any node may serve
+  -- No call is to several nodes, and none is a command that any node may serve, as TIME. So each is a refresh, or made of commands with
+  -- keys, or is refused before anything is sent.
   pub on_slots : AllByRecursion (λ call. is_on_slots call ≡ true) calls
   -- The nodes are honest. Each request that was answered with data was done once, as its command means, and its reply is what came of
   -- that. So was each that got no reply and that `done` names. No other request changed a key, and no one else did. So another client's
