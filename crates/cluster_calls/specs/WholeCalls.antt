@@ -7,3 +7,7 @@ pub mod Pipelines
 pub mod SeveralNodes
 pub mod Checks
 pub mod WrongRules
+pub mod KeyRuns
+pub mod WrongServers
+pub mod WrongCounts
+pub mod WrongRuns
