@@ -3,8 +3,9 @@
 -- Someone hands a list of calls to `play`, and `play` makes them one after another over links to the nodes of a cluster. What it
 -- shows of each call are its answer and its requests. Suppose what `HonestCluster` says below. Then one server that is given the
 -- same commands, unsplit, one after another, may respond so that each call's answer is what its responses say, and it leaves the keys
--- that the nodes leave. Nothing is supposed of the slot map, the order of replies, redirects, how bytes are cut into reads, what a
--- strategy for reads picks, or how many redirects are followed.
+-- that the nodes leave. Of a call that was refused it is given what was done of it, and nothing else. Nothing is supposed of the slot
+-- map, the order of replies, redirects, how bytes are cut into reads, what a strategy for reads picks, or how many redirects are
+-- followed.
 --
 -- How to read it: `(x : T) →` is 'for every x of T'; `A → B` is 'if A, then B'; `≡` is 'equals'; a record is a list of facts
 -- that hold together. A record's field can be a value too, which then exists; later fields speak of it.
@@ -16,9 +17,9 @@
 --   World          a client: its nodes with their links, its slot map, its settings, the log of the last call (Links/World)
 --   Plays          all that `play` promises: it made the first of the calls, all of them unless memory was refused for what one was to
 --                  show; what it shows stands behind what stood there; and the calls made are a run (Links/Play)
---   run            the calls that were made, each with its answer and its requests, one where the one before left the client. Each
---                  makes requests that are legal for it and its replies, answers what a written function makes of these, and sends
---                  to each node these requests and nothing else (`IsRun` of Links/Run; `IsLegalCall` of Calls/Legal, `answer_of` of
+--   run            the calls that were made, each with its answer and its requests, and each begun where the one before left the
+--                  client. A call makes requests that are legal for it and its replies, answers what a written function makes of
+--                  these, and sends to each node these requests and nothing else (`IsRun` of Links/Run; `IsLegalCall` of Calls/Legal, `answer_of` of
 --                  Calls/Answer)
 --   is_run.events  what came in over the links in the meantime (`taken_of` of Links/Events)
 --   with_replies   the calls, each request with its reply: the next one that came from its node (OneServer/Headline, Links/Log)

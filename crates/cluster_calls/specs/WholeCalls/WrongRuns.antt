@@ -1,9 +1,9 @@
 -- Runs gone wrong on the client's side: no clause of what `play` promises lets them pass. Beside each stands a right one.
 use Rattle.std.specs.Prelude.{◌≡◌, ◌==◌, ℕ, Bool, true, false, List, [], ◌∷◌, ◌++◌, map, length, Option, None, Ok, Err, codes, refl}
 use Rattle.std.specs.Fmt.{digits}
-use Rattle.std.proofs.Common.{ap, sym}
+use Rattle.std.proofs.Common.{ap, sym, ◌∙◌}
 use Rattle.std.proofs.lemmas.Bool.{false≢true}
-use Rattle.resp_core.specs.Trees.{okay}
+use Rattle.resp_core.specs.Trees.{Tree, okay}
 use Rattle.resp_core.specs.Errors.{by_cause, by_server, server_kind}
 use Rattle.resp_core.specs.Parts.{first_error}
 use Rattle.resp_core.specs.declared.errors.redis_error.Cause.TheVariants.{Io, Memory}
@@ -16,7 +16,9 @@ use Rattle.cluster_routing.specs.Examples.{first_node as n1, second_node as n2}
 use Rattle.stream_commands.specs.Commands.{plain_command}
 use Rattle.cluster_calls.specs.Links.Request.{Request}
 use Rattle.cluster_calls.specs.Links.Events.{Event}
-use Rattle.cluster_calls.specs.Links.Nodes.{IsSentFor}
+use Rattle.cluster_calls.specs.Links.Faults.{LinkFault}
+use Rattle.resp_link.specs.Call.{Seen}
+use Rattle.cluster_calls.specs.Links.Nodes.{IsSentFor, NodeMade}
 use Rattle.cluster_calls.specs.Links.Play.{Plays, Shown, shown_of}
 use Rattle.cluster_calls.specs.Links.Run.{CallsMade, HadMemory}
 use Rattle.cluster_calls.specs.Links.World.{World}
@@ -141,6 +143,14 @@ a_request_goes_out = refl
 pub a_request_goes_out_once : IsSentFor false ((plain n2 get_a ∷ []) ∷ []) (codes "*2\r\n$3\r\nGET\r\n$1\r\na\r\n*2\r\n$3\r\nGET\r\n$1\r\na\r\n") → ⊥
 unfolding digits
 a_request_goes_out_once e = false≢true (ap (λ q. length q == 20) e)
+
+-- ---- a node that changes without being asked, and one that is asked over a closed link
+
+pub a_node_that_is_not_asked_stays : (old new : Seen) (taken : List Tree) (lost : Bool) (fault : LinkFault) → (new ≡ old → ⊥) → NodeMade old new [] taken lost fault → ⊥
+a_node_that_is_not_asked_stays old new taken lost fault other made = other (made.untouched refl)
+
+pub a_closed_link_is_not_asked : (old new : Seen) (q : Request) (taken : List Tree) (lost : Bool) (fault : LinkFault) → old.usable ≡ false → NodeMade old new ((q ∷ []) ∷ []) taken lost fault → ⊥
+a_closed_link_is_not_asked old new q taken lost fault closed made = false≢true (sym closed ∙ made.was_open (λ e. cc))
 
 -- ---- what is supposed: memory, and calls on slots
 
