@@ -4,7 +4,6 @@ pub mod Draw
 pub mod Distinct
 pub mod SameSlots
 pub mod Splits
-pub mod Recut
 pub mod SplitCall
 pub mod Combined
 pub mod Counted

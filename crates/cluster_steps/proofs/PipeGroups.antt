@@ -24,7 +24,7 @@ use Rattle.cluster_calls.proofs.LinkLaws.OpenLinks.{swapped}
 use Rattle.cluster_steps.proofs.GroupCalls.{AreDirect}
 use Rattle.cluster_calls.proofs.ServerLaws.Distinct.{firsts_distinct}
 use Rattle.cluster_calls.proofs.ServerLaws.Grouping.{filter-map, filter-same}
-use Rattle.cluster_calls.proofs.ServerLaws.Recut.{all-filter}
+use Rattle.cluster_routing.proofs.Recut.{all-filter}
 
 -- ---- lists
 

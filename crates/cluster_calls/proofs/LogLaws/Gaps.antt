@@ -1,53 +1,20 @@
 -- A command with a gap routes as the arguments that it is sent as.
-use Rattle.std.proofs.Common.{◌≡◌, ℕ, zero, suc, ◌+◌, ◌<◌, ◌^◌, ◌&&◌, ◌||◌, Bool, true, false, not, cond, List, [], ◌∷◌, map, length, Option, Some, None, option_map, refl, sym, ap, ◌∙◌, arith, codes, nat_lt, ◌%◌, ◌/◌, ◌==◌, lt-ltb, decimal}
+use Rattle.std.proofs.Common.{◌≡◌, ℕ, zero, suc, ◌+◌, ◌<◌, ◌^◌, Bool, true, false, not, cond, List, [], ◌∷◌, map, length, Option, Some, None, option_map, refl, sym, ap, ◌∙◌, arith, codes, nat_lt, ◌%◌, ◌/◌, ◌==◌, lt-ltb, decimal}
 use Rattle.std.specs.Prelude.{option_and_then, slice_get, unwrap_or}
-use Rattle.std.specs.List.{list_any, list_all, position_or_len, prefix_len}
-use Rattle.std.specs.Str.{str_eq_ignore_ascii_case, str_to_ascii_lowercase, bytes_eq}
+use Rattle.std.specs.List.{position_or_len, prefix_len}
+use Rattle.std.specs.Str.{str_eq_ignore_ascii_case}
 use Rattle.std.specs.Fmt.{digit_glyph, digits, digits_onto}
-use Rattle.std.proofs.lemmas.Bool.{false≢true, and_parts}
-use Rattle.std.proofs.lemmas.Slice.Eq.{bytes_eq-Decides}
 use Rattle.resp_args.specs.Command.{Command}
 use Rattle.resp_args.specs.Packed.{sent, wire}
 use Rattle.resp_args.specs.declared.cmd.Arg.TheVariants.{Simple, Cursor}
-use Rattle.cluster_routing.specs.Command.{Args, bytes_of, all_bytes, is_one_of, name_by, place_of, is_word, if_counted}
+use Rattle.cluster_routing.specs.Command.{Args, bytes_of, all_bytes, name_by, place_of, is_word, if_counted}
 use Rattle.cluster_routing.specs.HashSlot.{hash_slot}
 use Rattle.resp_core.specs.Numbers.{number_below}
-use Rattle.cluster_routing.specs.Table.{Row, Rule, split, key_after_streams, counted_key_or_random, counted_key, key_at, random, all_masters, all_nodes, nowhere, table, families, is_family, rule_in, rule_of}
+use Rattle.cluster_routing.specs.Table.{Rule, split, key_after_streams, counted_key_or_random, counted_key, key_at, random, all_masters, all_nodes, nowhere, is_family, rule_of}
 use Rattle.cluster_routing.specs.Routing.{Destination, to_any_node, to_route, to_key, to_key_by_count, to_counted_key, to_key_behind, to_split, role_of, destination_by, destination}
 use Rattle.cluster_routing.specs.declared.route.Route.{Route}
 use Rattle.cluster_routing.specs.declared.route.SlotAddr.{SlotAddr}
-
--- ---- the name of a family alone goes nowhere
-
-no_row : (rows : List Row) (w : List ℕ) (other : Rule) → list_all (λ (r : Row). not (is_one_of r.names w)) rows ≡ true → rule_in rows w other ≡ other
-no_row [] w other h = refl
-no_row (r ∷ rows) w other h = by (is_one_of r.names w) h (λ g. no_row rows w other g)
-  where
-    by : (b : Bool) → (not b && list_all (λ (r : Row). not (is_one_of r.names w)) rows) ≡ true → (list_all (λ (r : Row). not (is_one_of r.names w)) rows ≡ true → rule_in rows w other ≡ other) → cond b r.rule (rule_in rows w other) ≡ other
-    by true g ih = absurd (false≢true g)
-    by false g ih = ih g
-
-family_among : (fs : List (List ℕ)) (w : List ℕ) → list_all (λ f. list_all (λ (r : Row). not (is_one_of r.names f)) table) fs ≡ true → list_any (λ f. str_eq_ignore_ascii_case f w) fs ≡ true
-    → list_all (λ (r : Row). not (is_one_of r.names w)) table ≡ true
-family_among [] w a h = absurd (false≢true h)
-family_among (f ∷ fs) w a h = by (str_eq_ignore_ascii_case f w) refl h (λ g. family_among fs w both.1 g)
-  where
-    both : (list_all (λ (r : Row). not (is_one_of r.names f)) table ≡ true) × (list_all (λ g. list_all (λ (r : Row). not (is_one_of r.names g)) table) fs ≡ true)
-    both = and_parts (list_all (λ (r : Row). not (is_one_of r.names f)) table) (list_all (λ g. list_all (λ (r : Row). not (is_one_of r.names g)) table) fs) a
-
-    by : (b : Bool) → str_eq_ignore_ascii_case f w ≡ b → (b || list_any (λ g. str_eq_ignore_ascii_case g w) fs) ≡ true → (list_any (λ g. str_eq_ignore_ascii_case g w) fs ≡ true → list_all (λ (r : Row). not (is_one_of r.names w)) table ≡ true) → list_all (λ (r : Row). not (is_one_of r.names w)) table ≡ true
-    by true e g ih =
-        let same : str_to_ascii_lowercase f ≡ str_to_ascii_lowercase w = (bytes_eq-Decides (str_to_ascii_lowercase f) (str_to_ascii_lowercase w)).0 e in
-        ap (λ l. list_all (λ (r : Row). not (list_any (λ word. bytes_eq (str_to_ascii_lowercase word) l) r.names)) table) (sym same) ∙ both.0
-    by false e g ih = ih g
-
-families_apart : list_all (λ f. list_all (λ (r : Row). not (is_one_of r.names f)) table) families ≡ true
-unfolding table
-families_apart = refl
-
-pub family_nowhere : (w : List ℕ) → is_family w ≡ true → rule_of w true ≡ nowhere
-unfolding rule_of
-family_nowhere w h = no_row table w nowhere (family_among families w families_apart h)
+use Rattle.cluster_routing.proofs.SplitWords.{family_nowhere}
 
 -- ---- arguments as they are sent
 

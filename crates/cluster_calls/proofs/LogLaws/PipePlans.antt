@@ -25,7 +25,7 @@ use Rattle.cluster_calls.specs.OneServer.Laws.{GapsNameNoKey}
 use Rattle.cluster_calls.specs.OneServer.Keyspace.{Step}
 use Rattle.cluster_calls.specs.OneServer.Meaning.{LeadsToSlot, DoCommand, DoesTuple, IsWholeStep, tree_of_steps, step_trees}
 use Rattle.cluster_calls.proofs.ServerLaws.Distinct.{among-firsts}
-use Rattle.cluster_calls.proofs.ServerLaws.Recut.{cut_of}
+use Rattle.cluster_routing.proofs.Recut.{cut_of}
 use Rattle.cluster_calls.proofs.LogLaws.Plans.{role, split_parts_are, whole_route, tuples_among, all-weaker}
 
 -- whatever does the command does it on its slot

@@ -20,7 +20,7 @@ use Rattle.cluster_calls.specs.Links.World.{is_linked}
 use Rattle.cluster_calls.specs.Calls.Parts.{Target, at_slot, at_number, Part, part_to, is_gap, role_by, slot_part, split_parts, only_part, parts_of}
 use Rattle.cluster_calls.specs.Calls.Plan.{Client, Dispatch, First, first_of, with_first, dispatch_one, dispatches}
 use Rattle.cluster_calls.specs.Calls.Replies.{slot_by, args_slot}
-use Rattle.cluster_calls.proofs.ServerLaws.Recut.{all-filter, split_of_some}
+use Rattle.cluster_routing.proofs.Recut.{all-filter, split_of_some}
 use Rattle.cluster_calls.proofs.ServerLaws.Distinct.{firsts_distinct, among-firsts}
 use Rattle.cluster_calls.proofs.ServerLaws.Splits.{filter-head}
 use Rattle.cluster_calls.proofs.ServerLaws.SplitCall.{IsDispatchOf}

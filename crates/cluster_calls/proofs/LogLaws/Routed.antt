@@ -14,10 +14,10 @@ use Rattle.cluster_routing.specs.declared.policy.MultiSlotArgPattern.{MultiSlotA
 use Rattle.cluster_routing.specs.declared.policy.ResponsePolicy.{ResponsePolicy}
 use Rattle.cluster_routing.specs.declared.route.SlotAddr.{SlotAddr}
 use Rattle.cluster_routing.proofs.Places.{parts_share}
-use Rattle.cluster_calls.proofs.LogLaws.Gaps.{family_nowhere}
+use Rattle.cluster_routing.proofs.SplitWords.{family_nowhere}
 use Rattle.cluster_calls.proofs.ServerLaws.Grouping.{filter-const}
 use Rattle.cluster_calls.proofs.LogLaws.Plans.{has_tuple}
-use Rattle.cluster_calls.proofs.ServerLaws.Recut.{HaveWidth, cut_of, cut_shaped, width_positive, split_of_some}
+use Rattle.cluster_routing.proofs.Recut.{HaveWidth, cut_of, cut_shaped, width_positive, split_of_some}
 
 -- ---- the destination of a split command
 

@@ -13,7 +13,7 @@ use Rattle.cluster_calls.specs.Links.Log.{Exchange}
 use Rattle.cluster_calls.specs.Calls.Plan.{Dispatch}
 use Rattle.cluster_calls.specs.OneServer.Honest.{IsDoneBy}
 use Rattle.cluster_calls.specs.OneServer.Commands.{split_with}
-use Rattle.cluster_calls.proofs.ServerLaws.Recut.{split_of_some}
+use Rattle.cluster_routing.proofs.Recut.{split_of_some}
 use Rattle.cluster_calls.proofs.ServerLaws.Histories.{history_same_slots}
 use Rattle.cluster_calls.proofs.ServerLaws.Splits.{DoesAllowed, pairwise-zip, pairwise-left, filter-head, in_argument_order}
 
