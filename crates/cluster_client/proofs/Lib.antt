@@ -6,3 +6,4 @@ pub mod SeveralNodes
 pub mod Prepared
 pub mod TypedCalls
 pub mod Deletions
+pub mod Relinking

@@ -1,3 +1,4 @@
 pub mod Whole
+pub mod Relinks
 pub mod Shown
 pub mod NodeRuns

@@ -26,6 +26,7 @@ ghost use Rattle.cluster_calls.specs.Links.Run.{with_log};
 ghost use Rattle.cluster_calls.specs.Links.World.{addresses_of, has_repeats, link_at, new_world, nodes, tree_result, tree_results};
 
 mod ordered;
+mod relink;
 
 use cluster_routing::{ClusterTopology, NodeAddress, ReadRoutingStrategy, SlotMap};
 use cluster_steps::asked::{Asked, sent_again};

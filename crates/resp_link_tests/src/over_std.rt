@@ -99,3 +99,19 @@ fn a_link_over_std(rt: HostRuntime) {
     assert_eq!(rt; answered(alloc, 0, 3), None);
     assert_eq!(rt; answered(alloc, 3, 0), None);
 }
+
+// A link's devices come back: the writer has the bytes that were sent, and the reader has the text
+// that no call asked for.
+#[test]
+fn a_link_hands_its_devices_back(rt: HostRuntime) {
+    let alloc = rt.alloc();
+    let reader = FromRead::new(TEXT);
+    let writer = FromWrite::new(Vec::new(alloc));
+    let mut link = ByteLink::new(alloc, reader, writer);
+    assert!(rt; link.req_packed_commands(alloc, b"ab", 0, 0).is_ok());
+    let (reader, writer) = link.into_parts();
+    let left = reader.into_inner();
+    let written = writer.into_inner();
+    assert_eq!(rt; left, TEXT);
+    assert_eq!(rt; written.as_slice(), b"ab".as_slice());
+}
