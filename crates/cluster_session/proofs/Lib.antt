@@ -1,1 +1,4 @@
+mod Pieces
+mod Runs
+mod Seen
 mod Words

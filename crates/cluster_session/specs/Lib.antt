@@ -1,5 +1,9 @@
 pub mod Fault
 pub mod KindNames
+pub mod Lines
+pub mod LinesRead
 pub mod Output
 pub mod Printed
 pub mod PrintedLines
+pub mod PrintedRun
+pub mod Session

@@ -1,8 +1,21 @@
 //! What a session uses of the client, each call in one place.
+ghost use Rattle.std.specs.Prelude.{◌≡◌, [], None, true, map, IfOk};
+ghost use Rattle.cluster_routing.specs.Address.{address_read};
+ghost use Rattle.cluster_routing.specs.Info.{texts};
+ghost use Rattle.cluster_routing.specs.Seen.{address};
+ghost use Rattle.cluster_calls.specs.Links.Play.{Plays};
+ghost use Rattle.cluster_calls.specs.Links.World.{new_world, nodes};
+ghost use Rattle.cluster_client.specs.Shown.{call_in, shown};
+ghost use Rattle.cluster_client.specs.Whole.{whole};
+ghost use Rattle.cluster_session.specs.LinesRead.{Reads};
+ghost use Rattle.cluster_session.specs.PrintedRun.{sent_bytes};
+ghost use Rattle.cluster_session.specs.Session.{link_at_start, setup_in};
+
 use crate::session::lines::LineError;
 use crate::session::script::Node;
 use cluster_client::{
-    ByteLink, Call, ClusterClient, MemoryReader, MemoryWriter, NodeAddress, Played, play,
+    ByteLink, Call, ClusterClient, ConnectionLike, MemoryReader, MemoryWriter, NodeAddress, Played,
+    play,
 };
 use resp_core::{ErrorKind, RedisError};
 use std::alloc::{AllocError, Global};
@@ -14,7 +27,9 @@ pub(super) type Link = ByteLink<MemoryReader, MemoryWriter>;
 pub(super) type Client = ClusterClient<Link>;
 
 /// The address that a word spells.
-pub(super) fn address(alloc: Global, word: &str) -> Result<NodeAddress, LineError> {
+pub(super) fn address(alloc: Global, word: &str) -> Result<NodeAddress, LineError>
+    ensures { Reads address (address_read word.now) result }
+{
     match NodeAddress::try_from(alloc, word) {
         Ok(address) => Ok(address),
         Err(error) => match error.kind() {
@@ -25,7 +40,9 @@ pub(super) fn address(alloc: Global, word: &str) -> Result<NodeAddress, LineErro
 }
 
 /// A link to a node as it is set up.
-pub(super) fn link(alloc: Global, node: Node) -> Link {
+pub(super) fn link(alloc: Global, node: Node) -> Link
+    ensures { ⟦<ByteLink<MemoryReader, MemoryWriter> as ConnectionLike>⟧.seen result ≡ link_at_start (setup_in node) }
+{
     let reader = MemoryReader::new(node.bytes, node.piece, node.failing_read);
     ByteLink::new(alloc, reader, MemoryWriter::new(alloc, node.failing_write))
 }
@@ -36,7 +53,9 @@ pub(super) fn client(
     links: Vec<(NodeAddress, Link)>,
     read_only: Vec<Vec<u8>>,
     budget: u16,
-) -> Result<Client, RedisError> {
+) -> Result<Client, RedisError>
+    ensures { IfOk result (λ client. whole ⟦<ByteLink<MemoryReader, MemoryWriter> as ConnectionLike>⟧.seen client ≡ new_world (nodes ⟦<ByteLink<MemoryReader, MemoryWriter> as ConnectionLike>⟧.seen links.items) (record { budget = budget; read_only = texts read_only.items })) }
+{
     ClusterClient::new(alloc, links, read_only, budget)
 }
 
@@ -45,18 +64,24 @@ pub(super) fn play_all(
     client: &mut Client,
     alloc: Global,
     calls: &[Call],
-) -> Result<Vec<Played>, AllocError> {
+) -> Result<Vec<Played>, AllocError>
+    ensures { IfOk result (λ played. Plays None (whole ⟦<ByteLink<MemoryReader, MemoryWriter> as ConnectionLike>⟧.seen client.old) (whole ⟦<ByteLink<MemoryReader, MemoryWriter> as ConnectionLike>⟧.seen client.new) (map call_in calls.now) [] (map shown played.items) true) }
+{
     let mut played = Vec::new(alloc);
     play(client, alloc, calls, None, &mut played)?;
     Ok(played)
 }
 
 /// Every node and its link, in the order in which the client got them.
-pub(super) fn links(client: &Client) -> &[(NodeAddress, Link)] {
+pub(super) fn links(client: &Client) -> &[(NodeAddress, Link)]
+    ensures { nodes ⟦<ByteLink<MemoryReader, MemoryWriter> as ConnectionLike>⟧.seen result.now ≡ (whole ⟦<ByteLink<MemoryReader, MemoryWriter> as ConnectionLike>⟧.seen client.now).nodes }
+{
     client.links()
 }
 
 /// The bytes that went out over the link.
-pub(super) fn sent(link: &Link) -> &[u8] {
+pub(super) fn sent(link: &Link) -> &[u8]
+    ensures { result.now ≡ sent_bytes (⟦<ByteLink<MemoryReader, MemoryWriter> as ConnectionLike>⟧.seen link.now) }
+{
     link.writer().written()
 }

@@ -1,11 +1,16 @@
 //! A session is played: its calls in order, and what each prints.
-ghost use Rattle.std.specs.Prelude.{◌≡◌, IfOk, string_bytes};
+ghost use Rattle.std.specs.Prelude.{◌≡◌, ◌++◌, IfOk, OnOk, map, string_bytes};
+ghost use Rattle.std.specs.List.{flat_map};
+ghost use Rattle.cluster_calls.specs.Links.World.{nodes};
+ghost use Rattle.cluster_client.specs.Shown.{shown};
 ghost use Rattle.cluster_session.specs.Output.{GoesWith, fault_line};
+ghost use Rattle.cluster_session.specs.PrintedRun.{PrintsRun, call_lines, node_line};
+ghost use Rattle.cluster_session.specs.Session.{node_at_start, node_in, session_in};
 
 use crate::session::calls::Link;
 use crate::session::script::{Node, Script, ScriptError};
 use crate::session::{calls, print};
-use cluster_client::{NodeAddress, Played};
+use cluster_client::{ByteLink, ConnectionLike, MemoryReader, MemoryWriter, NodeAddress, Played};
 use resp_core::{Cause, RedisError};
 use std::alloc::{AllocError, Global};
 use std::collections::BTreeMap;
@@ -41,7 +46,8 @@ fn fault(alloc: Global, number: u64) -> Result<Printed, AllocError>
 }
 
 fn play_script(alloc: Global, script: Script) -> Result<Printed, RedisError>
-    ensures { IfOk result (λ printed. printed.status ≡ 0) }
+    ensures status { IfOk result (λ printed. printed.status ≡ 0) }
+    ensures output { IfOk result (λ printed. PrintsRun (session_in script) (string_bytes printed.output)) }
 {
     let Script {
         nodes,
@@ -61,24 +67,36 @@ fn play_script(alloc: Global, script: Script) -> Result<Printed, RedisError>
 /// A link for each node, in the ascending order of the addresses.
 fn links(
     alloc: Global,
-    nodes: BTreeMap<NodeAddress, Node>,
-) -> Result<Vec<(NodeAddress, Link)>, AllocError> {
-    let mut links = Vec::with_capacity(alloc, nodes.len())?;
-    for (address, node) in nodes {
+    set_up: BTreeMap<NodeAddress, Node>,
+) -> Result<Vec<(NodeAddress, Link)>, AllocError>
+    ensures { IfOk result (λ links. nodes ⟦<ByteLink<MemoryReader, MemoryWriter> as ConnectionLike>⟧.seen links.items ≡ map node_at_start (map node_in set_up.entries)) }
+{
+    let mut links = Vec::with_capacity(alloc, set_up.len())?;
+    for (address, node) in set_up {
         links.push((address, calls::link(alloc, node)))?;
     }
     Ok(links)
 }
 
-fn print_played(output: &mut String, played: &[Played]) -> Result<(), AllocError> {
+fn print_played(output: &mut String, played: &[Played]) -> Result<(), AllocError>
+    ensures { OnOk result (string_bytes output.new ≡ string_bytes output.old ++ flat_map call_lines (map shown played.now)) }
+{
     for call in played {
-        print::answered(output, &call.answer)?;
-        print::requests(output, &call.asked)?;
+        print_call(output, call)?;
     }
     Ok(())
 }
 
-fn print_sent(output: &mut String, links: &[(NodeAddress, Link)]) -> Result<(), AllocError> {
+fn print_call(output: &mut String, call: &Played) -> Result<(), AllocError>
+    ensures { OnOk result (string_bytes output.new ≡ string_bytes output.old ++ call_lines (shown call.now)) }
+{
+    print::answered(output, &call.answer)?;
+    print::requests(output, &call.asked)
+}
+
+fn print_sent(output: &mut String, links: &[(NodeAddress, Link)]) -> Result<(), AllocError>
+    ensures { OnOk result (string_bytes output.new ≡ string_bytes output.old ++ flat_map node_line (nodes ⟦<ByteLink<MemoryReader, MemoryWriter> as ConnectionLike>⟧.seen links.now)) }
+{
     for (address, link) in links {
         print::sent(output, address, calls::sent(link))?;
     }

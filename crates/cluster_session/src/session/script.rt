@@ -22,6 +22,15 @@ pub(super) enum Access {
 }
 
 impl Node {
+    fn new(piece: usize, bytes: Vec<u8>) -> Node {
+        Node {
+            piece,
+            bytes,
+            failing_read: 0,
+            failing_write: 0,
+        }
+    }
+
     // Refused where an access of this kind fails already.
     fn set_fault(&mut self, access: Access, number: u64) -> Result<(), LineError> {
         let failing = match access {
@@ -39,7 +48,8 @@ impl Node {
 /// What a line says.
 #[derive(Drop)]
 pub(super) enum Line {
-    Node(NodeAddress, Node),
+    /// A node's address, the most bytes of a read, and the bytes that come from it.
+    Node(NodeAddress, usize, Vec<u8>),
     Fault(NodeAddress, Access, u64),
     ReadOnly(Vec<u8>),
     Budget(u16),
@@ -134,7 +144,7 @@ impl Script {
 
     fn add_outside(&mut self, alloc: Global, line: Line, later: &[&[u8]]) -> Result<(), LineError> {
         match line {
-            Line::Node(address, node) => self.add_node(address, node),
+            Line::Node(address, piece, bytes) => self.add_node(address, Node::new(piece, bytes)),
             Line::Fault(address, access, number) => self.add_fault(&address, access, number),
             Line::ReadOnly(name) => self.add_read_only(name),
             Line::Budget(budget) => self.set_budget(budget),

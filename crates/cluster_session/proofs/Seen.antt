@@ -1,0 +1,20 @@
+-- What is seen of a link over bytes in memory.
+use Rattle.std.proofs.Common.{true, map, drop, Some}
+use Rattle.resp_core.specs.Standing.{waiting}
+use Rattle.resp_core.specs.View.{push_view}
+use Rattle.resp_link.specs.Call.{Seen}
+use Rattle.resp_link.specs.declared.byte_link.ByteLink.{ByteLink}
+use Rattle.resp_link.specs.declared.memory_reader.MemoryReader.{MemoryReader}
+use Rattle.resp_link.specs.declared.memory_writer.MemoryWriter.{MemoryWriter}
+
+abbrev pub link_seen : ByteLink MemoryReader MemoryWriter → Seen
+link_seen l = record {
+  sent = Some l.writer.bytes.items;
+  left = Some (drop l.reader.at l.reader.bytes.items);
+  held = waiting l.parser;
+  pushes = map push_view l.pushes.items;
+  counts = record { refused = l.reader.refused; empty = l.reader.empty; reads = l.reader.reads };
+  refused = l.writer.refused;
+  flushed = true;
+  usable = l.usable;
+}
