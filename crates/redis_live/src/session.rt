@@ -1,0 +1,208 @@
+//! Commands in, replies out.
+use crate::devices::{Link, Peer, listed, open_link};
+use crate::print::{Style, refusal, reply};
+use crate::words::split;
+use anyhow::Result;
+use cluster_client::{
+    ClusterClient, ClusterPipeline, Cmd, ConnectionLike, MultipleNodeRoutingInfo, RedisError,
+    RoutingInfo, Value, cluster_pipe,
+};
+use std::alloc::{AllocError, Global};
+use std::io::{BufRead, BufReader, Write};
+use std::rt::{Env, Files};
+use std::{env, io};
+
+// How many redirects a request follows.
+const BUDGET: u16 = 5;
+
+/// A client, and what goes on between its calls.
+#[derive(Drop)]
+struct Session<L> {
+    client: ClusterClient<L>,
+    /// The nodes of the folder; the first is asked first for the slot map.
+    peers: Vec<Peer>,
+    /// The commands since the line `pipeline`.
+    pipeline: Option<ClusterPipeline>,
+    style: Style,
+    output: Vec<u8>,
+}
+
+impl<L: ConnectionLike + Drop> Session<L> {
+    /// Asks one node after another for the slot map, until one answers. That one is asked first from
+    /// then on.
+    fn refresh(&mut self, alloc: Global) -> Result<()> {
+        let mut answered = None;
+        for (place, peer) in self.peers.iter().enumerate() {
+            let Err(error) = self.client.refresh(alloc, &peer.node) else {
+                answered = Some(place);
+                break;
+            };
+            write!(self.output, "(map from {}) ", peer.node)?;
+            refusal(&mut self.output, self.style, &error)?;
+        }
+        if let Some(place) = answered
+            && place < self.peers.len()
+        {
+            self.peers.swap(0, place);
+        }
+        Ok(())
+    }
+
+    /// Tells the nodes of the slot map to which no link leads.
+    fn tell_unlinked(&mut self, alloc: Global) -> Result<()> {
+        for node in self.client.unlinked(alloc)? {
+            writeln!(self.output, "(no link to {node})")?;
+        }
+        Ok(())
+    }
+
+    /// Does what a line asks for.
+    fn take_line(&mut self, alloc: Global, line: &[u8]) -> Result<()> {
+        let Some(words) = split(alloc, line)? else {
+            writeln!(self.output, "Invalid argument(s)")?;
+            return Ok(());
+        };
+        match words.as_slice() {
+            [] => Ok(()),
+            [word] if word.as_slice() == b"pipeline".as_slice() => {
+                self.pipeline = Some(cluster_pipe(alloc));
+                Ok(())
+            }
+            [word] if word.as_slice() == b"end".as_slice() => self.end_pipeline(alloc),
+            _ => self.take_command(alloc, command_of(alloc, &words)?),
+        }
+    }
+
+    /// Keeps a command for its pipeline, or sends it.
+    fn take_command(&mut self, alloc: Global, command: Cmd) -> Result<()> {
+        match &mut self.pipeline {
+            Some(pipeline) => {
+                pipeline.add_command(command)?;
+                Ok(())
+            }
+            None => {
+                let answer = ask(alloc, &mut self.client, &command);
+                self.tell(alloc, answer)
+            }
+        }
+    }
+
+    /// Sends the pipeline's commands.
+    fn end_pipeline(&mut self, alloc: Global) -> Result<()> {
+        let Some(pipeline) = self.pipeline.take() else {
+            writeln!(self.output, "Invalid argument(s)")?;
+            return Ok(());
+        };
+        let answer = pipeline.query(alloc, &mut self.client);
+        self.tell(alloc, answer)
+    }
+
+    fn tell(&mut self, alloc: Global, answer: Result<Value, RedisError>) -> Result<()> {
+        match answer {
+            Ok(value) => reply(&mut self.output, alloc, self.style, &value),
+            Err(error) => refusal(&mut self.output, self.style, &error),
+        }
+    }
+
+    fn flush<R: Print>(&mut self, rt: &R) -> io::Result<()> {
+        io::writer(rt).write_all(&self.output)?;
+        self.output.clear();
+        Ok(())
+    }
+}
+
+fn command_of(alloc: Global, words: &[Vec<u8>]) -> Result<Cmd, AllocError> {
+    let mut command = Cmd::new(alloc);
+    for word in words {
+        command.arg(word.as_slice())?;
+    }
+    Ok(command)
+}
+
+/// Whether a command goes to all nodes or to all primaries.
+fn goes_to_several(alloc: Global, command: &Cmd) -> Result<bool, AllocError> {
+    Ok(matches!(
+        &RoutingInfo::for_routable(alloc, command, &[])?,
+        Some(RoutingInfo::MultiNode((
+            MultipleNodeRoutingInfo::AllNodes | MultipleNodeRoutingInfo::AllMasters,
+            _,
+        ))),
+    ))
+}
+
+/// The answer to one command.
+fn ask<L: ConnectionLike + Drop>(
+    alloc: Global,
+    client: &mut ClusterClient<L>,
+    command: &Cmd,
+) -> Result<Value, RedisError> {
+    if goes_to_several(alloc, command)? {
+        client.fan_out(alloc, command)
+    } else {
+        client.query(alloc, command, 0, None)
+    }
+}
+
+/// Opens the next pair of files of each node without an open link, and tells whether there was one.
+fn relink<R: Files + AllocGlobal>(
+    rt: &R,
+    folder: &str,
+    session: &mut Session<Link<R::File>>,
+) -> Result<bool> {
+    let mut opened = false;
+    for peer in session.peers.iter_mut() {
+        if session.client.link_state(&peer.node) != Some(true) {
+            if let Ok(link) = open_link(rt, folder, peer) {
+                session.client.set_link(peer.node.clone()?, link)?;
+                opened = true;
+            }
+        }
+    }
+    Ok(opened)
+}
+
+/// Sees to it that links are open and the slot map is known.
+fn restore<R: Files + AllocGlobal>(
+    rt: &R,
+    folder: &str,
+    session: &mut Session<Link<R::File>>,
+) -> Result<()> {
+    let alloc = rt.alloc();
+    if relink(rt, folder, session)? || session.client.needs_refresh() {
+        session.refresh(alloc)?;
+        session.tell_unlinked(alloc)?;
+    }
+    Ok(())
+}
+
+/// Takes commands from the input, one a line, until it ends.
+pub(crate) fn serve<R: Files + Env + Input + Print + AllocGlobal>(rt: &R) -> Result<()> {
+    let alloc = rt.alloc();
+    let mut args = env::args(rt)?;
+    let _program = args.next();
+    let Some(folder) = args.next() else {
+        println!(rt; "live FOLDER [--raw] < COMMANDS")?;
+        return Ok(());
+    };
+    let style = match args.next() {
+        Some(_) => Style::Raw,
+        None => Style::Typed,
+    };
+    let folder = folder.as_str();
+    let mut session = Session {
+        client: ClusterClient::new(alloc, Vec::new(alloc), Vec::new(alloc), BUDGET)?,
+        peers: listed(rt, folder)?,
+        pipeline: None,
+        style,
+        output: Vec::new(alloc),
+    };
+    restore(rt, folder, &mut session)?;
+    for line in BufReader::new(alloc, rt.reader())?.split(alloc, b'\n') {
+        let line = line?;
+        session.take_line(alloc, &line)?;
+        session.flush(rt)?;
+        restore(rt, folder, &mut session)?;
+    }
+    session.flush(rt)?;
+    Ok(())
+}
