@@ -4,9 +4,14 @@
 # make test             the gate (every proof, test and must-fail edit), every session, and memory refused
 # make bench            times 10,000 and 20,000 queries, an MGET of as many keys, a pipeline of as many commands, the
 #                       parser over bytes cut in pieces, and a map of up to 16,384 slot ranges
+# make live HOST=H PORT=P   takes commands for the cluster of the node at H and P from standard input, by socat (docs/LIVE.md)
+# make live-test        tries that against a cluster of six, which it starts; no part of the gate
 SESSION ?= examples/sessions/moved.session
 
-.PHONY: play build test bench
+HOST ?= 127.0.0.1
+PORT ?= 7000
+
+.PHONY: play build test bench live live-test
 
 play:
 	@tools/play "$(SESSION)"
@@ -21,3 +26,9 @@ bench:
 	@program=$$(tools/build) && tools/bench "$$program"
 	@program=$$(tools/build parser_bench) && tools/parser-bench "$$program"
 	@program=$$(tools/build range_map_bench) && tools/range-map-bench "$$program"
+
+live:
+	@program=$$(tools/build redis_live) && tools/live "$$program" "$(HOST)" "$(PORT)"
+
+live-test:
+	@program=$$(tools/build redis_live) && tools/live-test "$$program"
