@@ -1,3 +1,4 @@
+pub mod Examples
 pub mod Fault
 pub mod KindNames
 pub mod Lines
@@ -6,4 +7,5 @@ pub mod Output
 pub mod Printed
 pub mod PrintedLines
 pub mod PrintedRun
+pub mod Script
 pub mod Session
