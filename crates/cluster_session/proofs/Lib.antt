@@ -1,4 +1,6 @@
 mod Pieces
 mod Runs
+mod Scripts
 mod Seen
+mod Setups
 mod Words

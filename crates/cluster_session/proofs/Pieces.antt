@@ -1,8 +1,12 @@
 -- The pieces of a text: one without a separator is alone, and one before a separator is the first.
-use Rattle.std.proofs.Common.{◌≡◌, ◌≢◌, ℕ, suc, ◌+◌, ◌<◌, if◌then◌else◌, List, [], ◌∷◌, ◌++◌, length, get_or, Option, Some, None, IfSome, MatchOption, refl, ap, ◌∙◌, arith}
+use Rattle.std.proofs.Common.{◌≡◌, ◌≢◌, ◌==◌, ℕ, suc, ◌+◌, ◌<◌, ◌≤◌, Bool, false, if◌then◌else◌, List, [], ◌∷◌, ◌++◌, length, get_or, take, drop, Option, Some, None, IfSome, MatchOption, refl, ap, ap₂, sym, ◌∙◌, add-one, drop-cons, length-take, arith}
 use Rattle.std.specs.Borrow.{Bor}
-use Rattle.std.proofs.lemmas.List.{length-append}
-use Rattle.std.proofs.lemmas.Bool.{eq-eqb, ne_eqb}
+use Rattle.std.specs.List.{position, position_or_len}
+use Rattle.std.proofs.lemmas.Grind.{common_steps}
+use Rattle.std.proofs.lemmas.List.{length-append, get_or-take, take-append-drop}
+use Rattle.std.proofs.lemmas.List.Quantifiers.{position-Some}
+use Rattle.std.proofs.lemmas.List.Sums.{fails_before_first}
+use Rattle.std.proofs.lemmas.Bool.{eq-eqb, eqb-true, ne_eqb}
 use Rattle.cluster_session.specs.Lines.{pieces, before_piece}
 
 abbrev pub Lacks : ℕ → List ℕ → Type 0
@@ -34,3 +38,26 @@ cut_shorter c bs None lacks = tt
 cut_shorter c bs (Some x) (whole, lacks) =
     let both : length bs ≡ length x.0.now + suc (length x.1.now) = ap length whole ∙ length-append x.0.now (c ∷ x.1.now) in
     omega (arith, both)
+
+-- ---- a text by the place of its first separator
+
+abbrev is_byte : ℕ → ℕ → Bool
+is_byte c b = b == c
+
+differs : (c b : ℕ) → is_byte c b ≡ false → b ≢ c
+differs c b is_not e = absurd (cc (is_not, eq-eqb b c e))
+
+pub piece_without : (c : ℕ) (bs : List ℕ) → position (λ b. b == c) bs ≡ None → pieces c bs ≡ bs ∷ []
+piece_without c bs none =
+    let all : length bs ≤ position_or_len (λ b. b == c) bs = grind (arith, common_steps) in
+    piece_alone c bs (λ i below. differs c (get_or bs i 0) (fails_before_first (λ b. b == c) bs i 0 (omega (arith, all, below))))
+
+pub piece_up_to : (c : ℕ) (bs : List ℕ) (i : ℕ) → position (λ b. b == c) bs ≡ Some i → pieces c bs ≡ take i bs ∷ pieces c (drop (i + 1) bs)
+piece_up_to c bs i some =
+    let found = position-Some (λ b. b == c) bs i 0 some in
+    let is : get_or bs i 0 ≡ c = eqb-true (get_or bs i 0) c found.1 in
+    let left : drop i bs ≡ c ∷ drop (i + 1) bs = drop-cons bs i 0 found.0 ∙ ap₂ (λ b (k : ℕ). b ∷ drop k bs) is (sym (add-one i)) in
+    let whole : bs ≡ take i bs ++ (c ∷ drop (i + 1) bs) = sym (take-append-drop i bs) ∙ ap (λ l. take i bs ++ l) left in
+    let lacks : Lacks c (take i bs) = λ k below. let lt : k < i = omega (arith, below, length-take i bs) in
+    differs c (get_or (take i bs) k 0) (ap (is_byte c) (get_or-take i bs k 0 lt) ∙ found.2 k lt) in
+    ap (pieces c) whole ∙ piece_before c (take i bs) (drop (i + 1) bs) lacks

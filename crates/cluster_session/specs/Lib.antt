@@ -1,5 +1,4 @@
 pub mod Examples
-pub mod Fault
 pub mod KindNames
 pub mod Lines
 pub mod LinesRead
@@ -8,4 +7,5 @@ pub mod Printed
 pub mod PrintedLines
 pub mod PrintedRun
 pub mod Script
+pub mod ScriptRead
 pub mod Session

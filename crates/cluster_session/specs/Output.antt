@@ -1,20 +1,25 @@
--- What the program prints and answers: a fault line alone with 2, what is printed of a session's run with 0.
+-- What the program prints and answers for a text: a fault line alone with 2, what is printed of the session's run with 0.
 -- Source: the session language is this repository's own (docs/SESSIONS.md).
-use Rattle.std.specs.Prelude.{ℕ, ◌≡◌, ◌≤◌, ◌⊎◌, List, ◌++◌, Option, codes, decimal}
-use Rattle.std.specs.Io.KnownBytes.{Appends}
+use Rattle.std.specs.Prelude.{ℕ, ◌≡◌, List, ◌++◌, Option, Result, Ok, Err, codes, decimal}
+use Rattle.std.specs.Io.KnownBytes.{Appends, Consumes}
 use Rattle.cluster_session.specs.PrintedRun.{PrintsRun}
+use Rattle.cluster_session.specs.Script.{session_in_text}
 use Rattle.cluster_session.specs.Session.{Session}
 
 -- the line of a text with a bad line: that line's number, from 1
 abbrev pub fault_line : ℕ → List ℕ
 fault_line number = codes "fault line " ++ (decimal number ++ codes "\n")
 
--- the output that goes with a status: 0 with what is printed of a run of a session, and 2 with a fault line alone
-abbrev pub GoesWith : ℕ → List ℕ → Type 0
-GoesWith status output =
-    ((status ≡ 0) × (session : Session) × PrintsRun session output)
-    ⊎ ((status ≡ 2) × (number : ℕ) × (1 ≤ number) × (output ≡ fault_line number))
+-- The status and the output of a text: 0 and what is printed of a run of its session; of a text that is none, 2 and a fault line
+-- alone, which tells the first bad line.
+abbrev pub GoesWith : Result Session ℕ → ℕ → List ℕ → Type 0
+GoesWith (Ok session) status output = (status ≡ 0) × PrintsRun session output
+GoesWith (Err number) status output = (status ≡ 2) × (output ≡ fault_line number)
 
--- a writer got an output that goes with the status
-abbrev pub Prints : ℕ → Option (List ℕ) → Option (List ℕ) → Type 0
-Prints status before after = (output : List ℕ) × Appends before after output × GoesWith status output
+-- A text was read from a reader that had `left` to come, and the writer got the output that goes with it and the status.
+pub record Prints (status : ℕ) (left rest before after : Option (List ℕ)) : Type 0 where
+  pub text : List ℕ
+  pub reads : Consumes left rest text
+  pub output : List ℕ
+  pub writes : Appends before after output
+  pub goes : GoesWith (session_in_text text) status output

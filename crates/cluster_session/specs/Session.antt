@@ -1,16 +1,10 @@
 -- A session as plain data: what is set up for each node, and the calls.
 -- Source: the session language is this repository's own (docs/SESSIONS.md).
-use Rattle.std.specs.Prelude.{ℕ, true, List, [], map, Some, unwrap_or}
+use Rattle.std.specs.Prelude.{ℕ, true, List, [], map, Some}
 use Rattle.resp_link.specs.Call.{Seen}
 use Rattle.cluster_routing.specs.Address.{Address}
-use Rattle.cluster_routing.specs.Info.{texts}
-use Rattle.cluster_routing.specs.Seen.{address}
-use Rattle.cluster_routing.specs.declared.address.NodeAddress.{NodeAddress}
 use Rattle.cluster_calls.specs.Calls.Call.{Call}
 use Rattle.cluster_calls.specs.Links.World.{World, Node, new_world}
-use Rattle.cluster_client.specs.Shown.{call_in}
-use Rattle.cluster_session.specs.declared.session.script.Node.{Node as CodeNode}
-use Rattle.cluster_session.specs.declared.session.script.Script.{Script}
 
 -- What is set up for a node: the most bytes that one read gives, the bytes that come from it, and the numbers of the read and of
 -- the write that fail, counted from 1; 0 where none does.
@@ -48,25 +42,3 @@ node_at_start node = record { address = node.0; link = link_at_start node.1 }
 
 abbrev pub start : Session → World
 start session = new_world (map node_at_start session.nodes) (record { budget = session.budget; read_only = session.read_only })
-
--- ---- the code's script as plain data
-
-abbrev pub setup_in : CodeNode → Setup
-setup_in node = record {
-  piece = node.piece;
-  bytes = node.bytes.items;
-  failing_read = node.failing_read;
-  failing_write = node.failing_write;
-}
-
-abbrev pub node_in : NodeAddress × CodeNode → Address × Setup
-node_in node = (address node.0, setup_in node.1)
-
--- without a line for it a request follows one redirect
-abbrev pub session_in : Script → Session
-session_in script = record {
-  nodes = map node_in script.nodes.entries;
-  read_only = texts script.read_only.items;
-  budget = unwrap_or script.budget 1;
-  calls = map call_in script.calls.items;
-}

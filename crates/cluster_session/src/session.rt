@@ -1,5 +1,5 @@
 //! A session: a text that sets up nodes and calls, read whole, checked whole, then played.
-ghost use Rattle.std.specs.Prelude.{◌≡◌, ◌⊎◌, IfOk, OnOk};
+ghost use Rattle.std.specs.Prelude.{IfOk, OnOk};
 ghost use Rattle.std.specs.Io.KnownBytes.{IsAtEnd};
 ghost use Rattle.cluster_session.specs.Output.{Prints};
 
@@ -31,9 +31,8 @@ pub fn run_session<R: Read, W: Write>(
     reader: &mut R,
     writer: &mut W,
 ) -> Result<u8, RedisError>
-    ensures status { IfOk result (λ status. (status ≡ 0) ⊎ (status ≡ 2)) }
     ensures reads_all { OnOk result (IsAtEnd (R.remaining reader.new)) }
-    ensures writes { IfOk result (λ status. Prints status (W.contents writer.old) (W.contents writer.new)) }
+    ensures writes { IfOk result (λ status. Prints status (R.remaining reader.old) (R.remaining reader.new) (W.contents writer.old) (W.contents writer.new)) }
 {
     let text = streams::read_text(alloc, reader, READS)?;
     let printed = play::play(alloc, text.as_slice())?;

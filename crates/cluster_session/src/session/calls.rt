@@ -9,7 +9,8 @@ ghost use Rattle.cluster_client.specs.Shown.{call_in, shown};
 ghost use Rattle.cluster_client.specs.Whole.{whole};
 ghost use Rattle.cluster_session.specs.LinesRead.{Reads};
 ghost use Rattle.cluster_session.specs.PrintedRun.{sent_bytes};
-ghost use Rattle.cluster_session.specs.Session.{link_at_start, setup_in};
+ghost use Rattle.cluster_session.specs.ScriptRead.{setup_in};
+ghost use Rattle.cluster_session.specs.Session.{link_at_start};
 
 use crate::session::lines::LineError;
 use crate::session::script::Node;

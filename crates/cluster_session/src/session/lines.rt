@@ -6,6 +6,7 @@ ghost use Rattle.cluster_routing.specs.Info.{texts};
 ghost use Rattle.cluster_client.specs.Shown.{streams_in};
 ghost use Rattle.cluster_session.specs.Lines.{is_skipped, said_by_text, said_by_words, said_by, name_line, node_line, fault_line, budget_line, refresh_line, query_line, order_line, fan_line, command_line, xrange_line, xread_line, alone, command_words, each_read, bytes_word, number_word, from_one, piece_size, budget_size, access_word, between_commas, pieces, streams_of, streams_word, command_of};
 ghost use Rattle.cluster_session.specs.LinesRead.{Reads, access_in, meaning_in, words_in};
+ghost use Rattle.cluster_session.specs.Script.{is_run, said_by_line};
 
 use crate::session::calls;
 use crate::session::script::{Access, Line};
@@ -48,7 +49,9 @@ impl<T: Drop> From<AllocFailed<T>> for LineError {
 }
 
 /// What a line says; `None` for an empty line and for a comment.
-pub(super) fn read_line(alloc: Global, line: &[u8]) -> Result<Option<Line>, LineError> {
+pub(super) fn read_line(alloc: Global, line: &[u8]) -> Result<Option<Line>, LineError>
+    ensures { Reads (λ said. option_map meaning_in said) (said_by_line line.now) result }
+{
     if is_skipped(line) {
         return Ok(None);
     }
@@ -66,7 +69,9 @@ fn is_skipped(line: &[u8]) -> bool
 }
 
 /// Whether the line ends a pipeline.
-pub(super) fn is_run(line: &[u8]) -> bool {
+pub(super) fn is_run(line: &[u8]) -> bool
+    ensures { result ≡ is_run line.now }
+{
     line == b"run".as_slice()
 }
 

@@ -5,7 +5,9 @@ ghost use Rattle.cluster_calls.specs.Links.World.{nodes};
 ghost use Rattle.cluster_client.specs.Shown.{shown};
 ghost use Rattle.cluster_session.specs.Output.{GoesWith, fault_line};
 ghost use Rattle.cluster_session.specs.PrintedRun.{PrintsRun, call_lines, node_line};
-ghost use Rattle.cluster_session.specs.Session.{node_at_start, node_in, session_in};
+ghost use Rattle.cluster_session.specs.Script.{session_in_text};
+ghost use Rattle.cluster_session.specs.ScriptRead.{node_in, session_in};
+ghost use Rattle.cluster_session.specs.Session.{node_at_start};
 
 use crate::session::calls::Link;
 use crate::session::script::{Node, Script, ScriptError};
@@ -27,7 +29,7 @@ pub(super) struct Printed {
 
 /// Plays the session of the text; one with a bad line calls nothing.
 pub(super) fn play(alloc: Global, text: &[u8]) -> Result<Printed, RedisError>
-    ensures { IfOk result (λ printed. GoesWith printed.status (string_bytes printed.output)) }
+    ensures { IfOk result (λ printed. GoesWith (session_in_text text.now) printed.status (string_bytes printed.output)) }
 {
     match Script::read(alloc, text) {
         Ok(script) => play_script(alloc, script),

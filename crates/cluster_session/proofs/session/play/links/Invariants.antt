@@ -1,6 +1,7 @@
 use Rattle.std.proofs.Common.{◌≡◌, ◌++◌, map}
 use Rattle.cluster_calls.specs.Links.World.{nodes}
-use Rattle.cluster_session.specs.Session.{node_at_start, node_in}
+use Rattle.cluster_session.specs.ScriptRead.{node_in}
+use Rattle.cluster_session.specs.Session.{node_at_start}
 use Rattle.cluster_session.proofs.Seen.{link_seen}
 use Rattle.cluster_session.proofs.session.play.links.Given as goal
 

@@ -1,5 +1,5 @@
 use Rattle.std.proofs.Common.{rules}
-use Rattle.cluster_session.specs.Session.{session_in}
+use Rattle.cluster_session.specs.ScriptRead.{session_in}
 use Rattle.cluster_session.proofs.Runs.{run_of}
 use Rattle.cluster_session.proofs.session.play.play_script.Goals as goal
 
