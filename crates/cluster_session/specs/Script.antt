@@ -15,7 +15,7 @@ use Rattle.cluster_session.specs.Session.{Session, Setup}
 abbrev pub Nodes : Type 0
 Nodes = List (Address × Setup)
 
--- What the lines so far set up and call, and the commands of a pipeline that no line has ended yet. Nodes ascend by address.
+-- What the lines so far set up and call, and the commands of a pipeline that no line has ended yet.
 pub record Draft : Type 0 where
   pub nodes : Nodes
   pub read_only : List (List ℕ)
