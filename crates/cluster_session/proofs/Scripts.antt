@@ -19,7 +19,7 @@ pub any_words : (lines : List (Bor (List ℕ))) → list_any is_run (words_in li
 any_words [] = refl
 any_words (l ∷ ls) = ap (λ b. is_run l.now || b) (any_words ls)
 
--- the last command is left out
+-- the reply of the last command is left out
 pub last_is_ignored : (xs : List Entry) (e : Entry) → with_last ignoring (xs ++ e ∷ []) ≡ xs ++ ignoring e ∷ []
 last_is_ignored [] e = refl
 last_is_ignored (x ∷ []) e = refl

@@ -136,6 +136,7 @@ impl Script {
         Ok(script)
     }
 
+    // The lines in order, up to the first bad one.
     fn add_lines(&mut self, alloc: Global, lines: &[&[u8]]) -> Result<(), ScriptError>
         ensures { MakesAll (add_lines 1 (words_in lines.now) (draft_in self.old)) (draft_in self.new) result }
     {
@@ -159,6 +160,7 @@ impl Script {
         }
     }
 
+    // What a line says, inside a pipeline or outside one.
     #[tactic(auto, using(crate::proofs::Scripts::said_inside, crate::proofs::Scripts::said_outside))]
     fn add_said(&mut self, alloc: Global, line: Line, later: &[&[u8]]) -> Result<(), LineError>
         ensures { Makes (add_said (draft_in self.old).pipeline (words_in later.now) (meaning_in line) (draft_in self.old)) (draft_in self.new) result }
