@@ -1,3 +1,4 @@
+mod Distinct
 mod Pieces
 mod Runs
 mod Scripts

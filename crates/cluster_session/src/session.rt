@@ -1,6 +1,8 @@
 //! A session: a text that sets up nodes and calls, read whole, checked whole, then played.
-ghost use Rattle.std.specs.Prelude.{IfOk, OnOk};
+ghost use Rattle.std.specs.Prelude.{◌≡◌, ◌⊎◌, IfErr, IfOk, OnOk};
 ghost use Rattle.std.specs.Io.KnownBytes.{IsAtEnd};
+ghost use Rattle.resp_core.specs.Errors.{by_cause};
+ghost use Rattle.resp_core.specs.declared.errors.redis_error.Cause.TheVariants.{Io, Memory};
 ghost use Rattle.cluster_session.specs.Output.{Prints};
 
 mod calls;
@@ -33,6 +35,7 @@ pub fn run_session<R: Read, W: Write>(
 ) -> Result<u8, RedisError>
     ensures reads_all { OnOk result (IsAtEnd (R.remaining reader.new)) }
     ensures writes { IfOk result (λ status. Prints status (R.remaining reader.old) (R.remaining reader.new) (W.contents writer.old) (W.contents writer.new)) }
+    ensures causes { IfErr result (λ e. (e ≡ by_cause Io) ⊎ (e ≡ by_cause Memory)) }
 {
     let text = streams::read_text(alloc, reader, READS)?;
     let printed = play::play(alloc, text.as_slice())?;

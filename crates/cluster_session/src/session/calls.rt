@@ -1,10 +1,10 @@
 //! What a session uses of the client, each call in one place.
-ghost use Rattle.std.specs.Prelude.{◌≡◌, [], None, true, map, IfOk};
+ghost use Rattle.std.specs.Prelude.{◌≡◌, [], None, true, map, IfErr, IfOk};
 ghost use Rattle.cluster_routing.specs.Address.{address_read};
 ghost use Rattle.cluster_routing.specs.Info.{texts};
 ghost use Rattle.cluster_routing.specs.Seen.{address};
 ghost use Rattle.cluster_calls.specs.Links.Play.{Plays};
-ghost use Rattle.cluster_calls.specs.Links.World.{new_world, nodes};
+ghost use Rattle.cluster_calls.specs.Links.World.{addresses_of, has_repeats, new_world, nodes};
 ghost use Rattle.cluster_client.specs.Shown.{call_in, shown};
 ghost use Rattle.cluster_client.specs.Whole.{whole};
 ghost use Rattle.cluster_session.specs.LinesRead.{Reads};
@@ -55,7 +55,8 @@ pub(super) fn client(
     read_only: Vec<Vec<u8>>,
     budget: u16,
 ) -> Result<Client, RedisError>
-    ensures { IfOk result (λ client. whole ⟦<ByteLink<MemoryReader, MemoryWriter> as ConnectionLike>⟧.seen client ≡ new_world (nodes ⟦<ByteLink<MemoryReader, MemoryWriter> as ConnectionLike>⟧.seen links.items) (record { budget = budget; read_only = texts read_only.items })) }
+    ensures repeated { IfErr result (λ _. has_repeats (addresses_of (nodes ⟦<ByteLink<MemoryReader, MemoryWriter> as ConnectionLike>⟧.seen links.items)) ≡ true) }
+    ensures made { IfOk result (λ client. whole ⟦<ByteLink<MemoryReader, MemoryWriter> as ConnectionLike>⟧.seen client ≡ new_world (nodes ⟦<ByteLink<MemoryReader, MemoryWriter> as ConnectionLike>⟧.seen links.items) (record { budget = budget; read_only = texts read_only.items })) }
 {
     ClusterClient::new(alloc, links, read_only, budget)
 }

@@ -1,7 +1,9 @@
 //! A session is played: its calls in order, and what each prints.
-ghost use Rattle.std.specs.Prelude.{◌≡◌, ◌++◌, IfOk, OnOk, map, string_bytes};
+ghost use Rattle.std.specs.Prelude.{◌≡◌, ◌++◌, IfErr, IfOk, OnOk, false, map, string_bytes};
 ghost use Rattle.std.specs.List.{flat_map};
-ghost use Rattle.cluster_calls.specs.Links.World.{nodes};
+ghost use Rattle.resp_core.specs.Errors.{by_cause};
+ghost use Rattle.resp_core.specs.declared.errors.redis_error.Cause.TheVariants.{Memory};
+ghost use Rattle.cluster_calls.specs.Links.World.{addresses_of, has_repeats, nodes};
 ghost use Rattle.cluster_client.specs.Shown.{shown};
 ghost use Rattle.cluster_session.specs.Output.{GoesWith, fault_line};
 ghost use Rattle.cluster_session.specs.PrintedRun.{PrintsRun, call_lines, node_line};
@@ -29,7 +31,8 @@ pub(super) struct Printed {
 
 /// Plays the session of the text; one with a bad line calls nothing.
 pub(super) fn play(alloc: Global, text: &[u8]) -> Result<Printed, RedisError>
-    ensures { IfOk result (λ printed. GoesWith (session_in_text text.now) printed.status (string_bytes printed.output)) }
+    ensures prints { IfOk result (λ printed. GoesWith (session_in_text text.now) printed.status (string_bytes printed.output)) }
+    ensures only { IfErr result (λ e. e ≡ by_cause Memory) }
 {
     match Script::read(alloc, text) {
         Ok(script) => play_script(alloc, script),
@@ -50,6 +53,7 @@ fn fault(alloc: Global, number: u64) -> Result<Printed, AllocError>
 fn play_script(alloc: Global, script: Script) -> Result<Printed, RedisError>
     ensures status { IfOk result (λ printed. printed.status ≡ 0) }
     ensures output { IfOk result (λ printed. PrintsRun (session_in script) (string_bytes printed.output)) }
+    ensures only { IfErr result (λ e. e ≡ by_cause Memory) }
 {
     let Script {
         nodes,
@@ -71,7 +75,8 @@ fn links(
     alloc: Global,
     set_up: BTreeMap<NodeAddress, Node>,
 ) -> Result<Vec<(NodeAddress, Link)>, AllocError>
-    ensures { IfOk result (λ links. nodes ⟦<ByteLink<MemoryReader, MemoryWriter> as ConnectionLike>⟧.seen links.items ≡ map node_at_start (map node_in set_up.entries)) }
+    ensures links { IfOk result (λ links. nodes ⟦<ByteLink<MemoryReader, MemoryWriter> as ConnectionLike>⟧.seen links.items ≡ map node_at_start (map node_in set_up.entries)) }
+    ensures distinct { IfOk result (λ links. has_repeats (addresses_of (nodes ⟦<ByteLink<MemoryReader, MemoryWriter> as ConnectionLike>⟧.seen links.items)) ≡ false) }
 {
     let mut links = Vec::with_capacity(alloc, set_up.len())?;
     for (address, node) in set_up {

@@ -1,6 +1,8 @@
 //! A session's text in, and its output out.
-ghost use Rattle.std.specs.Prelude.{IfOk, OnOk};
+ghost use Rattle.std.specs.Prelude.{◌≡◌, ◌⊎◌, IfErr, IfOk, OnOk};
 ghost use Rattle.std.specs.Io.KnownBytes.{Appends, Consumes, IsAtEnd, Keeps};
+ghost use Rattle.resp_core.specs.Errors.{by_cause};
+ghost use Rattle.resp_core.specs.declared.errors.redis_error.Cause.TheVariants.{Io, Memory};
 
 use resp_core::{Cause, RedisError};
 use std::alloc::Global;
@@ -14,6 +16,7 @@ pub(super) fn read_text<R: Read>(
 ) -> Result<Vec<u8>, RedisError>
     ensures all { IfOk result (λ text. Consumes (R.remaining reader.old) (R.remaining reader.new) text.items) }
     ensures to_the_end { OnOk result (IsAtEnd (R.remaining reader.new)) }
+    ensures causes { IfErr result (λ e. (e ≡ by_cause Io) ⊎ (e ≡ by_cause Memory)) }
 {
     let mut text = Vec::new(alloc);
     let mut buffer = [0u8; 4096];
@@ -29,7 +32,8 @@ pub(super) fn read_text<R: Read>(
 
 /// Writes the whole text and flushes it.
 pub(super) fn write_text<W: Write>(writer: &mut W, text: &str) -> Result<(), RedisError>
-    ensures { OnOk result (Appends (W.contents writer.old) (W.contents writer.new) text.now) }
+    ensures written { OnOk result (Appends (W.contents writer.old) (W.contents writer.new) text.now) }
+    ensures only { IfErr result (λ e. e ≡ by_cause Io) }
 {
     match writer.write_all(text.as_bytes()) {
         Ok(()) => flush(writer),
@@ -38,7 +42,8 @@ pub(super) fn write_text<W: Write>(writer: &mut W, text: &str) -> Result<(), Red
 }
 
 fn flush<W: Write>(writer: &mut W) -> Result<(), RedisError>
-    ensures { Keeps (W.contents writer.old) (W.contents writer.new) }
+    ensures keeps { Keeps (W.contents writer.old) (W.contents writer.new) }
+    ensures only { IfErr result (λ e. e ≡ by_cause Io) }
 {
     match writer.flush() {
         Ok(()) => Ok(()),
