@@ -1,11 +1,11 @@
 """What a run in which something failed may print, for tools/refusals and tools/faults.
 
 A run prints as the session does, up to the first call that differs. That call is answered as in the
-session or is refused for what failed, and its requests are the first of those in the session. A
-command to several nodes may be answered without the one whose stream failed, or be refused by what
-the others replied; so in a session with `fan` lines any refusal will do, and bytes alone may differ.
-They may too where a call ends by a stream's fault in the session itself. In any case each node got
-requests of the log alone, each once at most and in their order, the last perhaps in part.
+session, with all its requests, or is refused for what failed, with the first of them. A command to
+several nodes may be answered without the one whose stream failed, or be refused by what the others
+replied; so in a session with `fan` lines any refusal will do, and bytes alone may differ. They may
+too where a call ends by a stream's fault in the session itself. In any case each node got requests
+of the log alone, each once at most and in their order, the last perhaps in part.
 """
 
 
@@ -62,7 +62,8 @@ def wrong_call(call, want, refusals):
     answer, asked = call
     if answer != want[0] and not answer.startswith(refusals):
         return f"it answers '{answer}', and not '{want[0]}'"
-    if asked != want[1][: len(asked)]:
+    known = want[1] if answer.startswith("ok") else want[1][: len(asked)]
+    if asked != known:
         return f"it asks {asked}, and not {want[1]}"
     return ""
 
