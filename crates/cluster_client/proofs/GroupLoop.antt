@@ -19,7 +19,7 @@ use Rattle.cluster_steps.specs.Groups.{Group}
 use Rattle.cluster_steps.specs.GroupRuns.{is_moved_tree, GroupExchanged, group_node, IsGroupPlaced, request_lists, group_nodes, GroupByGroup, AreGroupResults, GroupsAnswered, GroupsMade}
 use Rattle.cluster_calls.specs.Calls.Refusals.{pipeline_refusal}
 use Rattle.cluster_calls.proofs.LinkLaws.LinkRuns.{Runs-snoc, addresses}
-use Rattle.cluster_calls.proofs.LinkLaws.EventLists.{log-append, exchanged, exchanges-append, memory-append, moved-append}
+use Rattle.cluster_calls.proofs.LinkLaws.EventLists.{log-append, exchanged, exchanges-append, memory-append, moved-append, stops-had, stops-append, stops-one}
 use Rattle.cluster_calls.proofs.LinkLaws.FaultsAgree.{Agrees-last}
 use Rattle.cluster_calls.proofs.LinkLaws.ChainLoop.{or_assoc, or_none}
 use Rattle.cluster_calls.proofs.LinkLaws.PartLoop.{place_same}
@@ -89,6 +89,7 @@ pub groups_stopped : (old now new : World) (gs rest : List Group) (answers : Lis
 groups_stopped old now new gs rest answers l s = record {
   events = l.events;
   runs = subst (λ ns. Runs old.nodes ns l.events) (sym s.nodes) l.runs;
+  stops = stops-had l.events l.memory;
   logged = s.log ∙ l.logged;
   unasked = group_nodes rest;
   in_order = l.in_order;
@@ -104,6 +105,7 @@ pub groups_done : (old now : World) (gs : List Group) (answers : List (ℕ × Li
 groups_done old now gs answers l = record {
   events = l.events;
   runs = l.runs;
+  stops = stops-had l.events l.memory;
   logged = l.logged;
   unasked = [];
   in_order = l.in_order;
@@ -208,6 +210,7 @@ module _ (old now new : World) (gs : List Group) (g : Group) (rest : List Group)
           record {
             events = l.events ++ x ∷ [];
             runs = Runs-snoc old.nodes now.nodes new.nodes l.events x l.runs m.called;
+            stops = stops-append l.events (x ∷ []) l.memory (stops-one x);
             logged = logged_more x m.called log refl;
             unasked = group_nodes rest;
             in_order = order_more x m.called log refl;

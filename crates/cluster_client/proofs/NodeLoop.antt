@@ -28,7 +28,7 @@ use Rattle.cluster_calls.specs.Calls.Replies.{outcome_by, outcomes}
 use Rattle.cluster_calls.proofs.LinkLaws.LinkPlaces.{linked}
 use Rattle.cluster_calls.proofs.LinkLaws.LinkRuns.{Runs-append, or_parts}
 use Rattle.cluster_calls.proofs.LinkLaws.LinkCalls.{leaves}
-use Rattle.cluster_calls.proofs.LinkLaws.EventLists.{log-append, exchanges-append, memory-append, moved-append}
+use Rattle.cluster_calls.proofs.LinkLaws.EventLists.{log-append, exchanges-append, memory-append, moved-append, stops-had, stops-append}
 use Rattle.cluster_calls.proofs.LinkLaws.FaultsAgree.{agrees, Agrees-front, Agrees-back}
 use Rattle.cluster_calls.proofs.LinkLaws.ChainLoop.{Keeps, or_assoc, or_none}
 use Rattle.cluster_calls.proofs.LinkLaws.PartLoop.{all-append, place_same, place_within}
@@ -47,6 +47,7 @@ pub nothing_asked : (old new : World) (d : Dispatch) → Keeps old new → new.n
 nothing_asked old new d same nodes log flag = record {
   events = [];
   runs = nodes;
+  stops = tt;
   logged = log ∙ sym (append-nil old.log);
   single = tt;
   begins = (direct d ∷ [], refl);
@@ -88,6 +89,7 @@ module _ (old new : World) (d : Dispatch) (same : Keeps old new) (reply : Result
     one_asked r answered = record {
       events = event ∷ [];
       runs = (new.nodes, o.called, refl);
+      stops = (λ lacks. refl, tt);
       logged = log;
       single = ((direct d, refl), tt);
       begins = ([], refl);
@@ -169,6 +171,7 @@ pub asks_stopped : (old now : World) (ds rest : List Dispatch) (os : List Outcom
 asks_stopped old now ds rest os l = record {
   events = l.events;
   runs = l.runs;
+  stops = stops-had l.events l.memory;
   logged = l.logged;
   single = l.single;
   begins = (map direct rest, l.sent);
@@ -186,6 +189,7 @@ asks_done old now ds os l =
     record {
       events = l.events;
       runs = l.runs;
+      stops = stops-had l.events l.memory;
       logged = l.logged;
       single = l.single;
       begins = ([], l.sent);
@@ -225,6 +229,7 @@ module _ (old now new : World) (ds : List Dispatch) (d : Dispatch) (rest : List 
   asks_refused e m = record {
     events = l.events ++ m.events;
     runs = runs_more (Err e) m;
+    stops = stops-append l.events m.events l.memory m.stops;
     logged = logged_more (Err e) m;
     single = all-append l.events m.events l.single m.single;
     begins = (m.begins.0 ++ map direct rest, sent_more (Err e) m m.begins.0 m.begins.1);

@@ -309,14 +309,12 @@ module _ (strategy : Option Strategy) (old new : World) (command : Command) (ds 
   happened = record {
     events = m.events;
     runs = m.runs;
-    unsent = [];
-    logged = m.logged ∙ sym (append-nil (log_of m.events));
+    stops = m.stops;
+    logged = m.logged;
     calls = λ node. link_calls_made old.nodes new.nodes m.events (several_nodes command) m.runs m.single node;
     picks = λ some. are;
     begins = λ some place. record {
       later = unreplied_to m.begins.0;
-      more = requests (unreplied_to m.begins.0);
-      unsent_first = refl;
       legal = legal (exchanges_of place m.events ++ unreplied_to m.begins.0) (begun place);
     };
     settings = m.settings;

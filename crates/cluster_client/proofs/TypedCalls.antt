@@ -76,18 +76,18 @@ module _ (strategy : Option Strategy) (old new : World) (call : StreamCall) (fit
   legal_alike : (client : Client) (picks : List Address) (xs : List Exchange) → IsLegalCall client picks query xs → IsLegalCall client picks (OnStreams call) xs
   legal_alike client picks xs h = rw (plans_alike client picks) h
 
-  begins_alike : (client : Client) (picks : List Address) (xs : List Exchange) (unsent : List Request) → BeginsLegal client picks query xs unsent → BeginsLegal client picks (OnStreams call) xs unsent
-  begins_alike client picks xs unsent b = record { later = b.later; more = b.more; unsent_first = b.unsent_first; legal = legal_alike client picks _ b.legal }
+  begins_alike : (client : Client) (picks : List Address) (xs : List Exchange) → BeginsLegal client picks query xs → BeginsLegal client picks (OnStreams call) xs
+  begins_alike client picks xs b = record { later = b.later; legal = legal_alike client picks _ b.legal }
 
   abbrev happened_alike : Happened strategy old new query → Happened strategy old new (OnStreams call)
   happened_alike h = record {
     events = h.events;
     runs = h.runs;
-    unsent = h.unsent;
+    stops = h.stops;
     logged = h.logged;
     calls = h.calls;
     picks = λ some. picks_alike strategy (client_of old) new.picked (h.picks some);
-    begins = λ some place. begins_alike (client_of old) new.picked (exchanges_of place h.events) h.unsent (h.begins some place);
+    begins = λ some place. begins_alike (client_of old) new.picked (exchanges_of place h.events) (h.begins some place);
     settings = h.settings;
     map_stays = h.map_stays;
     flag = h.flag;

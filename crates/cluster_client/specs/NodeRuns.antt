@@ -19,7 +19,7 @@ use Rattle.cluster_steps.specs.Dispatches.{dispatch_of}
 use Rattle.cluster_calls.specs.Links.Request.{Request}
 use Rattle.cluster_calls.specs.Links.World.{World}
 use Rattle.cluster_calls.specs.Links.Faults.{LinkFault}
-use Rattle.cluster_calls.specs.Links.Events.{Event, Runs, log_of, exchanges_of, Agrees, lack_memory, answered_moved}
+use Rattle.cluster_calls.specs.Links.Events.{Event, Runs, log_of, exchanges_of, Agrees, lack_memory, StopsAtMemory, answered_moved}
 use Rattle.cluster_calls.specs.Links.Chains.{IsSingle}
 use Rattle.cluster_calls.specs.Calls.Parts.{Part, part_to, at_node}
 use Rattle.cluster_calls.specs.Calls.Plan.{Dispatch}
@@ -71,6 +71,7 @@ pub record NodesAnswered (ds : List Dispatch) (events : List Event) (result : Re
 pub record NodesAsked (old new : World) (ds : List Dispatch) (result : Result (List Outcome) Refusal) : Type 0 where
   pub events : List Event
   pub runs : Runs old.nodes new.nodes events
+  pub stops : StopsAtMemory events
   pub logged : new.log ≡ old.log ++ log_of events
   pub single : AllByRecursion IsSingle events
   pub begins : (later : List Request) × (log_of events ++ later ≡ map direct ds)

@@ -15,7 +15,7 @@ use Rattle.cluster_calls.specs.Links.World.{World, Node}
 use Rattle.cluster_calls.specs.Links.Places.{IsOpenAt}
 use Rattle.cluster_calls.specs.Links.Exchanges.{Exchanges}
 use Rattle.cluster_calls.specs.Links.Faults.{LinkFault}
-use Rattle.cluster_calls.specs.Links.Events.{Event, AllTo, Runs, log_of, exchanges_of, Agrees, lack_memory, answered_moved}
+use Rattle.cluster_calls.specs.Links.Events.{Event, AllTo, Runs, log_of, exchanges_of, Agrees, lack_memory, StopsAtMemory, answered_moved}
 use Rattle.cluster_steps.specs.Groups.{Group}
 use Rattle.cluster_calls.specs.Calls.Refusals.{pipeline_refusal}
 
@@ -92,6 +92,7 @@ pub record GroupsAnswered (gs : List Group) (events : List Event) (result : Resu
 pub record GroupsMade (old new : World) (gs : List Group) (result : Result (List (ℕ × List Tree)) Refusal) : Type 0 where
   pub events : List Event
   pub runs : Runs old.nodes new.nodes events
+  pub stops : StopsAtMemory events
   pub logged : new.log ≡ old.log ++ log_of events
   pub unasked : List Address
   pub in_order : map (λ (x : Event). x.node) events ++ unasked ≡ group_nodes gs

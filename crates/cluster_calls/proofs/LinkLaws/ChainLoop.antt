@@ -24,7 +24,7 @@ use Rattle.cluster_calls.specs.Calls.Redirects.{Hop, Next, Stays, Lost, Goes, is
 use Rattle.cluster_calls.specs.Calls.Replies.{reply_or_nil}
 use Rattle.cluster_calls.specs.Calls.Refusals.{stop_refusal, last_refusal}
 use Rattle.cluster_calls.proofs.LinkLaws.LinkRuns.{Runs-snoc}
-use Rattle.cluster_calls.proofs.LinkLaws.EventLists.{log-append, exchanges-append, memory-append, moved-append, exchanged}
+use Rattle.cluster_calls.proofs.LinkLaws.EventLists.{log-append, exchanges-append, memory-append, moved-append, exchanged, stops-had, stops-append, stops-one}
 use Rattle.cluster_calls.proofs.LinkLaws.FaultsAgree.{Agrees-last}
 use Rattle.cluster_calls.proofs.LinkLaws.Pairing.{any-append}
 use Rattle.cluster_calls.specs.OneServer.Laws.{is_redirect_sort}
@@ -178,6 +178,7 @@ module _ (old now new : World) (args : List (List ℕ)) (first : Hop) (left : �
   loop_ended ns log flag = record {
     events = l.events;
     runs = subst (λ w. Runs old.nodes w l.events) (sym ns) l.runs;
+    stops = stops-had l.events l.memory;
     logged = log ∙ l.logged;
     single = l.one_each;
     begins = λ p. (record { request = request_of hop args; place = 0; reply = None } ∷ [], l.leads p _ (unanswered_ends (client_of old).links left hop args));
@@ -221,6 +222,7 @@ module _ (old now new : World) (args : List (List ℕ)) (first : Hop) (left : �
     chain_made outcome answered = record {
       events = more_events;
       runs = runs_more;
+      stops = stops-append l.events (single (request_of hop args) o.taken result ∷ []) l.memory (stops-one (single (request_of hop args) o.taken result));
       logged = logged_more;
       single = all-snoc l.events (single (request_of hop args) o.taken result) l.one_each (request_of hop args, refl);
       begins = begins_more;

@@ -1,7 +1,8 @@
 -- What link calls add up to, those of one run and then those of another.
 use Rattle.std.specs.Prelude.{drop, ◌||◌}
 use Rattle.std.specs.List.{list_any}
-use Rattle.std.proofs.Common.{◌≡◌, ℕ, suc, ◌+◌, Bool, true, false, cond, List, [], ◌∷◌, ◌++◌, length, refl, sym, ap, ◌∙◌, subst, append_assoc, length-append, arith}
+use Rattle.std.proofs.Common.{◌≡◌, ℕ, suc, ◌+◌, Bool, true, false, cond, List, [], ◌∷◌, ◌++◌, length, refl, sym, ap, ◌∙◌, subst, append_assoc, append-nil, length-append, arith}
+use Rattle.std.proofs.lemmas.Bool.{false≢true}
 use Rattle.std.proofs.lemmas.List.{map-append}
 use Rattle.resp_core.specs.Trees.{Tree}
 use Rattle.resp_link.specs.Replies.{replies_of}
@@ -10,9 +11,9 @@ use Rattle.cluster_routing.specs.Lists.{concat}
 use Rattle.cluster_calls.specs.Links.Request.{Request, requests_to, skipped}
 use Rattle.cluster_calls.specs.Links.Log.{Exchange, requests}
 use Rattle.cluster_calls.specs.Links.World.{Node}
-use Rattle.cluster_calls.specs.Links.Events.{Event, AllTo, Runs, log_of, taken_of, calls_of, pair_up, exchanges_at, exchanges_of, is_memory_ending, lack_memory, answered_moved}
+use Rattle.cluster_calls.specs.Links.Events.{Event, AllTo, Runs, log_of, taken_of, calls_of, pair_up, exchanges_at, exchanges_of, is_memory_ending, lack_memory, StopsAtMemory, answered_moved}
 use Rattle.cluster_calls.proofs.LinkLaws.Addresses.{same_true}
-use Rattle.cluster_calls.proofs.LinkLaws.LinkRuns.{requests_same, requests_other}
+use Rattle.cluster_calls.proofs.LinkLaws.LinkRuns.{requests_same, requests_other, or_parts}
 
 -- ---- one run and then another
 
@@ -90,3 +91,18 @@ concat_by x xs a all h false t = h ∙ sym (requests_other x.node a x.requests (
 pub concat_calls : (old new : List Node) (xs : List Event) → Runs old new xs → (a : Address) → concat (calls_of xs a) ≡ requests_to a (log_of xs)
 concat_calls old new [] r a = refl
 concat_calls old new (x ∷ xs) r a = concat_by x xs a r.1.to_node (concat_calls r.0 new xs r.2 a) (same_address x.node a) refl
+
+-- ---- behind want of memory
+
+-- link calls that had memory, and then some that stop where one lacks it
+pub stops-append : (xs ys : List Event) → lack_memory xs ≡ false → StopsAtMemory ys → StopsAtMemory (xs ++ ys)
+stops-append [] ys m s = s
+stops-append (x ∷ xs) ys m s =
+    let had = or_parts (is_memory_ending x.ending) (lack_memory xs) m in
+    (λ lacks. absurd (false≢true (sym had.0 ∙ lacks)), stops-append xs ys had.1 s)
+
+pub stops-one : (x : Event) → StopsAtMemory (x ∷ [])
+stops-one x = (λ lacks. refl, tt)
+
+pub stops-had : (xs : List Event) → lack_memory xs ≡ false → StopsAtMemory xs
+stops-had xs m = subst StopsAtMemory (append-nil xs) (stops-append xs [] m tt)

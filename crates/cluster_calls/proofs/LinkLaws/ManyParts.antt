@@ -107,11 +107,11 @@ module _ (strategy : Option Strategy) (old new : World) (call : Call) (command :
   happened = record {
     events = m.events;
     runs = m.runs;
-    unsent = [];
-    logged = m.logged ∙ sym (append-nil (log_of m.events));
+    stops = m.stops;
+    logged = m.logged;
     calls = λ node. link_calls_made old.nodes new.nodes m.events (task_of call) m.runs singles node;
     picks = λ some. are;
-    begins = λ some place. record { later = (m.begins place).0; more = requests (m.begins place).0; unsent_first = refl; legal = legal (exchanges_of place m.events ++ (m.begins place).0) (m.begins place).1 };
+    begins = λ some place. record { later = (m.begins place).0; legal = legal (exchanges_of place m.events ++ (m.begins place).0) (m.begins place).1 };
     settings = m.settings;
     map_stays = λ n. m.entries;
     flag = λ n. m.flag;

@@ -50,7 +50,7 @@ abbrev pub nothing_happened : (strategy : Option Strategy) (old new : World) (ca
 nothing_happened strategy old new call u = record {
   events = [];
   runs = u.nodes;
-  unsent = [];
+  stops = tt;
   logged = u.log;
   calls = λ node. no_link_calls (task_of call);
   picks = λ some. absurd (some u.log);

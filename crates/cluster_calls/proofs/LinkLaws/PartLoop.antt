@@ -24,7 +24,7 @@ use Rattle.cluster_calls.specs.Calls.Refusals.{part_refusal}
 use Rattle.cluster_calls.proofs.LinkLaws.LinkPlaces.{found}
 use Rattle.cluster_calls.proofs.LinkLaws.Pairing.{any-append}
 use Rattle.cluster_calls.proofs.LinkLaws.LinkRuns.{Runs-append, or_parts, addresses}
-use Rattle.cluster_calls.proofs.LinkLaws.EventLists.{log-append, exchanges-append, memory-append, moved-append}
+use Rattle.cluster_calls.proofs.LinkLaws.EventLists.{log-append, exchanges-append, memory-append, moved-append, stops-had, stops-append}
 use Rattle.cluster_calls.proofs.LinkLaws.FaultsAgree.{agrees, Agrees-back}
 use Rattle.cluster_calls.proofs.LinkLaws.OpenLinks.{filter_all, links_behind}
 use Rattle.cluster_calls.proofs.LinkLaws.ChainLoop.{next_none, or_assoc, or_none}
@@ -249,6 +249,7 @@ module _ (old now : World) (ds rest : List Dispatch) (trees : List Tree) (l : Pa
   parts_stopped = record {
     events = l.events;
     runs = l.runs;
+    stops = stops-had l.events l.memory;
     logged = l.logged;
     single = l.single;
     begins = λ p. let more = some_parts (client_of old) rest in (more.0, l.leads p more.0 more.1);
@@ -264,6 +265,7 @@ pub parts_done : (old now : World) (ds : List Dispatch) (trees : List Tree) → 
 parts_done old now ds trees l = record {
   events = l.events;
   runs = l.runs;
+  stops = stops-had l.events l.memory;
   logged = l.logged;
   single = l.single;
   begins = λ p. ([], l.leads p [] refl);
@@ -328,6 +330,7 @@ module _ (old now new : World) (ds : List Dispatch) (d : Dispatch) (rest : List 
     parts_made result answered = record {
       events = more_events;
       runs = runs_more;
+      stops = stops-append l.events m.events l.memory m.stops;
       logged = logged_more;
       single = all-append l.events m.events l.single m.single;
       begins = begins_more;

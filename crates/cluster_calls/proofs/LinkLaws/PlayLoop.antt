@@ -1,5 +1,5 @@
 -- Calls played one after another.
-use Rattle.std.proofs.Common.{◌≡◌, ◌∙◌, Bool, true, List, [], ◌∷◌, ◌++◌, map, Option, refl, sym, ap}
+use Rattle.std.proofs.Common.{◌≡◌, ◌≢◌, ◌∙◌, Bool, true, false, List, [], ◌∷◌, ◌++◌, map, Option, refl, sym, ap}
 use Rattle.std.proofs.lemmas.List.{append-nil}
 use Rattle.cluster_routing.specs.Choice.{Strategy}
 use Rattle.cluster_calls.specs.Calls.Call.{Call}
@@ -24,11 +24,11 @@ play_start strategy old calls before = record { run = []; events = []; made = (r
 pub play_more : (strategy : Option Strategy) (old now new : World) (calls : List Call) (call : Call) (rest : List Call) (before here : List Shown) (played : Shown)
     → PlayLoop strategy old now calls (call ∷ rest) before here → PlaysOne strategy now new call played → PlayLoop strategy old new calls rest before (here ++ played ∷ [])
 play_more strategy old now new calls call rest before here played l p =
-    let one : PlayedCall = record { call = call; picks = p.picks; answer = played.answer; log = played.log } in
+    let one : PlayedCall = record { call = call; picks = new.picked; answer = played.answer; log = played.log } in
     record {
       run = l.run ++ one ∷ [];
       events = l.events ++ p.made.happened.events;
-      made = calls_more strategy old now new l.run one l.events l.made p.made;
+      made = calls_more strategy old now new l.run one l.events l.made p.made (p.moved, refl);
       first = l.first ∙ split_one l.run one rest;
       shown = ap (λ xs. xs ++ played ∷ []) l.shown ∙ joined before l.run one;
     }
@@ -46,12 +46,13 @@ play_more strategy old now new calls call rest before here played l p =
     joined (b ∷ before) run one = ap (λ cs. b ∷ cs) (joined before run one)
 
 pub play_done : (strategy : Option Strategy) (old new : World) (calls rest : List Call) (before after : List Shown) (all : Bool) → PlayLoop strategy old new calls rest before after
-    → (all ≡ true → rest ≡ []) → Plays strategy old new calls before after all
-play_done strategy old new calls rest before after all l whole = record {
+    → (all ≡ true → rest ≡ []) → (all ≡ false → rest ≢ []) → Plays strategy old new calls before after all
+play_done strategy old new calls rest before after all l whole cut = record {
   run = l.run;
   left = rest;
   is_run = is_run strategy old new l.run l.events l.made;
   first = l.first;
   shown = l.shown;
   whole = whole;
+  cut = cut;
 }

@@ -18,7 +18,7 @@ use Rattle.cluster_calls.specs.Links.Events.{Event, Runs, log_of, taken_of, call
 use Rattle.cluster_calls.specs.Links.Nodes.{link_calls}
 use Rattle.cluster_calls.specs.Links.Happened.{client_of, Happened, Answered, CallMade, log_with_replies}
 use Rattle.cluster_calls.specs.OneServer.Headline.{PlayedCall, with_replies_from, IsPlayedFrom}
-use Rattle.cluster_calls.specs.Links.Run.{with_log, CallsMade, whole_log, link_calls_to, run_calls, HadMemory, RunPlayed, IsRun}
+use Rattle.cluster_calls.specs.Links.Run.{with_log, IsMovedOut, CallsMade, whole_log, link_calls_to, run_calls, HadMemory, RunPlayed, IsRun}
 use Rattle.cluster_calls.proofs.LinkLaws.Pairing.{exchanges_same, left_same}
 use Rattle.cluster_calls.proofs.LinkLaws.LinkRuns.{Runs-append, pairing, pairing_first, left_first, nodes_made}
 use Rattle.cluster_calls.proofs.LinkLaws.EventLists.{log-append, calls-append, memory-append}
@@ -107,41 +107,18 @@ is_run strategy old new ts es r = record { events = es; calls = r; played = λ h
 abbrev MadeFrom : Option Strategy → World → Call → Result Answer Refusal → List Event → World → Type 0
 MadeFrom strategy new call answer es old = (m : CallMade strategy old new call answer) × (m.happened.events ≡ es)
 
--- a client's log and picks before a call do not matter to it
-relogged : (strategy : Option Strategy) (old new : World) (log : List Request) (picked : List Address) (call : Call) (answer : Result Answer Refusal) (m : CallMade strategy old new call answer)
-    → MadeFrom strategy new call answer m.happened.events (with_log old log picked)
-relogged strategy old new log picked call answer m =
-    let before = with_log old log picked in
-    let h = m.happened in
-    let happened : Happened strategy before new call = record {
-      events = h.events;
-      runs = h.runs;
-      unsent = h.unsent;
-      logged = h.logged;
-      calls = h.calls;
-      picks = h.picks;
-      begins = h.begins;
-      settings = h.settings;
-      map_stays = h.map_stays;
-      flag = h.flag;
-    } in
-    let answered : answer ≢ Err (by_cause Memory) → Answered strategy before new call h.events answer = λ had. let a = m.answered had in record { memory = a.memory; logged = a.logged; picks = a.picks; legal = a.legal; answered = a.answered; entries = a.entries; flag = a.flag } in (
-      record { happened = happened; answered = answered; played = λ had. played strategy before new call answer happened (answered had); memory = λ e is. let k = m.memory e is in record { entries = k.entries; flag = k.flag } },
-      refl,
-    )
-
 pub calls_more : (strategy : Option Strategy) (old mid new : World) (ts : List PlayedCall) (t : PlayedCall) (es : List Event) → CallsMade strategy old mid ts es → (made : CallMade strategy mid (with_log new t.log t.picks) t.call t.answer)
-    → CallsMade strategy old new (ts ++ t ∷ []) (es ++ made.happened.events)
-calls_more strategy old mid new [] t es r made =
+    → IsMovedOut new t → CallsMade strategy old new (ts ++ t ∷ []) (es ++ made.happened.events)
+calls_more strategy old mid new [] t es r made moved =
     let there = with_log new t.log t.picks in
     let now = made.happened.events in
-    let bare : MadeFrom strategy there t.call t.answer now (with_log old [] []) = subst (λ w. MadeFrom strategy there t.call t.answer now w) r.0 (relogged strategy mid there [] [] t.call t.answer made) in
-    let here = relogged strategy (with_log old [] []) there old.log old.picked t.call t.answer bare.0 in
-    (new, [], here.0, ap (λ xs. xs ++ now) r.1 ∙ sym (here.1 ∙ bare.1) ∙ sym (append-nil here.0.happened.events), (refl, refl))
-calls_more strategy old mid new (u ∷ ts) t es r made = (
+    let here : MadeFrom strategy there t.call t.answer now old = subst (λ w. MadeFrom strategy there t.call t.answer now w) r.0 (made, refl) in
+    (new, [], here.0, ap (λ xs. xs ++ now) r.1 ∙ sym here.1 ∙ sym (append-nil here.0.happened.events), (refl, refl), moved)
+calls_more strategy old mid new (u ∷ ts) t es r made moved = (
   r.0,
   r.1 ++ made.happened.events,
   r.2,
   ap (λ xs. xs ++ made.happened.events) r.3 ∙ append_assoc r.2.happened.events r.1 made.happened.events,
-  calls_more strategy r.0 mid new ts t r.1 r.4 made,
+  calls_more strategy r.0 mid new ts t r.1 r.4 made moved,
+  r.5,
 )

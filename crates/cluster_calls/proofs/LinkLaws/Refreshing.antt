@@ -95,11 +95,11 @@ module _ (old new : World) (node : Address) (linked : is_linked (open_links old.
     happened = record {
       events = single (slots_to node) o.taken result ∷ [];
       runs = (new.nodes, o.called, refl);
-      unsent = [];
+      stops = (λ lacks. refl, tt);
       logged = logged;
       calls = λ a. link_calls_made old.nodes new.nodes (single (slots_to node) o.taken result ∷ []) (slot_map_of node) (new.nodes, o.called, refl) ((slots_to node, refl), tt) a;
       picks = λ some. picks;
-      begins = λ some place. record { later = []; more = []; unsent_first = refl; legal = rw linked refl };
+      begins = λ some place. record { later = []; legal = rw linked refl };
       settings = settings;
       map_stays = λ n. absurd (false≢true (sym n));
       flag = λ n. absurd (false≢true (sym n));

@@ -9,7 +9,7 @@ use Rattle.cluster_calls.specs.Links.Request.{Request}
 use Rattle.cluster_calls.specs.Links.Log.{Exchange, is_answered, behind_answers}
 use Rattle.cluster_calls.specs.Links.World.{World}
 use Rattle.cluster_calls.specs.Links.Faults.{LinkFault}
-use Rattle.cluster_calls.specs.Links.Events.{Event, Runs, log_of, exchanges_of, Agrees, lack_memory, answered_moved}
+use Rattle.cluster_calls.specs.Links.Events.{Event, Runs, log_of, exchanges_of, Agrees, lack_memory, StopsAtMemory, answered_moved}
 use Rattle.cluster_calls.specs.Calls.Plan.{Client}
 use Rattle.cluster_calls.specs.Calls.Redirects.{Hop, FollowsRedirects}
 use Rattle.cluster_calls.specs.Calls.Replies.{reply_or_nil}
@@ -38,6 +38,7 @@ pub record ChainAnswered (old new : World) (hop : Hop) (args : List (List ℕ)) 
 pub record ChainMade (old new : World) (hop : Hop) (args : List (List ℕ)) (result : Result Tree Refusal) : Type 0 where
   pub events : List Event
   pub runs : Runs old.nodes new.nodes events
+  pub stops : StopsAtMemory events
   pub logged : new.log ≡ old.log ++ log_of events
   pub single : AllByRecursion IsSingle events
   pub begins : (place : ℕ) → (later : List Exchange) × IsChain (client_of old) hop args (exchanges_of place events ++ later)

@@ -123,6 +123,11 @@ is_memory_ending _ = false
 abbrev pub lack_memory : List Event → Bool
 lack_memory xs = list_any (λ (x : Event). is_memory_ending x.ending) xs
 
+-- behind a link call that lacked memory there is no other
+abbrev pub StopsAtMemory : List Event → Type 0
+StopsAtMemory [] = ⊤
+StopsAtMemory (x ∷ xs) = (is_memory_ending x.ending ≡ true → xs ≡ []) × StopsAtMemory xs
+
 -- whether a link call answered MOVED
 abbrev pub is_answer_ending : Ending → Bool
 is_answer_ending (answers replies) = true

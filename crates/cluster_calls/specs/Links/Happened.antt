@@ -6,7 +6,7 @@ use Rattle.resp_core.specs.declared.errors.redis_error.Cause.TheVariants.{Memory
 use Rattle.cluster_routing.specs.Address.{Address}
 use Rattle.cluster_routing.specs.Choice.{Strategy}
 use Rattle.cluster_calls.specs.Links.Request.{Request, requests_to}
-use Rattle.cluster_calls.specs.Links.Log.{Exchange, requests, exchanges, replies}
+use Rattle.cluster_calls.specs.Links.Log.{Exchange, exchanges, replies}
 use Rattle.cluster_calls.specs.Links.World.{World, open_links}
 use Rattle.cluster_calls.specs.Calls.Call.{Call, Refresh}
 use Rattle.cluster_calls.specs.Calls.Task.{task_of}
@@ -16,7 +16,7 @@ use Rattle.cluster_calls.specs.Calls.Legal.{IsLegalCall}
 use Rattle.cluster_calls.specs.Links.Faults.{LinkFault}
 use Rattle.cluster_calls.specs.Calls.Answer.{Answer, answer_of}
 use Rattle.cluster_calls.specs.Calls.After.{map_after, flag_after}
-use Rattle.cluster_calls.specs.Links.Events.{Event, Runs, log_of, taken_of, calls_of, exchanges_of, Agrees, lack_memory, answered_moved}
+use Rattle.cluster_calls.specs.Links.Events.{Event, Runs, log_of, taken_of, calls_of, exchanges_of, Agrees, lack_memory, StopsAtMemory, answered_moved}
 use Rattle.cluster_calls.specs.Links.Nodes.{NodesMade, link_calls}
 
 abbrev pub client_of : World → Client
@@ -28,23 +28,21 @@ is_refresh _ = false
 
 -- ---- always
 
--- Some exchanges begin a legal log of the call. Of the exchanges behind them the first have these requests.
-pub record BeginsLegal (client : Client) (picks : List Address) (call : Call) (xs : List Exchange) (unsent : List Request) : Type 0 where
+-- these exchanges begin a legal log of the call
+pub record BeginsLegal (client : Client) (picks : List Address) (call : Call) (xs : List Exchange) : Type 0 where
   pub later : List Exchange
-  pub more : List Request
-  pub unsent_first : requests later ≡ unsent ++ more
   pub legal : IsLegalCall client picks call (xs ++ later)
 
--- A call's link calls, also where memory was refused: the log has their requests, and behind them perhaps some that no link was
--- called for; together they begin a legal log.
+-- A call's link calls, also where memory was refused: the log has their requests, and begins a legal one. The call goes on to no
+-- other link behind one that lacked memory.
 pub record Happened (strategy : Option Strategy) (old new : World) (call : Call) : Type 0 where
   pub events : List Event
   pub runs : Runs old.nodes new.nodes events
-  pub unsent : List Request
-  pub logged : new.log ≡ log_of events ++ unsent
+  pub stops : StopsAtMemory events
+  pub logged : new.log ≡ log_of events
   pub calls : (node : Address) → calls_of events node ≡ link_calls (task_of call) (requests_to node (log_of events))
   pub picks : new.log ≢ [] → ArePicks strategy (client_of old) call new.picked
-  pub begins : new.log ≢ [] → (place : ℕ) → BeginsLegal (client_of old) new.picked call (exchanges_of place events) unsent
+  pub begins : new.log ≢ [] → (place : ℕ) → BeginsLegal (client_of old) new.picked call (exchanges_of place events)
   pub settings : new.settings ≡ old.settings
   pub map_stays : is_refresh call ≡ false → new.entries ≡ old.entries
   pub flag : is_refresh call ≡ false → new.needs_refresh ≡ (old.needs_refresh || answered_moved events)

@@ -10,7 +10,7 @@ use Rattle.cluster_routing.specs.Policies.{or_bad_reply}
 use Rattle.cluster_calls.specs.Links.Log.{Exchange, is_answered, behind_answers}
 use Rattle.cluster_calls.specs.Links.World.{World}
 use Rattle.cluster_calls.specs.Links.Faults.{LinkFault}
-use Rattle.cluster_calls.specs.Links.Events.{Event, Runs, log_of, exchanges_of, Agrees, lack_memory, answered_moved}
+use Rattle.cluster_calls.specs.Links.Events.{Event, Runs, log_of, exchanges_of, Agrees, lack_memory, StopsAtMemory, answered_moved}
 use Rattle.cluster_calls.specs.Links.Chains.{IsSingle}
 use Rattle.cluster_calls.specs.Links.Happened.{client_of}
 use Rattle.cluster_calls.specs.Calls.Plan.{Client, Dispatch}
@@ -38,6 +38,7 @@ pub record PartsAnswered (old new : World) (ds : List Dispatch) (events : List E
 pub record PartsMade (old new : World) (ds : List Dispatch) (result : Result (List Tree) Refusal) : Type 0 where
   pub events : List Event
   pub runs : Runs old.nodes new.nodes events
+  pub stops : StopsAtMemory events
   pub logged : new.log ≡ old.log ++ log_of events
   pub single : AllByRecursion IsSingle events
   pub begins : (place : ℕ) → (later : List Exchange) × PartByPart (client_of old) ds (exchanges_of place events ++ later)

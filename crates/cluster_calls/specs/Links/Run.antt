@@ -16,16 +16,20 @@ use Rattle.cluster_calls.specs.Links.Nodes.{NodesMade, link_calls}
 use Rattle.cluster_calls.specs.Links.Happened.{client_of, CallMade, log_with_replies}
 use Rattle.cluster_calls.specs.OneServer.Headline.{PlayedCall, with_replies, IsPlayedFrom}
 
--- the world with this log and these picks: a call's own are moved out of the client when it has ended
+-- the world with this log and these picks
 abbrev pub with_log : World → List Request → List Address → World
 with_log world log picked = record world { log = log; picked = picked }
 
+-- behind a call of a run its requests are moved out of the client, and its picks stay
+abbrev pub IsMovedOut : World → PlayedCall → Type 0
+IsMovedOut world t = (world.log ≡ []) × (world.picked ≡ t.picks)
+
 -- the calls one after another, with their link calls
 abbrev pub CallsMade : Option Strategy → World → World → List PlayedCall → List Event → Type 0
-CallsMade strategy old new [] events = (with_log new [] [] ≡ with_log old [] []) × (events ≡ [])
+CallsMade strategy old new [] events = (new ≡ old) × (events ≡ [])
 CallsMade strategy old new (t ∷ ts) events =
     (mid : World) × (later : List Event) × (made : CallMade strategy old (with_log mid t.log t.picks) t.call t.answer)
-    × (events ≡ made.happened.events ++ later) × CallsMade strategy mid new ts later
+    × (events ≡ made.happened.events ++ later) × CallsMade strategy mid new ts later × IsMovedOut mid t
 
 -- the requests of a run, and its link calls to a node
 abbrev pub whole_log : List PlayedCall → List Request

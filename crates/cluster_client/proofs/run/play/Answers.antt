@@ -15,7 +15,8 @@ calls-init g c = play_start _ _ _ _
 pub returns-in_err-reserve : goal.returns-in_err-reserve
 returns-in_err-reserve g c =
     let p = err_from_is_err_and c.from_residual.result c.from_residual.ensures.1 in
-    rw (p.1, c.in_err-reserve.ensures.items) (play_done _ _ _ _ _ _ _ _ c.calls.invariant (λ k. absurd (cc k)))
+    let next : drop c.calls.call-index c.args.calls.now ≡ c.call-item.result ∷ drop (c.calls.call-index + 1) c.args.calls.now = first_left c.args.calls.now c.calls.call-index c.call-item.result c.calls-test.true c.call-item.is in
+    rw (p.1, c.in_err-reserve.ensures.items) (play_done _ _ _ _ _ _ _ _ c.calls.invariant (λ k. absurd (cc k)) (λ k none. let there = ap (map call_in) next in cc))
 
 pub calls-preserved : goal.calls-preserved
 calls-preserved g c =
@@ -26,4 +27,4 @@ calls-preserved g c =
 pub returns : goal.returns
 returns g c =
     let none : drop c.calls.call-index c.args.calls.now ≡ [] = drop_all c.calls.call-index c.args.calls.now (omega arith) in
-    play_done _ _ _ _ _ _ _ _ c.calls.invariant (λ k. ap (map call_in) none)
+    play_done _ _ _ _ _ _ _ _ c.calls.invariant (λ k. ap (map call_in) none) (λ k. absurd (cc k))
