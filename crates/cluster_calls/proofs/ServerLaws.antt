@@ -15,3 +15,4 @@ pub mod Pipes
 pub mod Runs
 pub mod Determined
 pub mod Agreeing
+pub mod AnyOrder
