@@ -25,3 +25,4 @@ pub mod Ordering
 pub mod OneCommand
 pub mod OneRequest
 pub mod Refreshing
+pub mod Stretched

@@ -5,9 +5,13 @@ pub mod Bounds
 pub mod Repeats
 pub mod AnsweredOnce
 pub mod SentOnce
+pub mod MadeBounds
 pub mod SameLogs
 pub mod Gaps
 pub mod Order
 pub mod Routed
 pub mod Alike
 pub mod RespelledRuns
+pub mod AlikePlays
+pub mod PipesOnce
+pub mod SentListsAre

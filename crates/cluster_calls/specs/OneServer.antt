@@ -10,3 +10,7 @@ pub mod OneCall
 pub mod Played
 pub mod Laws
 pub mod Respelling
+pub mod Bounds
+pub mod RespelledPlays
+pub mod Stretches
+pub mod SentLists

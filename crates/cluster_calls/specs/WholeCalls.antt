@@ -11,3 +11,5 @@ pub mod KeyRuns
 pub mod WrongServers
 pub mod WrongCounts
 pub mod WrongRuns
+pub mod MixedRun
+pub mod WrongPlays

@@ -1,11 +1,15 @@
 //! Laws of every call of a cluster client, over plain data.
 ghost use Rattle.cluster_routing.specs.CombineLaws.{OrderOfParts, OrderOfReplies, PartsAreRouted, SubsRouteToTheirSlot};
 ghost use Rattle.cluster_calls.specs.Links.Leaves.{UnaskedNodesStay};
+ghost use Rattle.cluster_calls.specs.OneServer.Bounds.{CallsAreBounded, PlaysAreBounded};
 ghost use Rattle.cluster_calls.specs.OneServer.Headline.{AnswersAndKeyspace, Refusals};
-ghost use Rattle.cluster_calls.specs.OneServer.Laws.{HistoriesAreBySlot, EachPartIsAnsweredOnce, GapsNameNoKey, NodesKeepHistories, NodesOnceAscending, OneServerIsDetermined, OnlyRedirectsRepeat, PartsKeepHistories, RequestsAreBounded, RunsAgree};
+ghost use Rattle.cluster_calls.specs.OneServer.Laws.{HistoriesAreBySlot, EachPartIsAnsweredOnce, GapsNameNoKey, NodesKeepHistories, NodesOnceAscending, OneServerIsDetermined, OnlyRedirectsRepeat, PartsKeepHistories, PipelinesSendOnce, RequestsAreBounded, RunsAgree};
 ghost use Rattle.cluster_calls.specs.OneServer.OneCall.{OneCallAsOnOneServer, RepliesDetermineLogs};
 ghost use Rattle.cluster_calls.specs.OneServer.Played.{PlayedAsOnOneServer};
+ghost use Rattle.cluster_calls.specs.OneServer.RespelledPlays.{RespelledPlays};
 ghost use Rattle.cluster_calls.specs.OneServer.Respelling.{RespelledRuns};
+ghost use Rattle.cluster_calls.specs.OneServer.SentLists.{NoOtherLists};
+ghost use Rattle.cluster_calls.specs.OneServer.Stretches.{RunsHaveStretches};
 
 /// A call leaves the links of all nodes that its log does not name, also where memory is refused.
 pub fn unasked_nodes_stay()
@@ -71,6 +75,21 @@ pub fn only_redirects_repeat()
     ensures { OnlyRedirectsRepeat }
 {}
 
+/// A pipeline sends each of its commands at most once, and all of them where it is answered.
+pub fn pipelines_send_once()
+    ensures { PipelinesSendOnce }
+{}
+
+/// A run is a run before any of its calls, and from there on.
+pub fn runs_have_stretches()
+    ensures { RunsHaveStretches }
+{}
+
+/// Commands that pack to what a node got over a run are those of its requests.
+pub fn no_other_lists()
+    ensures { NoOtherLists }
+{}
+
 /// A command with a gap goes to the slot that it names when it is sent.
 pub fn gaps_name_no_key()
     ensures { GapsNameNoKey }
@@ -79,6 +98,16 @@ pub fn gaps_name_no_key()
 /// A call makes at most so many requests.
 pub fn requests_are_bounded()
     ensures { RequestsAreBounded }
+{}
+
+/// What a call ensures bounds its requests, also where memory is refused.
+pub fn calls_are_bounded()
+    ensures { CallsAreBounded }
+{}
+
+/// What `play` ensures bounds the requests of each of its calls.
+pub fn plays_are_bounded()
+    ensures { PlaysAreBounded }
 {}
 
 /// A command to several nodes goes to each of them once, ascending.
@@ -94,6 +123,11 @@ pub fn each_part_is_answered_once()
 /// Replies to reads of streams that are spelled in another shape change nothing of a run.
 pub fn respelled_runs()
     ensures { RespelledRuns }
+{}
+
+/// Two plays over links whose values say the same show the same and send the same bytes.
+pub fn respelled_plays()
+    ensures { RespelledPlays }
 {}
 
 /// Sums, least numbers and maps of counts do not depend on the order of the replies.

@@ -1,5 +1,5 @@
 -- Runs whose replies to reads of streams are respelled send the same and answer the same.
-use Rattle.std.proofs.Common.{◌≡◌, ℕ, suc, ◌+◌, Bool, true, false, not, cond, ◌&&◌, List, [], ◌∷◌, ◌++◌, map, filter, length, drop, Option, Some, None, Result, option_map, refl, sym, ap, ◌∙◌, subst}
+use Rattle.std.proofs.Common.{◌≡◌, ℕ, suc, ◌+◌, Bool, true, false, not, cond, ◌&&◌, ◌||◌, List, [], ◌∷◌, ◌++◌, map, filter, length, drop, Option, Some, None, Result, option_map, refl, sym, ap, ◌∙◌, subst}
 use Rattle.std.specs.Prelude.{option_and_then, is_none, is_some, codes, slice_get}
 use Rattle.std.specs.List.{AllByRecursion, flat_map}
 use Rattle.std.proofs.lemmas.List.{append_assoc}
@@ -174,6 +174,20 @@ lost_alike how node xs ys h =
     any_alike (AlikeExchange how) (λ (x : Exchange). same_address x.request.node node && is_unanswered x)
     (λ x y g. let r = both_replied how x y g in ap (λ (q : Request). same_address q.node node && is_unanswered x) g.request ∙ ap (λ b. same_address y.request.node node && b) (r.0 ∙ sym r.1)) xs ys h
 
+-- where all are replied none is lost
+pub none_lost_alike : (how : Option Respellable) (xs ys : List Exchange) → Pairwise (AlikeExchange how) xs ys → (a : Address) → (has_lost a xs ≡ false) × (has_lost a ys ≡ false)
+none_lost_alike how xs ys h a =
+    let none = none_lost xs (all_replied how xs ys h) in
+    (none, sym (lost_alike how a xs ys h) ∙ none)
+  where
+    with_answer : (b u c : Bool) → u ≡ false → c ≡ false → ((b && u) || c) ≡ false
+    with_answer true u c e f = ap (λ v. v || c) e ∙ f
+    with_answer false u c e f = f
+
+    none_lost : (zs : List Exchange) → AreReplied zs → has_lost a zs ≡ false
+    none_lost [] r = refl
+    none_lost (z ∷ zs) r = with_answer (same_address z.request.node a) (is_unanswered z) (has_lost a zs) r.0 (none_lost zs r.1)
+
 links_alike : (how : Option Respellable) (links : List Address) (xs ys : List Exchange) → Pairwise (AlikeExchange how) xs ys → links_after links xs ≡ links_after links ys
 links_alike how links xs ys h = λ i. filter (λ node. not (lost_alike how node xs ys h i)) links
 
@@ -207,7 +221,7 @@ front_said how false hows (t ∷ ts) (u ∷ us) h = (replied h.0, h.1)
 abbrev said : Option Respellable → Address → List Request → List (Option Respellable)
 said how node log = flat_map (request_respellings how) (requests_to node log)
 
-exchanged : (how : Option Respellable) (log : List Request) (later : Address → List (Option Respellable)) (queues queues' : Address → List Tree) (place : ℕ) → ((node : Address) → SayTheSame (said how node log ++ later node) (queues node) (queues' node))
+pub exchanged : (how : Option Respellable) (log : List Request) (later : Address → List (Option Respellable)) (queues queues' : Address → List Tree) (place : ℕ) → ((node : Address) → SayTheSame (said how node log ++ later node) (queues node) (queues' node))
     → Pairwise (AlikeExchange how) (exchanges queues place log) (exchanges queues' place log) × ((node : Address) → SayTheSame (later node) (left_after_all queues log node) (left_after_all queues' log node))
 exchanged how [] later queues queues' place h = (tt, h)
 exchanged how (q ∷ qs) later queues queues' place h =
