@@ -6,8 +6,10 @@ pub mod Meaning
 pub mod Honest
 pub mod Commands
 pub mod Headline
+pub mod AmongOthers
 pub mod OneCall
 pub mod Played
+pub mod PlayedAmongOthers
 pub mod Laws
 pub mod Respelling
 pub mod Bounds

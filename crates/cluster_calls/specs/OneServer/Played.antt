@@ -7,6 +7,8 @@
 -- map, the order of replies, redirects, how bytes are cut into reads, what a strategy for reads picks, or how many redirects are
 -- followed.
 --
+-- Where others use the keys too, PlayedAmongOthers says what remains, and this claim is the case of it with no step of others.
+--
 -- How to read it: `(x : T) →` is 'for every x of T'; `A → B` is 'if A, then B'; `≡` is 'equals'; a record is a list of facts
 -- that hold together. A record's field can be a value too, which then exists; later fields speak of it.
 --
