@@ -26,3 +26,4 @@ pub mod OneCommand
 pub mod OneRequest
 pub mod Refreshing
 pub mod Stretched
+pub mod FirstCalls

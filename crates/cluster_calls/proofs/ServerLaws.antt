@@ -1,4 +1,5 @@
 pub mod Histories
+pub mod Pieces
 pub mod Regroup
 pub mod Draw
 pub mod Distinct
@@ -12,7 +13,12 @@ pub mod Grouping
 pub mod Orders
 pub mod PartCall
 pub mod Pipes
+pub mod Turns
+pub mod InPlace
 pub mod Runs
+pub mod AmongOthers
+pub mod Alone
+pub mod Unsplit
 pub mod Determined
 pub mod Agreeing
 pub mod AnyOrder

@@ -9,6 +9,7 @@ pub mod Checks
 pub mod WrongRules
 pub mod KeyRuns
 pub mod WrongServers
+pub mod RunsAmongOthers
 pub mod WrongCounts
 pub mod WrongRuns
 pub mod MixedRun

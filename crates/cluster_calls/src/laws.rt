@@ -10,6 +10,8 @@ ghost use Rattle.cluster_calls.specs.OneServer.RespelledPlays.{RespelledPlays};
 ghost use Rattle.cluster_calls.specs.OneServer.Respelling.{RespelledRuns};
 ghost use Rattle.cluster_calls.specs.OneServer.SentLists.{NoOtherLists};
 ghost use Rattle.cluster_calls.specs.OneServer.Stretches.{RunsHaveStretches};
+ghost use Rattle.cluster_calls.specs.OneServer.PlayedAmongOthers.{PlayedAmongOthers};
+ghost use Rattle.cluster_calls.specs.OneServer.AmongOthers.{AnswersAmongOthers, UnsplitRunsStay};
 
 /// A call leaves the links of all nodes that its log does not name, also where memory is refused.
 pub fn unasked_nodes_stay()
@@ -37,6 +39,17 @@ pub fn answers_and_keyspace()
     ensures { AnswersAndKeyspace }
 {}
 
+/// The same where others use the keys in between: on each slot their steps and the run's stay as they
+/// are.
+pub fn answers_among_others()
+    ensures { AnswersAmongOthers }
+{}
+
+/// Where no command is split and no call is a pipeline, all steps stay in their order, others' too.
+pub fn unsplit_runs_stay()
+    ensures { UnsplitRunsStay }
+{}
+
 /// What `refresh` and `query` ensure makes each of their calls, played over honest nodes, as good as
 /// its command on one server.
 pub fn one_call_as_on_one_server()
@@ -48,6 +61,11 @@ pub fn one_call_as_on_one_server()
 /// keyspace.
 pub fn played_as_on_one_server()
     ensures { PlayedAsOnOneServer }
+{}
+
+/// The same where others use the keys in between.
+pub fn played_among_others()
+    ensures { PlayedAmongOthers }
 {}
 
 /// Legal logs of a call for equal replies are equal.

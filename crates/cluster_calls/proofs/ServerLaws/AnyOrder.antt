@@ -19,7 +19,7 @@ use Rattle.cluster_calls.specs.OneServer.Headline.{RepliedCall, IsPlayedFrom, co
 use Rattle.cluster_calls.specs.OneServer.Laws.{IsAnswered, IsDeterministic, in_any_order}
 use Rattle.cluster_calls.proofs.LogLaws.Gaps.{every_gap_names_no_key}
 use Rattle.cluster_calls.proofs.ServerLaws.Agreeing.{servers_agree, on_slots_too}
-use Rattle.cluster_calls.proofs.ServerLaws.Runs.{run_served}
+use Rattle.cluster_calls.proofs.ServerLaws.Alone.{run_served}
 
 abbrev pub turned : RepliedCall → RepliedCall
 turned t = record { call = in_any_order t.call; picks = t.picks; answer = t.answer; log = t.log }

@@ -7,7 +7,7 @@ use Rattle.resp_core.specs.declared.errors.redis_error.Cause.TheVariants.{BadOrd
 use Rattle.resp_args.specs.Command.{Command}
 use Rattle.resp_args.specs.Packed.{sent}
 use Rattle.cluster_routing.specs.Address.{Address}
-use Rattle.cluster_routing.specs.Lists.{concat, Pairwise, among, is_permutation}
+use Rattle.cluster_routing.specs.Lists.{Pairwise, among, is_permutation}
 use Rattle.cluster_routing.specs.Parts.{tuple_slot}
 use Rattle.cluster_routing.specs.Policies.{bad_reply, or_bad_reply}
 use Rattle.cluster_routing.specs.Split.{Split, split_of}
@@ -21,25 +21,26 @@ use Rattle.cluster_calls.specs.Links.Faults.{LinkFault}
 use Rattle.cluster_calls.specs.Calls.Replies.{part_replies, reply_of_parts}
 use Rattle.cluster_calls.specs.Calls.Refusals.{part_refusal, sent_refusal}
 use Rattle.cluster_calls.specs.Calls.Answer.{Answer, answer_in, reply_of, unless, answer_of}
-use Rattle.cluster_calls.specs.OneServer.Keyspace.{Keyspace, History}
-use Rattle.cluster_calls.specs.OneServer.Meaning.{Meaning, OneServer}
-use Rattle.cluster_calls.specs.OneServer.Honest.{Honest, Accounts, is_counted}
+use Rattle.cluster_calls.specs.OneServer.Keyspace.{Step}
+use Rattle.cluster_calls.specs.OneServer.Meaning.{Meaning}
+use Rattle.cluster_calls.specs.OneServer.Honest.{Accounts, is_counted}
 use Rattle.cluster_calls.specs.OneServer.Commands.{task_operations, kept_of, kept_by, split_with, task_kept, counting, IsAnswerBy, IsTaskAnswer}
 use Rattle.cluster_calls.specs.OneServer.Operations.{Response, Reply, run_each}
 use Rattle.cluster_calls.proofs.ServerLaws.Draw.{pairwise-nil}
+use Rattle.cluster_calls.proofs.ServerLaws.Pieces.{SamePieces, HonestIn, ServedIn}
 use Rattle.cluster_calls.proofs.LogLaws.Plans.{IsFor, dispatches_for, sends_parts, role, split_parts_are, whole_part_is}
 use Rattle.cluster_calls.proofs.ServerLaws.Orders.{sends_ordered}
 use Rattle.cluster_calls.proofs.ServerLaws.PartCall.{Sends, command_kept, command_told}
 
--- a call is served by one server
-pub record CallServed (meaning : Meaning) (keys : Keyspace) (done : ℕ → Bool) (call : Call) (answer : Result Answer Refusal) (xs : List Exchange) (keys' : Keyspace) : Type 0 where
+-- a call is served by one server, by the same steps on each slot as its requests made
+pub record CallServed (meaning : Meaning) (done : ℕ → Bool) (call : Call) (answer : Result Answer Refusal) (xs : List Exchange) (moves : List (List Step)) : Type 0 where
   pub responses : List Response
-  pub served : OneServer meaning keys (counting done call answer xs) responses keys'
+  pub served : ServedIn meaning (counting done call answer xs) responses moves
   pub answer_is : IsAnswerBy call answer responses
 
 -- no exchange, no change
-pub nothing_done : (meaning : Meaning) (keys keys' : Keyspace) (done : ℕ → Bool) → Honest meaning keys done [] keys' → History keys [] keys'
-nothing_done meaning keys keys' done h = subst (λ q. History keys (concat q) keys') (pairwise-nil (Accounts meaning done) h.0 h.1) h.2
+pub nothing_done : (meaning : Meaning) (moves : List (List Step)) (done : ℕ → Bool) → HonestIn meaning done [] moves → SamePieces [] moves
+nothing_done meaning moves done h = subst (λ q. SamePieces q moves) (pairwise-nil (Accounts meaning done) h.0 h.1) h.2
 
 filter_none : (split : Split) → filter (λ t. among nat_eq (tuple_slot t) []) split.tuples ≡ []
 filter_none split = by split.tuples
@@ -89,7 +90,7 @@ ordered_send client picks command number (Some order) parts ds p f d =
     (dispatches_send client picks command number parts ds p d)
 
 -- the plan of a call of one command sends it
-plan_sends : (client : Client) (picks : List Address) (call : Call) (command : Command) (number : ℕ) (order : Option (List ℕ)) (ds : List Dispatch)
+pub plan_sends : (client : Client) (picks : List Address) (call : Call) (command : Command) (number : ℕ) (order : Option (List ℕ)) (ds : List Dispatch)
     → task_of call ≡ one_command command number order → plan client picks call ≡ Ok ds → Sends (sent command) ds (split_of (sent command))
 plan_sends client picks call command number order ds t e = at_early (early_refusal call) (subst at_task t e)
   where
@@ -120,50 +121,50 @@ plan_sends client picks call command number order ds t e = at_early (early_refus
 
 -- ---- served
 
-module _ (client : Client) (faults : Address → LinkFault) (meaning : Meaning) (keys keys' : Keyspace) (done : ℕ → Bool) (picks : List Address) (call : Call) (command : Command) (number : ℕ) (order : Option (List ℕ))
-    (is_command : task_of call ≡ one_command command number order) (xs : List Exchange) (honest : Honest meaning keys done xs keys') where
+module _ (client : Client) (faults : Address → LinkFault) (meaning : Meaning) (moves : List (List Step)) (done : ℕ → Bool) (picks : List Address) (call : Call) (command : Command) (number : ℕ) (order : Option (List ℕ))
+    (is_command : task_of call ≡ one_command command number order) (xs : List Exchange) (honest : HonestIn meaning done xs moves) where
   -- a refused call keeps what was counted
-  refused : (r : Refusal) → (responses : List Response) × OneServer meaning keys (run_each (kept_of (sent command) (filter (is_counted done) xs))) responses keys' → CallServed meaning keys done call (Err r) xs keys'
-  refused r k = record { responses = k.0; served = subst (λ t. OneServer meaning keys (task_kept done t xs) k.0 keys') (sym is_command) k.1; answer_is = tt }
+  refused : (r : Refusal) → (responses : List Response) × ServedIn meaning (run_each (kept_of (sent command) (filter (is_counted done) xs))) responses moves → CallServed meaning done call (Err r) xs moves
+  refused r k = record { responses = k.0; served = subst (λ t. ServedIn meaning (task_kept done t xs) k.0 moves) (sym is_command) k.1; answer_is = tt }
 
-  unsent : xs ≡ [] → (responses : List Response) × OneServer meaning keys (run_each (kept_of (sent command) (filter (is_counted done) xs))) responses keys'
+  unsent : xs ≡ [] → (responses : List Response) × ServedIn meaning (run_each (kept_of (sent command) (filter (is_counted done) xs))) responses moves
   unsent e =
-      let h = subst (λ q. Honest meaning keys done q keys') e honest in
-      ([], subst (λ q. OneServer meaning keys q [] keys') (ap run_each (sym (kept_none (sent command)) ∙ ap (λ q. kept_of (sent command) (filter (is_counted done) q)) (sym e))) ([], tt, nothing_done meaning keys keys' done h))
+      let h = subst (λ q. HonestIn meaning done q moves) e honest in
+      ([], subst (λ q. ServedIn meaning q [] moves) (ap run_each (sym (kept_none (sent command)) ∙ ap (λ q. kept_of (sent command) (filter (is_counted done) q)) (sym e))) ([], tt, nothing_done meaning moves done h))
 
   module _ (ds : List Dispatch) (sends : Sends (sent command) ds (split_of (sent command))) (legal : PartByPart client ds xs) where
-    kept_here : (responses : List Response) × OneServer meaning keys (run_each (kept_of (sent command) (filter (is_counted done) xs))) responses keys'
-    kept_here = command_kept meaning done (sent command) keys keys' client ds xs sends legal honest
+    kept_here : (responses : List Response) × ServedIn meaning (run_each (kept_of (sent command) (filter (is_counted done) xs))) responses moves
+    kept_here = command_kept meaning done (sent command) moves client ds xs sends legal honest
 
     -- an answered call has its one reply from the server
-    answered : part_refusal client faults (behind_answers xs) ≡ None → (tree : Tree) → reply_of_parts (sent command) (part_replies xs) ≡ Some tree → (answer : Answer) → answer_in call tree ≡ Some answer → CallServed meaning keys done call (Ok answer) xs keys'
+    answered : part_refusal client faults (behind_answers xs) ≡ None → (tree : Tree) → reply_of_parts (sent command) (part_replies xs) ≡ Some tree → (answer : Answer) → answer_in call tree ≡ Some answer → CallServed meaning done call (Ok answer) xs moves
     answered fine tree made answer e = record {
       responses = Reply tree ∷ [];
-      served = subst (λ t. OneServer meaning keys (task_operations t) (Reply tree ∷ []) keys') (sym is_command) (command_told meaning done (sent command) keys keys' client faults ds xs sends legal honest fine tree made);
+      served = subst (λ t. ServedIn meaning (task_operations t) (Reply tree ∷ []) moves) (sym is_command) (command_told meaning done (sent command) moves client faults ds xs sends legal honest fine tree made);
       answer_is = subst (λ t. IsTaskAnswer call t answer (Reply tree ∷ [])) (sym is_command) (tree, refl, e);
     }
 
-    by_answer : part_refusal client faults (behind_answers xs) ≡ None → (tree : Tree) → reply_of_parts (sent command) (part_replies xs) ≡ Some tree → (o : Option Answer) → answer_in call tree ≡ o → CallServed meaning keys done call (or_bad_reply o) xs keys'
+    by_answer : part_refusal client faults (behind_answers xs) ≡ None → (tree : Tree) → reply_of_parts (sent command) (part_replies xs) ≡ Some tree → (o : Option Answer) → answer_in call tree ≡ o → CallServed meaning done call (or_bad_reply o) xs moves
     by_answer fine tree made None e = refused bad_reply kept_here
     by_answer fine tree made (Some answer) e = answered fine tree made answer e
 
-    by_reply : part_refusal client faults (behind_answers xs) ≡ None → (o : Option Tree) → reply_of_parts (sent command) (part_replies xs) ≡ o → CallServed meaning keys done call (or_bad_reply (option_and_then (answer_in call) o)) xs keys'
+    by_reply : part_refusal client faults (behind_answers xs) ≡ None → (o : Option Tree) → reply_of_parts (sent command) (part_replies xs) ≡ o → CallServed meaning done call (or_bad_reply (option_and_then (answer_in call) o)) xs moves
     by_reply fine None made = refused bad_reply kept_here
     by_reply fine (Some tree) made = by_answer fine tree made (answer_in call tree) refl
 
-    by_refusal : (o : Option Refusal) → part_refusal client faults (behind_answers xs) ≡ o → CallServed meaning keys done call (unless o (or_bad_reply (option_and_then (answer_in call) (reply_of_parts (sent command) (part_replies xs))))) xs keys'
+    by_refusal : (o : Option Refusal) → part_refusal client faults (behind_answers xs) ≡ o → CallServed meaning done call (unless o (or_bad_reply (option_and_then (answer_in call) (reply_of_parts (sent command) (part_replies xs))))) xs moves
     by_refusal None fine = by_reply fine (reply_of_parts (sent command) (part_replies xs)) refl
     by_refusal (Some r) fine = refused r kept_here
 
   abbrev answer_at : Task → Result Answer Refusal
   answer_at task = unless (sent_refusal client faults task xs) (or_bad_reply (option_and_then (answer_in call) (reply_of faults task xs)))
 
-  pub command_served : IsLegalCall client picks call xs → CallServed meaning keys done call (answer_of client picks faults call xs) xs keys'
+  pub command_served : IsLegalCall client picks call xs → CallServed meaning done call (answer_of client picks faults call xs) xs moves
   command_served legal = by (plan client picks call) refl legal
     where
       by : (o : Result (List Dispatch) Refusal) → plan client picks call ≡ o → MatchResult o (λ ds. AreMade client (task_of call) ds xs) (λ refusal. xs ≡ [])
-          → CallServed meaning keys done call (result_then o (λ ds. answer_at (task_of call))) xs keys'
+          → CallServed meaning done call (result_then o (λ ds. answer_at (task_of call))) xs moves
       by (Ok ds) p l =
-          subst (λ t. CallServed meaning keys done call (answer_at t) xs keys') (sym is_command)
+          subst (λ t. CallServed meaning done call (answer_at t) xs moves) (sym is_command)
           (by_refusal ds (plan_sends client picks call command number order ds is_command p) (subst (λ t. AreMade client t ds xs) is_command l) (part_refusal client faults (behind_answers xs)) refl)
       by (Err r) p l = refused r (unsent l)

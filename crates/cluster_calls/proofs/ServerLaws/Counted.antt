@@ -6,12 +6,13 @@ use Rattle.std.proofs.lemmas.Bool.{false≢true}
 use Rattle.resp_core.specs.Trees.{Tree, ErrorText, nil, int, bulk, array, simple, okay, map, attribute, set, double, boolean, verbatim, big_number, push, server_error}
 use Rattle.resp_core.specs.Parts.{first_error}
 use Rattle.resp_core.specs.Errors.{by_server}
-use Rattle.cluster_routing.specs.Lists.{concat, Pairwise}
+use Rattle.cluster_routing.specs.Lists.{Pairwise}
 use Rattle.cluster_routing.specs.Address.{Address}
 use Rattle.cluster_calls.specs.Links.Reply.{Sort, Moved, Ask, Failed, Data, sort_of, inner_sort}
 use Rattle.cluster_calls.specs.Links.Log.{Exchange, is_data, is_data_reply, is_answered, is_unanswered, last_of, behind_answers}
-use Rattle.cluster_calls.specs.OneServer.Keyspace.{Step}
+use Rattle.cluster_calls.specs.OneServer.Keyspace.{Step, on_slot}
 use Rattle.cluster_calls.specs.OneServer.Meaning.{Meaning}
+use Rattle.cluster_calls.proofs.ServerLaws.Pieces.{with_some, pieces, SamePieces}
 use Rattle.cluster_calls.specs.OneServer.Honest.{is_counted, IsDoneBy, Accounts}
 use Rattle.cluster_calls.specs.Calls.Plan.{Client, Dispatch}
 use Rattle.cluster_calls.specs.Calls.Redirects.{Hop, Next, Stays, Lost, Goes, next_of, reply_next, sort_next, MatchNext, FollowsRedirects}
@@ -21,16 +22,16 @@ use Rattle.cluster_calls.specs.Calls.Refusals.{stop_refusal, last_refusal, part_
 
 -- what accounts for a log accounts for its counted requests
 pub counted_steps : (meaning : Meaning) (done : ℕ → Bool) (xs : List Exchange) (ss : List (List Step)) → Pairwise (Accounts meaning done) xs ss
-    → (ts : List (List Step)) × Pairwise (IsDoneBy meaning) (filter (is_counted done) xs) ts × (concat ts ≡ concat ss)
-counted_steps meaning done [] [] h = ([], tt, refl)
+    → (ts : List (List Step)) × Pairwise (IsDoneBy meaning) (filter (is_counted done) xs) ts × SamePieces ts ss
+counted_steps meaning done [] [] h = ([], tt, λ slot. refl)
 counted_steps meaning done [] (s ∷ ss) h = absurd h
 counted_steps meaning done (x ∷ xs) [] h = absurd h
 counted_steps meaning done (x ∷ xs) (s ∷ ss) h = by (is_counted done x) h.0 (counted_steps meaning done xs ss h.1)
   where
-    by : (b : Bool) → MatchBool b (IsDoneBy meaning x s) (s ≡ []) → (ts : List (List Step)) × Pairwise (IsDoneBy meaning) (filter (is_counted done) xs) ts × (concat ts ≡ concat ss)
-        → (ts : List (List Step)) × Pairwise (IsDoneBy meaning) (cond b (x ∷ filter (is_counted done) xs) (filter (is_counted done) xs)) ts × (concat ts ≡ s ++ concat ss)
-    by true a r = (s ∷ r.0, (a, r.1), ap (λ q. s ++ q) r.2)
-    by false a r = (r.0, r.1, r.2 ∙ ap (λ q. q ++ concat ss) (sym a))
+    by : (b : Bool) → MatchBool b (IsDoneBy meaning x s) (s ≡ []) → (ts : List (List Step)) × Pairwise (IsDoneBy meaning) (filter (is_counted done) xs) ts × SamePieces ts ss
+        → (ts : List (List Step)) × Pairwise (IsDoneBy meaning) (cond b (x ∷ filter (is_counted done) xs) (filter (is_counted done) xs)) ts × SamePieces ts (s ∷ ss)
+    by true a r = (s ∷ r.0, (a, r.1), λ slot. ap (with_some (on_slot slot s)) (r.2 slot))
+    by false a r = (r.0, r.1, λ slot. r.2 slot ∙ ap (λ q. with_some (on_slot slot q) (pieces slot ss)) (sym a))
 
 -- ---- the exchanges of one part
 

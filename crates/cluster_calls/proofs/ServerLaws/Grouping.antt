@@ -2,11 +2,8 @@
 use Rattle.std.proofs.Common.{◌≡◌, ℕ, Bool, true, false, cond, ◌==◌, List, [], ◌∷◌, ◌++◌, map, filter, refl, sym, ap, ◌∙◌, eqb-true}
 use Rattle.std.specs.List.{AllByRecursion}
 use Rattle.std.proofs.lemmas.Bool.{false≢true}
-use Rattle.std.proofs.lemmas.List.Elements.{filter-append}
-use Rattle.cluster_routing.specs.Lists.{concat, Pairwise, draw, without_front_of, front, rest}
-use Rattle.cluster_calls.specs.OneServer.Keyspace.{Step, on_slot}
+use Rattle.cluster_routing.specs.Lists.{Pairwise, draw, without_front_of, front, rest}
 use Rattle.cluster_calls.proofs.ServerLaws.Draw.{drawn_same}
-use Rattle.cluster_calls.proofs.ServerLaws.Splits.{on_one_slot}
 
 pub filter-same : {X : Type 0} (p q : X → Bool) (xs : List X) → AllByRecursion (λ x. p x ≡ q x) xs → filter p xs ≡ filter q xs
 filter-same p q [] h = refl
@@ -78,16 +75,3 @@ drawn_skip {X} slot q (d ∷ ds) f h = by (q d) refl (drawn_skip slot q ds (with
     by false e ih same =
         let k = h d e in
         ap (λ r. front r ++ draw (map slot ds) (without_front_of (slot d) f)) k ∙ drawn_same (map slot ds) (without_front_of (slot d) f) f (λ s. empty s (s == slot d) refl k) ∙ same
-
--- where each element's steps are on its slot, the steps of a slot are those of its elements
-pub steps_on_slot : {Z : Type 0} (slot : Z → ℕ) (steps : Z → List Step) (zs : List Z) → AllByRecursion (λ z. AllByRecursion (λ (x : Step). x.slot ≡ slot z) (steps z)) zs
-    → (s : ℕ) → on_slot s (concat (map steps zs)) ≡ concat (map steps (filter (λ z. s == slot z) zs))
-steps_on_slot slot steps [] h s = refl
-steps_on_slot slot steps (z ∷ zs) h s =
-    filter-append (λ (x : Step). s == x.slot) (steps z) (concat (map steps zs))
-    ∙ ap (λ q. q ++ on_slot s (concat (map steps zs))) (on_one_slot s (slot z) (steps z) h.0)
-    ∙ ap (λ q. cond (s == slot z) (steps z) [] ++ q) (steps_on_slot slot steps zs h.1 s) ∙ by (s == slot z)
-  where
-    by : (b : Bool) → cond b (steps z) [] ++ concat (map steps (filter (λ z. s == slot z) zs)) ≡ concat (map steps (cond b (z ∷ filter (λ z. s == slot z) zs) (filter (λ z. s == slot z) zs)))
-    by true = refl
-    by false = refl

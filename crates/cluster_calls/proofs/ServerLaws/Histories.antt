@@ -1,5 +1,5 @@
 -- A history is its slots' histories.
-use Rattle.std.proofs.Common.{◌≡◌, ℕ, Bool, true, false, cond, ◌==◌, List, [], ◌∷◌, ◌++◌, refl, sym, ap, ◌∙◌, subst, eqb-true, eq-eqb}
+use Rattle.std.proofs.Common.{◌≡◌, ℕ, Bool, true, false, cond, ◌==◌, List, [], ◌∷◌, ◌++◌, refl, ap, ◌∙◌, subst, eqb-true, eq-eqb}
 use Rattle.std.proofs.lemmas.Bool.{false≢true}
 use Rattle.cluster_calls.specs.OneServer.Keyspace.{Keyspace, Step, History, Leads, on_slot, with_cell}
 
@@ -40,11 +40,7 @@ pub history_from : (xs : List Step) (keys other keys' : Keyspace) → ((slot : �
 history_from xs keys other keys' same c =
     leads_history xs other keys' (λ slot. subst (λ cell. Leads cell (on_slot slot xs) (keys' slot)) (same slot) (history_leads xs keys keys' c slot))
 
--- histories join, and come apart
-pub history_join : (xs ys : List Step) (keys mid keys' : Keyspace) → History keys xs mid → History mid ys keys' → History keys (xs ++ ys) keys'
-history_join [] ys keys mid keys' c d = history_from ys mid keys keys' (λ s. sym (c s)) d
-history_join (x ∷ xs) ys keys mid keys' c d = (c.0, history_join xs ys (with_cell keys x.slot x.after) mid keys' c.1 d)
-
+-- histories come apart
 pub history_split : (xs ys : List Step) (keys keys' : Keyspace) → History keys (xs ++ ys) keys' → (mid : Keyspace) × (History keys xs mid × History mid ys keys')
 history_split [] ys keys keys' c = (keys, (λ s. refl, c))
 history_split (x ∷ xs) ys keys keys' c =

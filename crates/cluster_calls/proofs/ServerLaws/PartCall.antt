@@ -1,23 +1,24 @@
 -- A call of one command, part by part, is as good as the command on one server.
-use Rattle.std.proofs.Common.{◌≡◌, ℕ, Bool, true, false, cond, ◌||◌, nat_eq, List, [], ◌∷◌, ◌++◌, map, filter, Option, Some, None, refl, sym, ap, ◌∙◌, subst, append-nil, MatchOption}
+use Rattle.std.proofs.Common.{◌≡◌, ℕ, Bool, true, false, cond, ◌||◌, nat_eq, List, [], ◌∷◌, ◌++◌, map, filter, Option, Some, None, refl, sym, ap, ◌∙◌, subst, MatchOption}
 use Rattle.std.specs.Prelude.{IfSome, unwrap_or}
 use Rattle.std.specs.List.{AllByRecursion}
 use Rattle.std.proofs.lemmas.Bool.{false≢true}
 use Rattle.resp_core.specs.Trees.{Tree, nil}
-use Rattle.cluster_routing.specs.Lists.{concat, among, IsDistinct, Pairwise}
+use Rattle.cluster_routing.specs.Lists.{among, IsDistinct, Pairwise}
 use Rattle.cluster_routing.specs.Address.{Address}
 use Rattle.cluster_routing.specs.Split.{Split, split_of}
 use Rattle.cluster_routing.specs.Parts.{tuple_slot}
-use Rattle.cluster_calls.specs.OneServer.Keyspace.{Keyspace, Step, History}
-use Rattle.cluster_calls.specs.OneServer.Meaning.{Meaning, DoesTuple, IsWholeStep, DoCommand, OneServer, tree_of_steps, step_trees}
+use Rattle.cluster_calls.specs.OneServer.Keyspace.{Step}
+use Rattle.cluster_calls.specs.OneServer.Meaning.{Meaning, DoesTuple, IsWholeStep, DoCommand, tree_of_steps, step_trees}
 use Rattle.cluster_calls.specs.OneServer.Operations.{RunCommand, Response, Reply, response_by, run_each}
 use Rattle.cluster_routing.specs.Combine.{combine_by}
 use Rattle.cluster_calls.specs.Links.Log.{Exchange, is_answered, is_data_reply, behind_answers}
 use Rattle.cluster_calls.specs.Calls.Plan.{Client, Dispatch}
 use Rattle.cluster_calls.specs.Calls.Legal.{PartByPart}
 use Rattle.cluster_calls.specs.Calls.Replies.{args_slot, exchange_slot, reply_or_nil, part_replies, reply_of_parts, reply_by_split}
-use Rattle.cluster_calls.specs.OneServer.Honest.{is_counted, IsDoneBy, Honest}
+use Rattle.cluster_calls.specs.OneServer.Honest.{is_counted, IsDoneBy}
 use Rattle.cluster_calls.specs.OneServer.Commands.{kept_by, kept_of}
+use Rattle.cluster_calls.proofs.ServerLaws.Pieces.{SamePieces, HonestIn, ServedIn}
 use Rattle.cluster_calls.proofs.ServerLaws.Counted.{counted_steps, Begun, parts_begun, AllDone, parts_done}
 use Rattle.cluster_calls.proofs.ServerLaws.Splits.{part_on_slot}
 use Rattle.cluster_calls.proofs.ServerLaws.SplitCall.{IsDispatchOf, part_done, parts_done_steps, Regrouped, regrouped, kept_served}
@@ -61,11 +62,11 @@ reply_is meaning x steps a h = by x.reply a h.reply
     by None a e = absurd (false≢true a)
     by (Some t) a e = same t (e ∙ h.done.1)
 
-module _ (meaning : Meaning) (done : ℕ → Bool) (args : List (List ℕ)) (keys keys' : Keyspace) where
+module _ (meaning : Meaning) (done : ℕ → Bool) (args : List (List ℕ)) (moves : List (List Step)) where
   -- ---- what is kept
 
   whole_kept : (d : Dispatch) → d.args ≡ args → (begun later : List Dispatch) → d ∷ [] ≡ begun ++ later → (xs : List Exchange) → Pairwise (λ (d : Dispatch) (x : Exchange). x.request.args ≡ d.args) begun xs
-      → (sts : List (List Step)) → Pairwise (IsDoneBy meaning) xs sts → History keys (concat sts) keys' → (responses : List Response) × OneServer meaning keys (run_each (kept_by args None xs)) responses keys'
+      → (sts : List (List Step)) → Pairwise (IsDoneBy meaning) xs sts → SamePieces sts moves → (responses : List Response) × ServedIn meaning (run_each (kept_by args None xs)) responses moves
   whole_kept d e begun later all [] p [] h c = ([], ([], tt, c))
   whole_kept d e begun later all [] p (st ∷ sts) h c = absurd h
   whole_kept d e begun later all (x ∷ xs) p [] h c = absurd h
@@ -78,27 +79,27 @@ module _ (meaning : Meaning) (done : ℕ → Bool) (args : List (List ℕ)) (key
       let is_args : x.request.args ≡ args = p.0 ∙ ap (λ (b : Dispatch). b.args) (sym same) ∙ e in
       (h.0.response ∷ [], (st ∷ [], (((h.0.done.0, h.0.done.1, subst (λ a. DoCommand a st h.0.done.0) is_args h.0.done.2), h.0.allowed), tt), c))
 
-  pub command_kept : (client : Client) (ds : List Dispatch) (xs : List Exchange) → Sends args ds (split_of args) → PartByPart client ds xs → Honest meaning keys done xs keys'
-      → (responses : List Response) × OneServer meaning keys (run_each (kept_of args (filter (is_counted done) xs))) responses keys'
+  pub command_kept : (client : Client) (ds : List Dispatch) (xs : List Exchange) → Sends args ds (split_of args) → PartByPart client ds xs → HonestIn meaning done xs moves
+      → (responses : List Response) × ServedIn meaning (run_each (kept_of args (filter (is_counted done) xs))) responses moves
   command_kept client ds xs sends legal honest = by (split_of args) refl sends
     where
       begun : Begun done ds xs
       begun = parts_begun client done ds xs legal
 
-      steps : (ts : List (List Step)) × Pairwise (IsDoneBy meaning) (filter (is_counted done) xs) ts × (concat ts ≡ concat honest.0)
+      steps : (ts : List (List Step)) × Pairwise (IsDoneBy meaning) (filter (is_counted done) xs) ts × SamePieces ts honest.0
       steps = counted_steps meaning done xs honest.0 honest.1
 
-      history : History keys (concat steps.0) keys'
-      history = subst (λ q. History keys q keys') (sym steps.2) honest.2
+      same : SamePieces steps.0 moves
+      same slot = steps.2 slot ∙ honest.2 slot
 
-      by : (o : Option Split) → split_of args ≡ o → Sends args ds o → (responses : List Response) × OneServer meaning keys (run_each (kept_by args o (filter (is_counted done) xs))) responses keys'
-      by None e s = whole_kept s.0 s.2 begun.begun begun.later (sym s.1 ∙ begun.all) (filter (is_counted done) xs) begun.args steps.0 steps.1 history
+      by : (o : Option Split) → split_of args ≡ o → Sends args ds o → (responses : List Response) × ServedIn meaning (run_each (kept_by args o (filter (is_counted done) xs))) responses moves
+      by None e s = whole_kept s.0 s.2 begun.begun begun.later (sym s.1 ∙ begun.all) (filter (is_counted done) xs) begun.args steps.0 steps.1 same
       by (Some split) e s =
           let parts = parts_done_steps meaning args split e begun.begun (all-front (IsDispatchOf split) begun.begun begun.later (subst (AllByRecursion (IsDispatchOf split)) begun.all s.each))
           (filter (is_counted done) xs) begun.args steps.0 steps.1 in
-          kept_served meaning args split e keys keys' (λ t. among nat_eq (tuple_slot t) (map exchange_slot (filter (is_counted done) xs))) steps.0
-          (regrouped meaning args split e keys keys' begun.begun (filter (is_counted done) xs) steps.0
-          (distinct-front begun.begun begun.later (subst (λ q. IsDistinct nat_eq (map (λ (d : Dispatch). (args_slot d.args)) q)) begun.all s.distinct)) parts history)
+          kept_served meaning args split e moves (λ t. among nat_eq (tuple_slot t) (map exchange_slot (filter (is_counted done) xs))) steps.0
+          (regrouped meaning args split e moves begun.begun (filter (is_counted done) xs) steps.0
+          (distinct-front begun.begun begun.later (subst (λ q. IsDistinct nat_eq (map (λ (d : Dispatch). (args_slot d.args)) q)) begun.all s.distinct)) parts same)
 
   -- ---- what is told
 
@@ -120,14 +121,14 @@ module _ (meaning : Meaning) (done : ℕ → Bool) (args : List (List ℕ)) (key
       )
 
   split_told : (split : Split) (e : split_of args ≡ Some split) (ds : List Dispatch) → SendsParts split ds → (xs : List Exchange) → AllDone done ds xs → (sts : List (List Step)) → Pairwise (IsDoneBy meaning) (filter (is_counted done) xs) sts
-      → History keys (concat sts) keys' → (tree : Tree) → reply_by_split (Some split) (part_replies xs) ≡ Some tree → OneServer meaning keys (run_each (args ∷ [])) (Reply tree ∷ []) keys'
+      → SamePieces sts moves → (tree : Tree) → reply_by_split (Some split) (part_replies xs) ≡ Some tree → ServedIn meaning (run_each (args ∷ [])) (Reply tree ∷ []) moves
   split_told split e ds s xs all sts h c tree told =
       let counted = filter (is_counted done) xs in
       let parts = parts_done_steps meaning args split e ds s.each counted all.args sts h in
-      let r = regrouped meaning args split e keys keys' ds counted sts s.distinct parts c in
+      let r = regrouped meaning args split e moves ds counted sts s.distinct parts c in
       let us : filter (λ t. among nat_eq (tuple_slot t) (map exchange_slot counted)) split.tuples ≡ split.tuples =
       ap (λ q. filter (λ t. among nat_eq (tuple_slot t) q) split.tuples) parts.slots ∙ filter_all (λ t. among nat_eq (tuple_slot t) (map (λ (d : Dispatch). (args_slot d.args)) ds)) split.tuples s.whole in
-      let g = subst (λ q. Regrouped meaning args split e keys keys' q sts) us r in
+      let g = subst (λ q. Regrouped meaning args split e moves q sts) us r in
       let replies : combine_by split.splitting.policy split (map (λ x. record { slot = exchange_slot x; tree = reply_or_nil x }) counted) ≡ Some tree =
       subst (λ q. combine_by split.splitting.policy split (map (λ x. record { slot = exchange_slot x; tree = reply_or_nil x }) q) ≡ Some tree) all.answers told in
       let tree_is = combined_told split (map (λ x. record { slot = exchange_slot x; tree = reply_or_nil x }) counted) sts g.steps (split.splitting.policy)
@@ -140,16 +141,16 @@ module _ (meaning : Meaning) (done : ℕ → Bool) (args : List (List ℕ)) (key
           ),
           tt,
         ),
-        subst (λ q. History keys q keys') (sym (append-nil g.steps)) g.history,
+        g.pieces_are,
       )
 
   whole_told : (d : Dispatch) → d.args ≡ args → (xs : List Exchange) → AllDone done (d ∷ []) xs → (sts : List (List Step)) → Pairwise (IsDoneBy meaning) (filter (is_counted done) xs) sts
-      → History keys (concat sts) keys' → (tree : Tree) → reply_by_split None (part_replies xs) ≡ Some tree → OneServer meaning keys (run_each (args ∷ [])) (Reply tree ∷ []) keys'
+      → SamePieces sts moves → (tree : Tree) → reply_by_split None (part_replies xs) ≡ Some tree → ServedIn meaning (run_each (args ∷ [])) (Reply tree ∷ []) moves
   whole_told d e xs all sts h c tree told =
       by (filter (is_counted done) xs) all.args all.answered sts h c (subst (λ q. reply_by_split None (map (λ x. record { slot = exchange_slot x; tree = reply_or_nil x }) q) ≡ Some tree) all.answers told)
     where
-      by : (ys : List Exchange) → Pairwise (λ (d : Dispatch) (x : Exchange). x.request.args ≡ d.args) (d ∷ []) ys → AllByRecursion (λ x. is_answered x ≡ true) ys → (sts : List (List Step)) → Pairwise (IsDoneBy meaning) ys sts → History keys (concat sts) keys'
-          → reply_by_split None (map (λ x. record { slot = exchange_slot x; tree = reply_or_nil x }) ys) ≡ Some tree → OneServer meaning keys (run_each (args ∷ [])) (Reply tree ∷ []) keys'
+      by : (ys : List Exchange) → Pairwise (λ (d : Dispatch) (x : Exchange). x.request.args ≡ d.args) (d ∷ []) ys → AllByRecursion (λ x. is_answered x ≡ true) ys → (sts : List (List Step)) → Pairwise (IsDoneBy meaning) ys sts → SamePieces sts moves
+          → reply_by_split None (map (λ x. record { slot = exchange_slot x; tree = reply_or_nil x }) ys) ≡ Some tree → ServedIn meaning (run_each (args ∷ [])) (Reply tree ∷ []) moves
       by [] p a sts h c t = absurd p
       by (y ∷ z ∷ ys) p a sts h c t = absurd p.1
       by (y ∷ []) p a [] h c t = absurd h
@@ -159,19 +160,19 @@ module _ (meaning : Meaning) (done : ℕ → Bool) (args : List (List ℕ)) (key
           let same : h.0.done.0 ≡ tree = sym (reply_is meaning y st a.0 h.0) ∙ told_is in
           (st ∷ [], (((tree, refl, subst (λ a. DoCommand a st tree) (p.0 ∙ e) (subst (λ t. DoCommand y.request.args st t) same h.0.done.2)), h.0.allowed), tt), c)
 
-  pub command_told : (client : Client) (faults : Address → LinkFault) (ds : List Dispatch) (xs : List Exchange) → Sends args ds (split_of args) → PartByPart client ds xs → Honest meaning keys done xs keys'
-      → part_refusal client faults (behind_answers xs) ≡ None → (tree : Tree) → reply_of_parts args (part_replies xs) ≡ Some tree → OneServer meaning keys (run_each (args ∷ [])) (Reply tree ∷ []) keys'
+  pub command_told : (client : Client) (faults : Address → LinkFault) (ds : List Dispatch) (xs : List Exchange) → Sends args ds (split_of args) → PartByPart client ds xs → HonestIn meaning done xs moves
+      → part_refusal client faults (behind_answers xs) ≡ None → (tree : Tree) → reply_of_parts args (part_replies xs) ≡ Some tree → ServedIn meaning (run_each (args ∷ [])) (Reply tree ∷ []) moves
   command_told client faults ds xs sends legal honest fine tree told = by (split_of args) refl sends told
     where
       all : AllDone done ds xs
       all = parts_done client faults done ds xs legal fine
 
-      steps : (ts : List (List Step)) × Pairwise (IsDoneBy meaning) (filter (is_counted done) xs) ts × (concat ts ≡ concat honest.0)
+      steps : (ts : List (List Step)) × Pairwise (IsDoneBy meaning) (filter (is_counted done) xs) ts × SamePieces ts honest.0
       steps = counted_steps meaning done xs honest.0 honest.1
 
-      history : History keys (concat steps.0) keys'
-      history = subst (λ q. History keys q keys') (sym steps.2) honest.2
+      same : SamePieces steps.0 moves
+      same slot = steps.2 slot ∙ honest.2 slot
 
-      by : (o : Option Split) → split_of args ≡ o → Sends args ds o → reply_by_split o (part_replies xs) ≡ Some tree → OneServer meaning keys (run_each (args ∷ [])) (Reply tree ∷ []) keys'
-      by None e s t = whole_told s.0 s.2 xs (subst (λ q. AllDone done q xs) s.1 all) steps.0 steps.1 history tree t
-      by (Some split) e s t = split_told split e ds s xs all steps.0 steps.1 history tree t
+      by : (o : Option Split) → split_of args ≡ o → Sends args ds o → reply_by_split o (part_replies xs) ≡ Some tree → ServedIn meaning (run_each (args ∷ [])) (Reply tree ∷ []) moves
+      by None e s t = whole_told s.0 s.2 xs (subst (λ q. AllDone done q xs) s.1 all) steps.0 steps.1 same tree t
+      by (Some split) e s t = split_told split e ds s xs all steps.0 steps.1 same tree t

@@ -5,12 +5,12 @@ use Rattle.std.specs.List.{AllByRecursion, list_any}
 use Rattle.std.proofs.lemmas.Bool.{false≢true}
 use Rattle.resp_core.specs.Trees.{Tree, nil, ErrorText}
 use Rattle.cluster_routing.specs.Combine.{array_of}
-use Rattle.cluster_routing.specs.Lists.{concat, Pairwise, among, IsDistinct, group_by_group, draw, without_front_of, front, rest}
+use Rattle.cluster_routing.specs.Lists.{Pairwise, among, IsDistinct, group_by_group, draw, without_front_of, front, rest}
 use Rattle.resp_args.specs.Packed.{sent}
 use Rattle.cluster_routing.specs.Address.{Address, same_address}
-use Rattle.cluster_calls.specs.OneServer.Keyspace.{Keyspace, Step, History}
+use Rattle.cluster_calls.specs.OneServer.Keyspace.{Step}
 use Rattle.cluster_calls.specs.Calls.Parts.{Part}
-use Rattle.cluster_calls.specs.OneServer.Meaning.{Meaning, DoCommand, DoAll, OneServer}
+use Rattle.cluster_calls.specs.OneServer.Meaning.{Meaning, DoCommand, DoAll}
 use Rattle.cluster_calls.specs.Links.Log.{Exchange, requests, is_answered, is_unanswered, is_data_reply}
 use Rattle.cluster_calls.specs.Links.Request.{Request}
 use Rattle.cluster_calls.specs.Calls.Plan.{Client, Dispatch, dispatches}
@@ -24,9 +24,9 @@ use Rattle.cluster_calls.specs.Calls.Answer.{Value, unless, answer_of}
 use Rattle.cluster_calls.specs.Calls.Replies.{args_slot, pipeline_reply, not_ignored, exchange_slot, with_slot, in_pipeline_order, reply_or_nil}
 use Rattle.cluster_calls.specs.Calls.Refusals.{pipeline_refusal, errors_from, with_error}
 use Rattle.resp_core.specs.Parts.{first_error}
-use Rattle.cluster_calls.specs.OneServer.Honest.{Honest, Accounts, IsDoneBy, is_counted}
+use Rattle.cluster_calls.specs.OneServer.Honest.{Accounts, IsDoneBy, is_counted}
 use Rattle.cluster_calls.specs.OneServer.Operations.{Reply, run_each}
-use Rattle.cluster_calls.proofs.ServerLaws.Histories.{history_same_slots}
+use Rattle.cluster_calls.proofs.ServerLaws.Pieces.{pieces, SamePieces, HonestIn, ServedIn, pieces_at}
 use Rattle.cluster_calls.proofs.ServerLaws.Regroup.{filter-group_by_group}
 use Rattle.cluster_calls.proofs.ServerLaws.Distinct.{firsts_distinct, among-firsts}
 use Rattle.cluster_calls.proofs.ServerLaws.Draw.{draw_each, drawn_same, draw-map, pairwise-nil}
@@ -36,7 +36,7 @@ use Rattle.cluster_calls.proofs.LogLaws.Plans.{IsFor, dispatches_for, or_right}
 use Rattle.cluster_calls.proofs.ServerLaws.PartCall.{filter_all, reply_is}
 use Rattle.cluster_calls.proofs.ServerLaws.Calls.{CallServed, nothing_done}
 use Rattle.cluster_routing.proofs.Recut.{all-filter}
-use Rattle.cluster_calls.proofs.ServerLaws.Grouping.{all-append, filter-same, filter-const, filter-map, pairwise-filter, pairwise-join, drawn_skip, steps_on_slot}
+use Rattle.cluster_calls.proofs.ServerLaws.Grouping.{all-append, filter-same, filter-const, filter-map, pairwise-filter, pairwise-join, drawn_skip}
 use Rattle.cluster_calls.proofs.LogLaws.PipePlans.{IsOneSlot, IsWholePart, pipeline_parts_are, primary_of, pipeline_nodes}
 
 -- ---- the nodes that were reached
@@ -243,16 +243,15 @@ module _ (client : Client) (meaning : Meaning) (done : ℕ → Bool) (Q : Exchan
       none : (d : Dispatch) → among same_address (primary_of client (args_slot d.args)) first ≡ false → queue (args_slot d.args) ≡ []
       none d e = pairwise-nil (Matches meaning done Q) (queue (args_slot d.args)) (subst (λ q. Pairwise (Matches meaning done Q) q (queue (args_slot d.args))) (sent_at (args_slot d.args) ∙ ap (λ b. cond b (filter (λ (u : Dispatch). (args_slot d.args) == (args_slot u.args)) ds) []) e) (slotwise (args_slot d.args)))
 
-  -- and account for the same history
-  honest_order : (keys keys' : Keyspace) → History keys (concat (map (λ (z : Exchange × List Step). z.1) zs)) keys' → Honest meaning keys done (map (λ (z : Exchange × List Step). z.0) ws) keys'
+  -- and account for the same pieces
+  honest_order : (moves : List (List Step)) → SamePieces (map (λ (z : Exchange × List Step). z.1) zs) moves → HonestIn meaning done (map (λ (z : Exchange × List Step). z.0) ws) moves
   unfolding queue
-  honest_order keys keys' c = (
+  honest_order moves c = (
     map (λ (z : Exchange × List Step). z.1) ws,
     accounts_of meaning done Q going ws in_order.0,
-    history_same_slots (concat (map (λ (z : Exchange × List Step). z.1) zs)) (concat (map (λ (z : Exchange × List Step). z.1) ws)) keys keys'
-        (λ s. steps_on_slot (λ (z : Exchange × List Step). exchange_slot z.0) (λ (z : Exchange × List Step). z.1) zs (steps_on meaning done Q _ zs pairs) s
-        ∙ ap (λ q. concat (map (λ (z : Exchange × List Step). z.1) q)) (sym (in_order.1 s))
-        ∙ sym (steps_on_slot (λ (z : Exchange × List Step). exchange_slot z.0) (λ (z : Exchange × List Step). z.1) ws (steps_on meaning done Q going ws in_order.0) s)) c,
+    λ s. pieces_at (λ (z : Exchange × List Step). exchange_slot z.0) (λ (z : Exchange × List Step). z.1) s ws (steps_on meaning done Q going ws in_order.0)
+        ∙ ap (λ q. pieces s (map (λ (z : Exchange × List Step). z.1) q)) (in_order.1 s)
+        ∙ sym (pieces_at (λ (z : Exchange × List Step). exchange_slot z.0) (λ (z : Exchange × List Step). z.1) s zs (steps_on meaning done Q _ zs pairs)) ∙ c s,
   )
 
 -- ---- the call
@@ -287,17 +286,17 @@ dispatch_facts client (e ∷ es) (p ∷ ps) (d ∷ ds) w f n =
     ((record { slot = refl; one = subst IsOneSlot (sym args) w.0.one; node = n.0 }, r.0), (record { args = args; slot = ap args_slot args }, r.1))
 
 -- the log in pipeline order
-record InOrder (meaning : Meaning) (done : ℕ → Bool) (Q : Exchange → Type 0) (entries : List Entry) (going : List Dispatch) (keys keys' : Keyspace) (xs : List Exchange) : Type 0 where
-  honest : Honest meaning keys done (in_pipeline_order entries xs) keys'
+record InOrder (meaning : Meaning) (done : ℕ → Bool) (Q : Exchange → Type 0) (entries : List Entry) (going : List Dispatch) (moves : List (List Step)) (xs : List Exchange) : Type 0 where
+  honest : HonestIn meaning done (in_pipeline_order entries xs) moves
   args : map (λ (x : Exchange). x.request.args) (in_pipeline_order entries xs) ≡ map (λ (d : Dispatch). d.args) going
   facts : AllByRecursion Q (in_pipeline_order entries xs)
 
 log_in_order : (client : Client) (meaning : Meaning) (done : ℕ → Bool) (Q : Exchange → Type 0) (entries : List Entry) (ds : List Dispatch) → AllByRecursion (IsPipeDispatch client) ds → Pairwise IsEntryDispatch entries ds
     → (first : List Address) → IsDistinct same_address first → (xs : List Exchange) → Pairwise IsSent (group_by_group same_address (λ (d : Dispatch). d.node) first ds) xs → AllByRecursion Q xs
-    → (keys keys' : Keyspace) → Honest meaning keys done xs keys'
-    → InOrder meaning done Q entries (filter (λ (d : Dispatch). among same_address (primary_of client (args_slot d.args)) first) ds) keys keys' xs
+    → (moves : List (List Step)) → HonestIn meaning done xs moves
+    → InOrder meaning done Q entries (filter (λ (d : Dispatch). among same_address (primary_of client (args_slot d.args)) first) ds) moves xs
 unfolding going
-log_in_order client meaning done Q entries ds facts for_each first distinct xs pairs all keys keys' honest =
+log_in_order client meaning done Q entries ds facts for_each first distinct xs pairs all moves honest =
     let z = zipped (Accounts meaning done) xs honest.0 honest.1 in
     let grouped_facts = all_grouped first in
     let m = matched client meaning done Q (group_by_group same_address (λ (d : Dispatch). d.node) first ds) z.0 grouped_facts (subst (Pairwise IsSent (group_by_group same_address (λ (d : Dispatch). d.node) first ds)) (sym z.1) pairs) z.3 (subst (AllByRecursion Q) (sym z.1) all) in
@@ -305,9 +304,9 @@ log_in_order client meaning done Q entries ds facts for_each first distinct xs p
     let s = going client meaning done Q entries ds facts for_each first distinct z.0 m in
     let order : map (λ (z : Exchange × List Step). z.0) w ≡ in_pipeline_order entries xs = order_is client meaning done Q entries ds facts for_each first distinct z.0 m ∙ ap (in_pipeline_order entries) z.1 in
     let f = facts_of meaning done Q s w (in_order client meaning done Q entries ds facts for_each first distinct z.0 m).0 in
-    let h = honest_order client meaning done Q entries ds facts for_each first distinct z.0 m keys keys' (subst (λ q. History keys (concat q) keys') (sym z.2) honest.2) in
+    let h = honest_order client meaning done Q entries ds facts for_each first distinct z.0 m moves (subst (λ q. SamePieces q moves) (sym z.2) honest.2) in
     record {
-      honest = subst (λ q. Honest meaning keys done q keys') order h;
+      honest = subst (λ q. HonestIn meaning done q moves) order h;
       args = subst (λ q. map (λ (x : Exchange). x.request.args) q ≡ map (λ (d : Dispatch). d.args) s) order f.0;
       facts = subst (AllByRecursion Q) order f.1;
     }
@@ -361,33 +360,33 @@ all_counted : (done : ℕ → Bool) (xs : List Exchange) → AllByRecursion (λ 
 all_counted done [] h = tt
 all_counted done (x ∷ xs) h = (counted_answer done x h.0, all_counted done xs h.1)
 
-pub pipeline_served : (client : Client) (faults : Address → LinkFault) (meaning : Meaning) (keys keys' : Keyspace) (done : ℕ → Bool) (picks : List Address) (entries : List Entry) (xs : List Exchange) → GapsNameNoKey
-    → IsLegalCall client picks (Pipeline entries) xs → Honest meaning keys done xs keys' → CallServed meaning keys done (Pipeline entries) (answer_of client picks faults (Pipeline entries) xs) xs keys'
-pipeline_served client faults meaning keys keys' done picks entries xs gaps legal honest = at_parts (pipeline_parts 0 entries) refl legal
+pub pipeline_served : (client : Client) (faults : Address → LinkFault) (meaning : Meaning) (moves : List (List Step)) (done : ℕ → Bool) (picks : List Address) (entries : List Entry) (xs : List Exchange) → GapsNameNoKey
+    → IsLegalCall client picks (Pipeline entries) xs → HonestIn meaning done xs moves → CallServed meaning done (Pipeline entries) (answer_of client picks faults (Pipeline entries) xs) xs moves
+pipeline_served client faults meaning moves done picks entries xs gaps legal honest = at_parts (pipeline_parts 0 entries) refl legal
   where
     Served : Result (List Dispatch) Refusal → Option Refusal → Type 0
-    Served o s = CallServed meaning keys done (Pipeline entries) (result_then o (λ ds. unless s (Ok (Value (pipeline_reply entries xs))))) xs keys'
+    Served o s = CallServed meaning done (Pipeline entries) (result_then o (λ ds. unless s (Ok (Value (pipeline_reply entries xs))))) xs moves
 
     unsent : xs ≡ [] → (r : Refusal) (s : Option Refusal) → Served (Err r) s
     unsent e r s =
         let nothing : in_pipeline_order entries xs ≡ [] = ap (in_pipeline_order entries) e ∙ drawn_none (map (λ (x : Entry). args_slot (sent x.command)) entries) (λ slot. with_slot slot []) (λ n. refl) in
         record {
           responses = [];
-          served = subst (λ q. OneServer meaning keys (run_each (map (λ (x : Exchange). x.request.args) (filter (is_counted done) q))) [] keys') (sym nothing) ([], tt, nothing_done meaning keys keys' done (subst (λ q. Honest meaning keys done q keys') e honest));
+          served = subst (λ q. ServedIn meaning (run_each (map (λ (x : Exchange). x.request.args) (filter (is_counted done) q))) [] moves) (sym nothing) ([], tt, nothing_done meaning moves done (subst (λ q. HonestIn meaning done q moves) e honest));
           answer_is = tt;
         }
 
     at_refusal : (ds : List Dispatch) → AllByRecursion (IsPipeDispatch client) ds × Pairwise IsEntryDispatch entries ds → Reached ds (nodes_in_use ds) xs → (s : Option Refusal) → pipeline_refusal faults xs (errors_from 0 (in_pipeline_order entries xs)) ≡ s → Served (Ok ds) s
     at_refusal ds f r (Some refusal) e =
         let distinct = distinct-front same_address r.first r.later (subst (IsDistinct same_address) r.all (firsts_distinct same_address (map (λ (d : Dispatch). d.node) ds))) in
-        let o = log_in_order client meaning done (λ x. Unit {0}) entries ds f.0 f.1 r.first distinct xs r.pairs (all_true xs) keys keys' honest in
+        let o = log_in_order client meaning done (λ x. Unit {0}) entries ds f.0 f.1 r.first distinct xs r.pairs (all_true xs) moves honest in
         let c = counted_steps meaning done (in_pipeline_order entries xs) o.honest.0 o.honest.1 in
         let t = counted_trees meaning (filter (is_counted done) (in_pipeline_order entries xs)) c.0 c.1 in
-        record { responses = map Reply t.0; served = (c.0, t.1, subst (λ q. History keys q keys') (sym c.2) o.honest.2); answer_is = tt }
+        record { responses = map Reply t.0; served = (c.0, t.1, λ slot. c.2 slot ∙ o.honest.2 slot); answer_is = tt }
     at_refusal ds f r None e =
         let fine = fine_pipeline faults xs (errors_from 0 (in_pipeline_order entries xs)) e in
         let distinct = distinct-front same_address r.first r.later (subst (IsDistinct same_address) r.all (firsts_distinct same_address (map (λ (d : Dispatch). d.node) ds))) in
-        let o = log_in_order client meaning done (λ x. is_unanswered x ≡ false) entries ds f.0 f.1 r.first distinct xs r.pairs fine.2 keys keys' honest in
+        let o = log_in_order client meaning done (λ x. is_unanswered x ≡ false) entries ds f.0 f.1 r.first distinct xs r.pairs fine.2 moves honest in
         let ys = in_pipeline_order entries xs in
         let answered = no_errors_answered 0 ys fine.1 o.facts in
         let whole : filter (is_counted done) ys ≡ ys = filter_all (is_counted done) ys (all_counted done ys answered) in
@@ -400,7 +399,7 @@ pipeline_served client faults meaning keys keys' done picks entries xs gaps lega
         let args : map (λ (x : Exchange). x.request.args) ys ≡ map (λ (x : Entry). sent x.command) entries = o.args ∙ ap (map (λ (d : Dispatch). d.args)) sent_all ∙ entry_args entries ds f.1 in
         record {
           responses = map Reply t.0;
-          served = subst (λ q. OneServer meaning keys (run_each q) (map Reply t.0) keys') args (c.0, t.1, subst (λ q. History keys q keys') (sym c.2) o.honest.2);
+          served = subst (λ q. ServedIn meaning (run_each q) (map Reply t.0) moves) args (c.0, t.1, λ slot. c.2 slot ∙ o.honest.2 slot);
           answer_is = (t.0, refl, ap (λ q. Value (array_of (not_ignored entries q))) (t.2 answered));
         }
 

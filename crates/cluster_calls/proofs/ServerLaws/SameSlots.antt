@@ -8,7 +8,7 @@ without_first : ℕ → List Step → List Step
 without_first k [] = []
 without_first k (y ∷ ys) = cond (k == y.slot) ys (y ∷ without_first k ys)
 
-nothing_left : (ys : List Step) → ((s : ℕ) → on_slot s ys ≡ []) → ys ≡ []
+pub nothing_left : (ys : List Step) → ((s : ℕ) → on_slot s ys ≡ []) → ys ≡ []
 nothing_left [] h = refl
 nothing_left (y ∷ ys) h = let e : y ∷ on_slot y.slot ys ≡ [] = subst (λ b. cond b (y ∷ on_slot y.slot ys) (on_slot y.slot ys) ≡ []) (eq-eqb y.slot y.slot refl) (h y.slot) in cc
 

@@ -1,21 +1,21 @@
 -- A split call is as good as its command on one server.
-use Rattle.std.proofs.Common.{◌≡◌, ℕ, Bool, ◌==◌, nat_eq, List, [], ◌∷◌, map, filter, Some, refl, sym, ap, ◌∙◌, subst, append-nil, MatchOption, Contains, eqb-true}
+use Rattle.std.proofs.Common.{◌≡◌, ℕ, Bool, ◌==◌, nat_eq, List, [], ◌∷◌, map, filter, Some, refl, sym, ap, ◌∙◌, subst, MatchOption, Contains, eqb-true}
 use Rattle.std.specs.List.{AllByRecursion}
 use Rattle.resp_core.specs.Trees.{Tree}
 use Rattle.cluster_routing.specs.Lists.{concat, among, IsDistinct, Pairwise, draw}
 use Rattle.cluster_routing.specs.Parts.{Tuple, tuple_slot}
 use Rattle.cluster_routing.specs.Split.{Split, split_of, part_tuples, sub, join_split}
 use Rattle.cluster_calls.specs.Calls.Replies.{slot_by, args_slot, exchange_slot}
-use Rattle.cluster_calls.specs.OneServer.Keyspace.{Keyspace, Step, History, on_slot}
-use Rattle.cluster_calls.specs.OneServer.Meaning.{Meaning, DoesTuple, IsWholeStep, AreAllowed, DoCommand, OneServer, tree_of_steps, step_trees}
+use Rattle.cluster_calls.specs.OneServer.Keyspace.{Step, on_slot}
+use Rattle.cluster_calls.specs.OneServer.Meaning.{Meaning, DoesTuple, IsWholeStep, AreAllowed, DoCommand, tree_of_steps, step_trees}
 use Rattle.cluster_calls.specs.OneServer.Operations.{Response, Reply, run_each}
 use Rattle.cluster_calls.specs.Links.Log.{Exchange}
 use Rattle.cluster_calls.specs.Calls.Plan.{Dispatch}
 use Rattle.cluster_calls.specs.OneServer.Honest.{IsDoneBy}
 use Rattle.cluster_calls.specs.OneServer.Commands.{split_with}
 use Rattle.cluster_routing.proofs.Recut.{split_of_some}
-use Rattle.cluster_calls.proofs.ServerLaws.Histories.{history_same_slots}
-use Rattle.cluster_calls.proofs.ServerLaws.Splits.{DoesAllowed, pairwise-zip, pairwise-left, filter-head, in_argument_order}
+use Rattle.cluster_calls.proofs.ServerLaws.Pieces.{with_some, SamePieces, ServedIn, one_piece}
+use Rattle.cluster_calls.proofs.ServerLaws.Splits.{DoesAllowed, pairwise-zip, pairwise-left, filter-head, part_on_slot, in_argument_order}
 
 -- the dispatch sends a part of the split command
 pub record IsDispatchOf (split : Split) (d : Dispatch) : Type 0 where
@@ -66,19 +66,27 @@ module _ (meaning : Meaning) (args : List (List ℕ)) (split : Split) (is_split 
       let r = parts_done_steps ds w.1 xs p.1 sts h.1 in
       record { steps = (here.steps, r.steps); slots = ap (λ n. n ∷ map exchange_slot xs) here.slot_is ∙ ap (λ ns. (args_slot d.args) ∷ ns) r.slots }
 
+  -- each part's steps are on its slot
+  parts_on : (slots : List ℕ) (sts : List (List Step)) → Pairwise (λ k st. Pairwise (DoesAllowed meaning split.splitting.policy split.word split.shared) (part_tuples k split.tuples) st) slots sts
+      → Pairwise (λ k st. AllByRecursion (λ (x : Step). x.slot ≡ k) st) slots sts
+  parts_on [] [] h = tt
+  parts_on [] (st ∷ sts) h = absurd h
+  parts_on (k ∷ ks) [] h = absurd h
+  parts_on (k ∷ ks) (st ∷ sts) h = (part_on_slot meaning split.splitting.policy split.word split.shared k split.tuples st h.0, parts_on ks sts h.1)
+
   -- the counted parts on one server: the same word with their tuples in argument order
-  pub record Regrouped (keys keys' : Keyspace) (us : List Tuple) (sts : List (List Step)) : Type 0 where
+  pub record Regrouped (moves : List (List Step)) (us : List Tuple) (sts : List (List Step)) : Type 0 where
     pub steps : List Step
     pub does : Pairwise (DoesTuple split.splitting.policy split.word split.shared) us steps
     pub allowed : AreAllowed meaning steps
-    pub history : History keys steps keys'
     pub drawn_from : steps ≡ draw (map tuple_slot us) (λ s. on_slot s (concat sts))
     pub same : (s : ℕ) → on_slot s steps ≡ on_slot s (concat sts)
+    pub pieces_are : SamePieces (steps ∷ []) moves
 
-  pub regrouped : (keys keys' : Keyspace) (ds : List Dispatch) (xs : List Exchange) (sts : List (List Step)) → IsDistinct nat_eq (map (λ (d : Dispatch). (args_slot d.args)) ds) → PartsDone ds xs sts → History keys (concat sts) keys'
-      → Regrouped keys keys' (filter (λ t. among nat_eq (tuple_slot t) (map exchange_slot xs)) split.tuples) sts
-  regrouped keys keys' ds xs sts distinct h c =
-      subst (λ slots. Regrouped keys keys' (filter (λ t. among nat_eq (tuple_slot t) slots) split.tuples) sts) (sym h.slots)
+  pub regrouped : (moves : List (List Step)) (ds : List Dispatch) (xs : List Exchange) (sts : List (List Step)) → IsDistinct nat_eq (map (λ (d : Dispatch). (args_slot d.args)) ds) → PartsDone ds xs sts → SamePieces sts moves
+      → Regrouped moves (filter (λ t. among nat_eq (tuple_slot t) (map exchange_slot xs)) split.tuples) sts
+  regrouped moves ds xs sts distinct h c =
+      subst (λ slots. Regrouped moves (filter (λ t. among nat_eq (tuple_slot t) slots) split.tuples) sts) (sym h.slots)
       (let slots = map (λ (d : Dispatch). (args_slot d.args)) ds in
       let r = in_argument_order meaning split.splitting.policy split.word split.shared split.tuples slots sts distinct h.steps in
       let us = filter (λ t. among nat_eq (tuple_slot t) slots) split.tuples in
@@ -90,7 +98,7 @@ module _ (meaning : Meaning) (args : List (List ℕ)) (split : Split) (is_split 
         allowed = both.1;
         drawn_from = refl;
         same = r.1;
-        history = history_same_slots (concat sts) steps keys keys' (λ s. sym (r.1 s)) c;
+        pieces_are = λ s. ap (λ q. with_some q []) (r.1 s) ∙ sym (one_piece slots sts distinct (parts_on slots sts h.steps) s) ∙ c s;
       })
 
   -- a split command with some of the tuples, done by these steps
@@ -102,13 +110,13 @@ module _ (meaning : Meaning) (args : List (List ℕ)) (split : Split) (is_split 
       subst (λ o. MatchOption o ((s : Step) × (steps ≡ s ∷ []) × IsWholeStep args' s tree) (λ sp. Pairwise (DoesTuple sp.splitting.policy sp.word sp.shared) sp.tuples steps × (tree ≡ tree_of_steps (sp.splitting.policy) (step_trees steps))))
       (sym (split_of_some args split is_split q t ts e)) (h, refl)
 
-  pub kept_served : (keys keys' : Keyspace) (q : Tuple → Bool) (sts : List (List Step)) → Regrouped keys keys' (filter q split.tuples) sts
-      → (responses : List Response) × OneServer meaning keys (run_each (split_with split (filter q split.tuples))) responses keys'
-  kept_served keys keys' q sts r = by (filter q split.tuples) refl r
+  pub kept_served : (moves : List (List Step)) (q : Tuple → Bool) (sts : List (List Step)) → Regrouped moves (filter q split.tuples) sts
+      → (responses : List Response) × ServedIn meaning (run_each (split_with split (filter q split.tuples))) responses moves
+  kept_served moves q sts r = by (filter q split.tuples) refl r
     where
-      by : (us : List Tuple) → filter q split.tuples ≡ us → Regrouped keys keys' us sts → (responses : List Response) × OneServer meaning keys (run_each (split_with split us)) responses keys'
-      by [] e r = ([], ([], tt, subst (λ s. History keys s keys') r.drawn_from r.history))
+      by : (us : List Tuple) → filter q split.tuples ≡ us → Regrouped moves us sts → (responses : List Response) × ServedIn meaning (run_each (split_with split us)) responses moves
+      by [] e r = ([], ([], tt, subst (λ q. SamePieces (q ∷ []) moves) r.drawn_from r.pieces_are))
       by (t ∷ ts) e r = (
         Reply (tree_of_steps (split.splitting.policy) (step_trees r.steps)) ∷ [],
-        (r.steps ∷ [], (((tree_of_steps (split.splitting.policy) (step_trees r.steps), refl, does_some (t ∷ ts) q t ts e r.steps r.does), r.allowed), tt), subst (λ s. History keys s keys') (sym (append-nil r.steps)) r.history),
+        (r.steps ∷ [], (((tree_of_steps (split.splitting.policy) (step_trees r.steps), refl, does_some (t ∷ ts) q t ts e r.steps r.does), r.allowed), tt), r.pieces_are),
       )

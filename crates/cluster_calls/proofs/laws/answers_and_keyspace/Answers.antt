@@ -1,5 +1,5 @@
 use Rattle.cluster_calls.proofs.LogLaws.Gaps.{every_gap_names_no_key}
-use Rattle.cluster_calls.proofs.ServerLaws.Runs.{run_served}
+use Rattle.cluster_calls.proofs.ServerLaws.Alone.{run_served}
 use Rattle.cluster_calls.proofs.laws.answers_and_keyspace.Goals as goal
 
 pub returns : goal.returns

@@ -3,7 +3,7 @@ use Rattle.cluster_calls.specs.Links.Happened.{client_of}
 use Rattle.cluster_calls.specs.OneServer.Headline.{with_replies}
 use Rattle.cluster_calls.specs.OneServer.OneCall.{run_of_one}
 use Rattle.cluster_calls.proofs.LogLaws.Gaps.{every_gap_names_no_key}
-use Rattle.cluster_calls.proofs.ServerLaws.Runs.{run_served}
+use Rattle.cluster_calls.proofs.ServerLaws.Alone.{run_served}
 use Rattle.cluster_calls.proofs.laws.one_call_as_on_one_server.Goals as goal
 
 pub returns : goal.returns

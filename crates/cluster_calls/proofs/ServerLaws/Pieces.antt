@@ -1,0 +1,90 @@
+-- Lists of steps slot by slot, each list's steps together: what a request does on one slot stays unparted.
+use Rattle.std.proofs.Common.{◌≡◌, ℕ, Bool, true, false, cond, ◌||◌, ◌==◌, nat_eq, List, [], ◌∷◌, ◌++◌, map, filter, refl, sym, ap, ◌∙◌, append-nil, eqb-true}
+use Rattle.std.specs.List.{AllByRecursion}
+use Rattle.std.proofs.lemmas.Bool.{false≢true}
+use Rattle.std.proofs.lemmas.List.Elements.{filter-append}
+use Rattle.cluster_routing.specs.Lists.{concat, among, IsDistinct, Pairwise}
+use Rattle.cluster_calls.specs.Links.Log.{Exchange}
+use Rattle.cluster_calls.specs.OneServer.Honest.{Accounts}
+use Rattle.cluster_calls.specs.OneServer.Keyspace.{Step, on_slot}
+use Rattle.cluster_calls.specs.OneServer.Meaning.{Meaning, DoAll}
+use Rattle.cluster_calls.specs.OneServer.Operations.{Operation, Response}
+use Rattle.cluster_calls.proofs.ServerLaws.Splits.{on_one_slot}
+
+-- a list in front, unless it is empty
+abbrev pub with_some : {X : Type 0} → List X → List (List X) → List (List X)
+with_some [] xss = xss
+with_some (x ∷ xs) xss = (x ∷ xs) ∷ xss
+
+-- of each list its steps on the slot, where it has any
+abbrev pub pieces : ℕ → List (List Step) → List (List Step)
+pieces slot [] = []
+pieces slot (xs ∷ xss) = with_some (on_slot slot xs) (pieces slot xss)
+
+abbrev pub SamePieces : List (List Step) → List (List Step) → Type 0
+SamePieces xss yss = (slot : ℕ) → pieces slot xss ≡ pieces slot yss
+
+-- steps that account for a log, with these pieces
+abbrev pub HonestIn : Meaning → (ℕ → Bool) → List Exchange → List (List Step) → Type 0
+HonestIn meaning done xs moves = (steps : List (List Step)) × Pairwise (Accounts meaning done) xs steps × SamePieces steps moves
+
+-- one server that is given the operations may respond so, by steps with these pieces
+abbrev pub ServedIn : Meaning → List Operation → List Response → List (List Step) → Type 0
+ServedIn meaning operations responses moves = (steps : List (List Step)) × DoAll meaning operations steps responses × SamePieces steps moves
+
+concat_some : {X : Type 0} (xs : List X) (xss : List (List X)) → concat (with_some xs xss) ≡ xs ++ concat xss
+concat_some [] xss = refl
+concat_some (x ∷ xs) xss = refl
+
+pub concat_pieces : (slot : ℕ) (xss : List (List Step)) → concat (pieces slot xss) ≡ on_slot slot (concat xss)
+concat_pieces slot [] = refl
+concat_pieces slot (xs ∷ xss) =
+    concat_some (on_slot slot xs) (pieces slot xss) ∙ ap (λ q. on_slot slot xs ++ q) (concat_pieces slot xss) ∙ sym (filter-append (λ (x : Step). slot == x.slot) xs (concat xss))
+
+-- lists with the same pieces have the same steps on each slot
+pub same_on_slot : (xss yss : List (List Step)) → SamePieces xss yss → (slot : ℕ) → on_slot slot (concat xss) ≡ on_slot slot (concat yss)
+same_on_slot xss yss same slot = sym (concat_pieces slot xss) ∙ ap concat (same slot) ∙ concat_pieces slot yss
+
+-- lists that are each on a slot of their own have one piece at each
+pub one_piece : (slots : List ℕ) (sts : List (List Step)) → IsDistinct nat_eq slots → Pairwise (λ k st. AllByRecursion (λ (x : Step). x.slot ≡ k) st) slots sts
+    → (s : ℕ) → pieces s sts ≡ with_some (on_slot s (concat sts)) []
+one_piece [] [] d h s = refl
+one_piece [] (st ∷ sts) d h s = absurd h
+one_piece (k ∷ ks) [] d h s = absurd h
+one_piece (k ∷ ks) (st ∷ sts) d h s =
+    ap (λ q. with_some q (pieces s sts)) own
+    ∙ by (nat_eq s k) refl (none ks sts d.1 h.1) (one_piece ks sts d.1 h.1 s)
+    ∙ sym (ap (λ q. with_some q []) (filter-append (λ (x : Step). s == x.slot) st (concat sts) ∙ ap (λ q. q ++ on_slot s (concat sts)) own))
+  where
+    own : on_slot s st ≡ cond (s == k) st []
+    own = on_one_slot s k st h.0
+
+    none : (js : List ℕ) (qs : List (List Step)) → IsDistinct nat_eq js → Pairwise (λ j st. AllByRecursion (λ (x : Step). x.slot ≡ j) st) js qs → among nat_eq s js ≡ false → on_slot s (concat qs) ≡ []
+    none [] [] d h n = refl
+    none [] (q ∷ qs) d h n = absurd h
+    none (j ∷ js) [] d h n = absurd h
+    none (j ∷ js) (q ∷ qs) d h n =
+        filter-append (λ (x : Step). s == x.slot) q (concat qs) ∙ ap (λ r. r ++ on_slot s (concat qs)) (on_one_slot s j q h.0) ∙ at (nat_eq s j) n (λ m. none js qs d.1 h.1 m)
+      where
+        at : (b : Bool) → (b || among nat_eq s js) ≡ false → (among nat_eq s js ≡ false → on_slot s (concat qs) ≡ []) → cond b q [] ++ on_slot s (concat qs) ≡ []
+        at true m ih = absurd (false≢true (sym m))
+        at false m ih = ih m
+
+    by : (b : Bool) → nat_eq s k ≡ b → (among nat_eq s ks ≡ false → on_slot s (concat sts) ≡ []) → pieces s sts ≡ with_some (on_slot s (concat sts)) []
+        → with_some (cond b st []) (pieces s sts) ≡ with_some (cond b st [] ++ on_slot s (concat sts)) []
+    by true e n ih = let z = n (alone e) in ap (λ q. with_some st q) (ih ∙ ap (λ q. with_some q []) z) ∙ ap (λ q. with_some q []) (sym (append-nil st) ∙ ap (λ q. st ++ q) (sym z))
+      where
+        alone : nat_eq s k ≡ true → among nat_eq s ks ≡ false
+        alone f = ap (λ n. among nat_eq n ks) (eqb-true s k f) ∙ d.0
+    by false e n ih = ih
+
+-- where each element's steps are on its slot, the pieces of a slot are those of its elements
+pub pieces_at : {Z : Type 0} (slot : Z → ℕ) (steps : Z → List Step) (s : ℕ) (zs : List Z) → AllByRecursion (λ z. AllByRecursion (λ (x : Step). x.slot ≡ slot z) (steps z)) zs
+    → pieces s (map steps zs) ≡ pieces s (map steps (filter (λ z. s == slot z) zs))
+pieces_at slot steps s [] h = refl
+pieces_at slot steps s (z ∷ zs) h = by (s == slot z) (on_one_slot s (slot z) (steps z) h.0) (pieces_at slot steps s zs h.1)
+  where
+    by : (b : Bool) → on_slot s (steps z) ≡ cond b (steps z) [] → pieces s (map steps zs) ≡ pieces s (map steps (filter (λ z. s == slot z) zs))
+        → with_some (on_slot s (steps z)) (pieces s (map steps zs)) ≡ pieces s (map steps (cond b (z ∷ filter (λ z. s == slot z) zs) (filter (λ z. s == slot z) zs)))
+    by true e ih = ap (λ q. with_some (on_slot s (steps z)) q) ih
+    by false e ih = ap (λ q. with_some q (pieces s (map steps zs))) e ∙ ih
