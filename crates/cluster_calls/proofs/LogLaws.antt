@@ -15,3 +15,6 @@ pub mod RespelledRuns
 pub mod AlikePlays
 pub mod PipesOnce
 pub mod SentListsAre
+pub mod SentNoMore
+pub mod RefreshesOnce
+pub mod RefusedAsKind

@@ -16,3 +16,5 @@ pub mod Bounds
 pub mod RespelledPlays
 pub mod Stretches
 pub mod SentLists
+pub mod Resending
+pub mod RefusedPlays

@@ -14,3 +14,4 @@ pub mod WrongCounts
 pub mod WrongRuns
 pub mod MixedRun
 pub mod WrongPlays
+pub mod SentAgain

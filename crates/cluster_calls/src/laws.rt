@@ -3,9 +3,11 @@ ghost use Rattle.cluster_routing.specs.CombineLaws.{OrderOfParts, OrderOfReplies
 ghost use Rattle.cluster_calls.specs.Links.Leaves.{UnaskedNodesStay};
 ghost use Rattle.cluster_calls.specs.OneServer.Bounds.{CallsAreBounded, PlaysAreBounded};
 ghost use Rattle.cluster_calls.specs.OneServer.Headline.{AnswersAndKeyspace, Refusals};
-ghost use Rattle.cluster_calls.specs.OneServer.Laws.{HistoriesAreBySlot, EachPartIsAnsweredOnce, GapsNameNoKey, NodesKeepHistories, NodesOnceAscending, OneServerIsDetermined, OnlyRedirectsRepeat, PartsKeepHistories, PipelinesSendOnce, RequestsAreBounded, RunsAgree};
+ghost use Rattle.cluster_calls.specs.OneServer.Laws.{HistoriesAreBySlot, EachPartIsAnsweredOnce, GapsNameNoKey, NodesKeepHistories, NodesOnceAscending, OneServerIsDetermined, OnlyRedirectsRepeat, PartsKeepHistories, RequestsAreBounded, RunsAgree};
 ghost use Rattle.cluster_calls.specs.OneServer.OneCall.{OneCallAsOnOneServer, RepliesDetermineLogs};
 ghost use Rattle.cluster_calls.specs.OneServer.Played.{PlayedAsOnOneServer};
+ghost use Rattle.cluster_calls.specs.OneServer.RefusedPlays.{PlaysAreRefused};
+ghost use Rattle.cluster_calls.specs.OneServer.Resending.{NoneIsSentAgain, PartsHaveTheirOwnSlots, PipelinesSendOnce, RefreshesSendOnce};
 ghost use Rattle.cluster_calls.specs.OneServer.RespelledPlays.{RespelledPlays};
 ghost use Rattle.cluster_calls.specs.OneServer.Respelling.{RespelledRuns};
 ghost use Rattle.cluster_calls.specs.OneServer.SentLists.{NoOtherLists};
@@ -78,6 +80,11 @@ pub fn refusals()
     ensures { Refusals }
 {}
 
+/// What `play` ensures makes each of its calls refused exactly where and as its kind says.
+pub fn plays_are_refused()
+    ensures { PlaysAreRefused }
+{}
+
 /// With a meaning that leaves no choice, one server has one outcome.
 pub fn one_server_is_determined()
     ensures { OneServerIsDetermined }
@@ -93,9 +100,25 @@ pub fn only_redirects_repeat()
     ensures { OnlyRedirectsRepeat }
 {}
 
-/// A pipeline sends each of its commands at most once, and all of them where it is answered.
+/// The parts of a command have slots of their own.
+pub fn parts_have_their_own_slots()
+    ensures { PartsHaveTheirOwnSlots }
+{}
+
+/// Behind a request of a command that was not redirected none has its arguments again.
+pub fn none_is_sent_again()
+    ensures { NoneIsSentAgain }
+{}
+
+/// A pipeline sends its commands node by node, each at most once, and all of them where no link
+/// failed.
 pub fn pipelines_send_once()
     ensures { PipelinesSendOnce }
+{}
+
+/// A refresh sends one request, and never again.
+pub fn refreshes_send_once()
+    ensures { RefreshesSendOnce }
 {}
 
 /// A run is a run before any of its calls, and from there on.

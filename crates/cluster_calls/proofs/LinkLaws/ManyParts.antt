@@ -1,6 +1,6 @@
 -- A call of one command, from the run of its parts and the reply that is made of theirs.
 use Rattle.std.specs.Prelude.{filter}
-use Rattle.std.proofs.Common.{◌≡◌, ◌≢◌, ℕ, false, List, [], ◌∷◌, ◌++◌, map, length, Option, Some, None, option_and_then, refl, sym, ap, ◌∙◌, subst, append-nil, Result, Ok, Err}
+use Rattle.std.proofs.Common.{◌≡◌, ◌≢◌, ℕ, false, List, [], ◌∷◌, ◌++◌, map, length, Option, Some, None, option_and_then, refl, sym, ap, ◌∙◌, subst, Result, Ok, Err}
 use Rattle.std.proofs.lemmas.Bool.{false≢true}
 use Rattle.std.proofs.lemmas.List.{length-map}
 use Rattle.resp_core.specs.Trees.{Tree, nil}
@@ -12,10 +12,10 @@ use Rattle.cluster_routing.specs.Address.{Address}
 use Rattle.cluster_routing.specs.Choice.{Strategy}
 use Rattle.cluster_routing.specs.Combine.{PartReply}
 use Rattle.cluster_routing.specs.Policies.{or_bad_reply}
-use Rattle.cluster_calls.specs.Links.Log.{Exchange, requests, is_answered, behind_answers}
+use Rattle.cluster_calls.specs.Links.Log.{Exchange, is_answered, behind_answers}
 use Rattle.cluster_calls.specs.Links.World.{World}
 use Rattle.cluster_calls.specs.Links.Faults.{LinkFault}
-use Rattle.cluster_calls.specs.Links.Events.{log_of, exchanges_of, faults_of}
+use Rattle.cluster_calls.specs.Links.Events.{exchanges_of, faults_of}
 use Rattle.cluster_calls.specs.Links.Happened.{client_of, is_refresh, Happened, CallMade}
 use Rattle.cluster_calls.specs.Links.Run.{with_log}
 use Rattle.cluster_calls.specs.Links.Converted.{value_answer}

@@ -1,11 +1,10 @@
 -- Calls one after another, with their link calls, are a run as a reader sees it.
-use Rattle.std.proofs.Common.{◌≡◌, ◌≢◌, Err, ℕ, ◌+◌, false, List, [], ◌∷◌, ◌++◌, length, refl, sym, ap, ◌∙◌, subst, append_assoc, append-nil, Result, Option}
+use Rattle.std.proofs.Common.{◌≡◌, ℕ, ◌+◌, false, List, [], ◌∷◌, ◌++◌, length, refl, sym, ap, ◌∙◌, subst, append_assoc, append-nil, Result, Option}
 use Rattle.resp_core.specs.Trees.{Tree}
-use Rattle.resp_core.specs.Errors.{Refusal, by_cause}
-use Rattle.resp_core.specs.declared.errors.redis_error.Cause.TheVariants.{Memory}
+use Rattle.resp_core.specs.Errors.{Refusal}
 use Rattle.cluster_routing.specs.Address.{Address}
 use Rattle.cluster_routing.specs.Choice.{Strategy}
-use Rattle.cluster_calls.specs.Links.Request.{Request, requests_to}
+use Rattle.cluster_calls.specs.Links.Request.{requests_to}
 use Rattle.cluster_calls.specs.Links.Log.{exchanges, replies, left_after_all}
 use Rattle.cluster_calls.specs.Links.World.{World}
 use Rattle.cluster_calls.specs.Calls.Call.{Call}
@@ -16,14 +15,14 @@ use Rattle.cluster_calls.specs.Calls.Answer.{Answer, answer_of}
 use Rattle.cluster_calls.specs.Calls.After.{client_after}
 use Rattle.cluster_calls.specs.Links.Events.{Event, Runs, log_of, taken_of, calls_of, exchanges_of, Agrees, faults_of, lack_memory}
 use Rattle.cluster_calls.specs.Links.Nodes.{link_calls}
-use Rattle.cluster_calls.specs.Links.Happened.{client_of, Happened, Answered, CallMade, log_with_replies}
+use Rattle.cluster_calls.specs.Links.Happened.{client_of, CallMade, log_with_replies}
 use Rattle.cluster_calls.specs.OneServer.Headline.{PlayedCall, with_replies_from, IsPlayedFrom}
 use Rattle.cluster_calls.specs.Links.Run.{with_log, IsMovedOut, CallsMade, whole_log, link_calls_to, run_calls, HadMemory, RunPlayed, IsRun}
 use Rattle.cluster_calls.proofs.LinkLaws.Pairing.{exchanges_same, left_same}
 use Rattle.cluster_calls.proofs.LinkLaws.LinkRuns.{Runs-append, pairing, pairing_first, left_first, nodes_made}
 use Rattle.cluster_calls.proofs.LinkLaws.EventLists.{log-append, calls-append, memory-append}
 use Rattle.cluster_calls.proofs.LinkLaws.FaultsAgree.{agrees, Agrees-front, Agrees-back}
-use Rattle.cluster_calls.proofs.LinkLaws.Played.{NodesMade-same, played, client_behind}
+use Rattle.cluster_calls.proofs.LinkLaws.Played.{NodesMade-same, client_behind}
 
 -- ---- calls one after another
 

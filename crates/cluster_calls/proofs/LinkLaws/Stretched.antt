@@ -1,5 +1,5 @@
 -- A run is a run before any of its calls, and from there on.
-use Rattle.std.proofs.Common.{◌≡◌, ◌∙◌, List, [], ◌∷◌, ◌++◌, Option, refl, sym, ap, append_assoc}
+use Rattle.std.proofs.Common.{◌∙◌, List, [], ◌∷◌, ◌++◌, Option, refl, sym, ap, append_assoc}
 use Rattle.cluster_routing.specs.Choice.{Strategy}
 use Rattle.cluster_calls.specs.Links.Events.{Event}
 use Rattle.cluster_calls.specs.Links.Run.{CallsMade}

@@ -1,13 +1,12 @@
 -- T4 (ii) from what `play` ensures, for two plays.
 use Rattle.std.specs.Prelude.{◌||◌}
-use Rattle.std.proofs.Common.{◌≡◌, ℕ, suc, ◌+◌, Bool, true, false, List, [], ◌∷◌, ◌++◌, map, length, Option, Some, Result, refl, sym, ap, ◌∙◌, subst, arith}
+use Rattle.std.proofs.Common.{◌≡◌, ℕ, suc, ◌+◌, Bool, false, List, [], ◌∷◌, ◌++◌, map, length, Option, Result, refl, sym, ap, ◌∙◌, subst, arith}
 use Rattle.std.specs.Io.KnownBytes.{Appends}
 use Rattle.resp_core.specs.Errors.{Refusal}
 use Rattle.resp_core.specs.Trees.{Tree}
 use Rattle.cluster_routing.specs.Address.{Address}
 use Rattle.cluster_routing.specs.Choice.{Strategy}
 use Rattle.cluster_routing.specs.Lists.{concat}
-use Rattle.resp_link.specs.Call.{Seen}
 use Rattle.cluster_calls.specs.Calls.Answer.{Answer}
 use Rattle.cluster_calls.specs.Calls.Call.{Call}
 use Rattle.cluster_calls.specs.Calls.Task.{task_of}
@@ -19,7 +18,7 @@ use Rattle.cluster_calls.specs.Links.Nodes.{NodesMade, IsSentFor, link_calls}
 use Rattle.cluster_calls.specs.Links.Play.{Plays, Shown, shown_of}
 use Rattle.cluster_calls.specs.Links.Request.{Request, bytes_of, requests_to}
 use Rattle.cluster_calls.specs.Links.Run.{HadMemory, whole_log, link_calls_to, run_calls}
-use Rattle.cluster_calls.specs.Links.World.{Node, World, link_at}
+use Rattle.cluster_calls.specs.Links.World.{Node, World}
 use Rattle.cluster_calls.specs.OneServer.Headline.{PlayedCall, with_replies, IsPlayedFrom}
 use Rattle.cluster_calls.specs.OneServer.Respelling.{respelling, respellings, SayTheSame}
 use Rattle.cluster_calls.specs.OneServer.RespelledPlays.{SendsTo}

@@ -1,10 +1,9 @@
 -- The bound on the requests of a call, from what it promises.
-use Rattle.std.proofs.Common.{◌≡◌, ℕ, ◌+◌, ◌≤◌, Bool, List, [], ◌∷◌, ◌++◌, length, length-append, Option, Result, Ok, Err, MatchResult, refl, sym, ap, ◌∙◌, subst, arith}
+use Rattle.std.proofs.Common.{◌≡◌, ◌+◌, ◌≤◌, List, [], ◌∷◌, ◌++◌, length, length-append, Option, Result, Ok, Err, MatchResult, refl, sym, ap, ◌∙◌, subst, arith}
 use Rattle.std.proofs.lemmas.List.{length-map}
 use Rattle.resp_core.specs.Errors.{Refusal}
-use Rattle.cluster_routing.specs.Address.{Address}
 use Rattle.cluster_routing.specs.Choice.{Strategy}
-use Rattle.cluster_calls.specs.Links.Events.{Event, log_of, exchanges_of}
+use Rattle.cluster_calls.specs.Links.Events.{Event, exchanges_of}
 use Rattle.cluster_calls.specs.Links.Happened.{client_of, CallMade}
 use Rattle.cluster_calls.specs.Links.Log.{Exchange}
 use Rattle.cluster_calls.specs.Links.Request.{Request}
@@ -13,7 +12,7 @@ use Rattle.cluster_calls.specs.Links.World.{World}
 use Rattle.cluster_calls.specs.Calls.Answer.{Answer}
 use Rattle.cluster_calls.specs.Calls.Call.{Call}
 use Rattle.cluster_calls.specs.Calls.Legal.{AreMade}
-use Rattle.cluster_calls.specs.Calls.Plan.{Client, Dispatch, plan}
+use Rattle.cluster_calls.specs.Calls.Plan.{Dispatch, plan}
 use Rattle.cluster_calls.specs.Calls.Task.{task_of}
 use Rattle.cluster_calls.specs.OneServer.Bounds.{planned_bound, call_bound, AreBounded}
 use Rattle.cluster_calls.specs.OneServer.Headline.{PlayedCall}

@@ -1,5 +1,5 @@
 -- The law `RunsAgree` with calls that are the same but for the order of their parts and the number.
-use Rattle.std.proofs.Common.{◌≡◌, ℕ, Bool, true, List, [], ◌∷◌, ◌++◌, map, length, Ok, refl, sym, ap, ◌∙◌, subst}
+use Rattle.std.proofs.Common.{◌≡◌, ℕ, Bool, List, [], ◌∷◌, ◌++◌, map, length, refl, sym, ap, ◌∙◌, subst}
 use Rattle.std.specs.Prelude.{Option}
 use Rattle.std.specs.List.{AllByRecursion}
 use Rattle.cluster_routing.specs.Choice.{Strategy}
@@ -14,7 +14,7 @@ use Rattle.cluster_calls.specs.OneServer.Keyspace.{Keyspace}
 use Rattle.cluster_calls.specs.OneServer.Meaning.{Meaning, OneServer}
 use Rattle.cluster_calls.specs.OneServer.Honest.{HonestRun}
 use Rattle.cluster_calls.specs.OneServer.Commands.{is_on_slots, operations, counting, IsTaskAnswer, IsAnswerBy}
-use Rattle.cluster_calls.specs.OneServer.Operations.{Operation, Response}
+use Rattle.cluster_calls.specs.OneServer.Operations.{Response}
 use Rattle.cluster_calls.specs.OneServer.Headline.{RepliedCall, IsPlayedFrom, command_logs, all_counting, AsOneServer, AreOnSlots}
 use Rattle.cluster_calls.specs.OneServer.Laws.{IsAnswered, IsDeterministic, in_any_order}
 use Rattle.cluster_calls.proofs.LogLaws.Gaps.{every_gap_names_no_key}

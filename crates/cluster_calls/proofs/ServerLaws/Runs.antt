@@ -85,7 +85,7 @@ calls_served strategy faults meaning done (t ∷ ts) client (m ∷ ms) gaps on h
 )
 
 -- the kind is what the answer says
-kind_is : (client : Client) (picks : List Address) (faults : Address → LinkFault) (call : Call) (xs : List Exchange) → refusal_in (answer_of client picks faults call xs) ≡ kind client picks faults call xs
+pub kind_is : (client : Client) (picks : List Address) (faults : Address → LinkFault) (call : Call) (xs : List Exchange) → refusal_in (answer_of client picks faults call xs) ≡ kind client picks faults call xs
 kind_is client picks faults call xs = by (plan client picks call) (sent_refusal client faults (task_of call) xs) (or_bad_reply (call_answer faults call xs))
   where
     by : (o : Result (List Dispatch) Refusal) (s : Option Refusal) (a : Result Answer Refusal) → refusal_in (result_then o (λ ds. unless s a)) ≡ or_else (refusal_in o) (or_else s (refusal_in a))

@@ -1,7 +1,6 @@
 -- What `play` makes of a list of calls, and shows of each.
 use Rattle.std.specs.Prelude.{◌≡◌, ◌≢◌, Bool, true, false, List, [], ◌++◌, map, Option, Result}
 use Rattle.resp_core.specs.Errors.{Refusal}
-use Rattle.cluster_routing.specs.Address.{Address}
 use Rattle.cluster_routing.specs.Choice.{Strategy}
 use Rattle.cluster_calls.specs.Calls.Answer.{Answer}
 use Rattle.cluster_calls.specs.Calls.Call.{Call}

@@ -1,5 +1,5 @@
 -- Laws of calls and runs, each as one statement over the definitions.
-use Rattle.std.specs.Prelude.{◌≡◌, ◌↔◌, ◌≤◌, ◌*◌, ℕ, suc, Bool, true, false, not, nat_eq, ⊤, List, [], ◌∷◌, ◌++◌, map, filter, length, Contains, Option, Some, None, Ok, MatchBool}
+use Rattle.std.specs.Prelude.{◌≡◌, ◌↔◌, ◌≤◌, ◌*◌, ℕ, suc, Bool, true, false, not, nat_eq, ⊤, List, [], ◌∷◌, map, filter, length, Contains, Option, Some, None, Ok, MatchBool}
 use Rattle.std.specs.List.{AllByRecursion}
 use Rattle.resp_core.specs.Trees.{Tree}
 use Rattle.resp_args.specs.Command.{Command}
@@ -8,16 +8,15 @@ use Rattle.resp_args.specs.declared.cmd.Arg.TheVariants.{Simple}
 use Rattle.cluster_routing.specs.Address.{Address, same_address}
 use Rattle.cluster_routing.specs.Choice.{Strategy}
 use Rattle.cluster_routing.specs.Laws.{AddressesAscend}
-use Rattle.cluster_routing.specs.Lists.{among, concat, IsDistinct, group_by_group}
+use Rattle.cluster_routing.specs.Lists.{among, IsDistinct, group_by_group}
 use Rattle.cluster_routing.specs.Routing.{to_route, destination}
 use Rattle.cluster_routing.specs.declared.route.Route.{Route}
 use Rattle.cluster_calls.specs.Links.Reply.{Sort, Moved, Ask, sort_of}
-use Rattle.cluster_calls.specs.Links.Log.{Exchange, requests, is_answered}
-use Rattle.cluster_calls.specs.Links.Request.{Request}
-use Rattle.cluster_calls.specs.Calls.Call.{Entry, Call, Query, Ordered}
+use Rattle.cluster_calls.specs.Links.Log.{Exchange, is_answered}
+use Rattle.cluster_calls.specs.Calls.Call.{Call, Query, Ordered}
 use Rattle.cluster_calls.specs.Calls.Task.{Task, slot_map_of, one_command, pipeline_of, several_nodes, task_of}
 use Rattle.cluster_calls.specs.Calls.Plan.{Client, Dispatch, plan}
-use Rattle.cluster_calls.specs.Calls.Legal.{direct, node_groups, IsLegalCall}
+use Rattle.cluster_calls.specs.Calls.Legal.{IsLegalCall}
 use Rattle.cluster_calls.specs.Links.Faults.{LinkFault}
 use Rattle.cluster_calls.specs.Calls.Refusals.{sent_refusal}
 use Rattle.cluster_calls.specs.Calls.Answer.{Answer}
@@ -75,12 +74,6 @@ abbrev pub EachPartIsAnsweredOnce : Type 0
 EachPartIsAnsweredOnce = (client : Client) (picks : List Address) (faults : Address → LinkFault) (call : Call) (command : Command) (number : ℕ) (order : Option (List ℕ)) (ds : List Dispatch) (xs : List Exchange)
     → task_of call ≡ one_command command number order → plan client picks call ≡ Ok ds → IsLegalCall client picks call xs → sent_refusal client faults (task_of call) xs ≡ None
     → map (λ (x : Exchange). x.request.args) (filter (λ x. not (is_redirected x)) xs) ≡ map (λ (d : Dispatch). d.args) ds
-
--- a pipeline sends its commands node by node, each at most once, and all of them where it is answered
-abbrev pub PipelinesSendOnce : Type 0
-PipelinesSendOnce = (client : Client) (picks : List Address) (faults : Address → LinkFault) (call : Call) (entries : List Entry) (ds : List Dispatch) (xs : List Exchange)
-    → task_of call ≡ pipeline_of entries → plan client picks call ≡ Ok ds → IsLegalCall client picks call xs
-    → ((rest : List Request) × (requests xs ++ rest ≡ map direct (concat (node_groups ds)))) × (sent_refusal client faults (task_of call) xs ≡ None → requests xs ≡ map direct (concat (node_groups ds)))
 
 -- a command with a gap routes as the arguments that it is sent as, wherever it routes to a slot
 abbrev pub GapsNameNoKey : Type 0

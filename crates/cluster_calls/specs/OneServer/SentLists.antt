@@ -1,5 +1,5 @@
 -- What a node got over a run are the run's commands, and no others.
-use Rattle.std.specs.Prelude.{◌≡◌, ℕ, Bool, false, if◌then◌else◌, List, [], ◌∷◌, ◌++◌, Option, Some}
+use Rattle.std.specs.Prelude.{◌≡◌, ℕ, false, if◌then◌else◌, List, [], ◌∷◌, ◌++◌, Option, Some}
 use Rattle.std.specs.List.{flat_map, AllByRecursion}
 use Rattle.resp_core.specs.Trees.{Tree}
 use Rattle.resp_args.specs.Laws.{Sendable}

@@ -1,6 +1,6 @@
 -- One run with a redirect, a split command of which a part is refused, a pipeline over two nodes, and a request whose reply is lost:
 -- it is played legally, all of its calls are on slots, the nodes are honest, and it is as on one server.
-use Rattle.std.specs.Prelude.{◌≡◌, ◌==◌, ℕ, true, false, List, [], ◌∷◌, None, Ok, Err, codes, refl}
+use Rattle.std.specs.Prelude.{◌==◌, ℕ, List, [], ◌∷◌, None, Ok, Err, codes, refl}
 use Rattle.std.specs.Fmt.{digits}
 use Rattle.std.specs.Str.{is_utf8, chars}
 use Rattle.std.proofs.Common.{lit<, inr, cond, ap, sym, ◌∙◌}
@@ -45,11 +45,11 @@ four_calls =
     answered get_a (text (codes "1")) (plain n2 get_a ∷ plain n1 get_a ∷ [])
     ∷ played (del (codes "a" ∷ codes "b" ∷ [])) (Err (by_server (error_text (codes "TRYAGAIN") (codes "x")))) (plain n2 (del (codes "a" ∷ [])) ∷ plain n1 (del (codes "b" ∷ [])) ∷ [])
     ∷ record {
-        call = Pipeline (entry set_a ∷ entry get_b ∷ entry get_a ∷ []);
-        picks = [];
-        answer = Ok (Value (array_of (okay ∷ text (codes "2") ∷ text (codes "1") ∷ [])));
-        log = plain n2 set_a ∷ plain n2 get_a ∷ plain n1 get_b ∷ [];
-      }
+      call = Pipeline (entry set_a ∷ entry get_b ∷ entry get_a ∷ []);
+      picks = [];
+      answer = Ok (Value (array_of (okay ∷ text (codes "2") ∷ text (codes "1") ∷ [])));
+      log = plain n2 set_a ∷ plain n2 get_a ∷ plain n1 get_b ∷ [];
+    }
     ∷ played get_b (Err (by_cause Io)) (plain n1 get_b ∷ [])
     ∷ []
 
@@ -61,7 +61,9 @@ four = with_replies
 pub four_are_played : IsPlayedFrom None on_halves a_fault four
 unfolding destination rule_of table hash_slot splitting_of digits first_error is_utf8 chars encode server_kind
 four_are_played = (
-  refl, (refl, (refl, refl)), refl,
+  refl,
+  (refl, (refl, refl)),
+  refl,
   (refl, (refl, (refl, refl)), refl, (refl, (refl, (refl, refl)), refl, (refl, (refl, refl), refl, tt))),
 )
 

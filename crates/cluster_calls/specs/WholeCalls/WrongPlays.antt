@@ -1,12 +1,11 @@
 -- What `play` and a call may not do behind their last step: leave a log, forget picks, be refused with nothing left out, go on without memory.
-use Rattle.std.specs.Prelude.{◌≡◌, Bool, true, false, List, [], ◌∷◌, ◌++◌, Option, codes, pos, refl}
-use Rattle.std.proofs.Common.{sym, ap, ◌∙◌, subst}
+use Rattle.std.specs.Prelude.{◌≡◌, false, List, [], ◌∷◌, ◌++◌, Option, codes, pos, refl}
+use Rattle.std.proofs.Common.{sym, subst}
 use Rattle.resp_core.specs.Trees.{int}
 use Rattle.cluster_routing.specs.Choice.{Strategy}
 use Rattle.cluster_routing.specs.Examples.{first_node as n1, second_node as n2}
 use Rattle.cluster_calls.specs.Calls.Call.{Call}
 use Rattle.cluster_calls.specs.Links.Events.{Event, answers, lacks_memory, StopsAtMemory}
-use Rattle.cluster_calls.specs.Links.Happened.{Happened}
 use Rattle.cluster_calls.specs.Links.Play.{Plays, Shown}
 use Rattle.cluster_calls.specs.Links.Run.{CallsMade, IsMovedOut}
 use Rattle.cluster_calls.specs.Links.World.{World}
