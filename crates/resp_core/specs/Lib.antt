@@ -19,6 +19,7 @@ pub mod Head
 pub mod Behind
 pub mod LineEnds
 pub mod Placing
+pub mod Room
 pub mod Condition
 pub mod Standing
 pub mod Advancing

@@ -1,11 +1,12 @@
 //! Rows whose values are being read.
-ghost use Rattle.std.specs.Prelude.{ℕ, List, Some, None};
+ghost use Rattle.std.specs.Prelude.{◌≡◌, ℕ, List, Some, None, IfOk};
 ghost use Rattle.resp_core.specs.View.{view};
 ghost use Rattle.resp_core.specs.Reading.{Splits, grouped, group_at, value_at};
 ghost use Rattle.resp_core.specs.Frames.{rest_of};
 ghost use Rattle.resp_core.specs.declared.parser.marker.Marker.TheVariants as rows;
 ghost use Rattle.resp_core.specs.declared.parser.frame.Frame.TheVariants as frames;
 ghost use Rattle.resp_core.specs.Placing.{Opens, Names, Puts};
+ghost use Rattle.resp_core.specs.Room.{room_at_opening};
 
 use crate::parser::marker::Marker;
 use crate::parser::stop::Stop;
@@ -36,7 +37,8 @@ pub(crate) enum Opened {
 }
 
 fn open_array(alloc: Global, count: u64) -> Opened
-    ensures { (k : ℕ) → (bs : List ℕ) → Opens k bs result (grouped rows.Array (group_at (value_at k) rows.Array count bs)) }
+    ensures opens { (k : ℕ) → (bs : List ℕ) → Opens k bs result (grouped rows.Array (group_at (value_at k) rows.Array count bs)) }
+    ensures room { room_at_opening result ≡ 0 }
 {
     let items = Vec::new(alloc);
     if count == 0 {
@@ -46,7 +48,8 @@ fn open_array(alloc: Global, count: u64) -> Opened
 }
 
 fn open_set(alloc: Global, count: u64) -> Opened
-    ensures { (k : ℕ) → (bs : List ℕ) → Opens k bs result (grouped rows.Set (group_at (value_at k) rows.Set count bs)) }
+    ensures opens { (k : ℕ) → (bs : List ℕ) → Opens k bs result (grouped rows.Set (group_at (value_at k) rows.Set count bs)) }
+    ensures room { room_at_opening result ≡ 0 }
 {
     let items = Vec::new(alloc);
     if count == 0 {
@@ -57,7 +60,8 @@ fn open_set(alloc: Global, count: u64) -> Opened
 
 fn open_map(alloc: Global, count: u64) -> Opened
     requires { Splits rows.Map count }
-    ensures { (k : ℕ) → (bs : List ℕ) → Opens k bs result (grouped rows.Map (group_at (value_at k) rows.Map count bs)) }
+    ensures opens { (k : ℕ) → (bs : List ℕ) → Opens k bs result (grouped rows.Map (group_at (value_at k) rows.Map count bs)) }
+    ensures room { room_at_opening result ≡ 0 }
 {
     let pairs = Vec::new(alloc);
     if count < 2 {
@@ -68,13 +72,15 @@ fn open_map(alloc: Global, count: u64) -> Opened
 
 fn open_attribute(alloc: Global, count: u64) -> Opened
     requires { Splits rows.Attribute count }
-    ensures { (k : ℕ) → (bs : List ℕ) → Opens k bs result (grouped rows.Attribute (group_at (value_at k) rows.Attribute count bs)) }
+    ensures opens { (k : ℕ) → (bs : List ℕ) → Opens k bs result (grouped rows.Attribute (group_at (value_at k) rows.Attribute count bs)) }
+    ensures room { room_at_opening result ≡ 0 }
 {
     Opened::Open(Frame::Attribute(Vec::new(alloc), None, count / 2))
 }
 
 fn open_push(alloc: Global, count: u64) -> Opened
-    ensures { (k : ℕ) → (bs : List ℕ) → Opens k bs result (grouped rows.Push (group_at (value_at k) rows.Push count bs)) }
+    ensures opens { (k : ℕ) → (bs : List ℕ) → Opens k bs result (grouped rows.Push (group_at (value_at k) rows.Push count bs)) }
+    ensures room { room_at_opening result ≡ 0 }
 {
     if count == 0 {
         let kind = PushKind::Other(String::new(alloc));
@@ -87,7 +93,8 @@ fn open_push(alloc: Global, count: u64) -> Opened
 /// A row of so many values, none of which was read.
 pub(crate) fn open_row(alloc: Global, marker: Marker, count: u64) -> Opened
     requires { Splits marker count }
-    ensures { (k : ℕ) → (bs : List ℕ) → Opens k bs result (grouped marker (group_at (value_at k) marker count bs)) }
+    ensures opens { (k : ℕ) → (bs : List ℕ) → Opens k bs result (grouped marker (group_at (value_at k) marker count bs)) }
+    ensures room { room_at_opening result ≡ 0 }
 {
     match marker {
         Marker::Set => open_set(alloc, count),
@@ -198,7 +205,8 @@ fn put_into_attribute(
 
 // The first value of a push.
 fn name(alloc: Global, value: Value, to_come: u64) -> Result<Opened, Stop>
-    ensures { (k : ℕ) → (bs : List ℕ) → Names k bs result (rest_of k (frames.Naming to_come) (view value, bs)) }
+    ensures names { (k : ℕ) → (bs : List ℕ) → Names k bs result (rest_of k (frames.Naming to_come) (view value, bs)) }
+    ensures room { IfOk result (λ o. room_at_opening o ≡ 0) }
 {
     let kind = kind_in(value)?;
     let items = Vec::new(alloc);

@@ -6,20 +6,20 @@ use Rattle.resp_core.proofs.Rows.{names, names_none, row_whole, row_next}
 use Rattle.resp_core.proofs.Views.{view-Push}
 use Rattle.resp_core.proofs.parser.frame.name.Goals as goal
 
-pub returns-in_err-kind : goal.returns-in_err-kind
-returns-in_err-kind c k bs =
+pub returns-in_err-kind-clause-names : goal.returns-in_err-kind-clause-names
+returns-in_err-kind-clause-names c k bs =
     let r = err_from_is_err_and c.from_residual.result c.from_residual.ensures.1 in
     rw (r.1, r.2) (names_none k (view c.args.value) c.in_err-kind.field-0.0 c.args.to_come bs c.in_err-kind.ensures)
 
-pub returns-then-to_come-eq0 : goal.returns-then-to_come-eq0
-returns-then-to_come-eq0 c k bs =
+pub returns-then-to_come-eq0-clause-names : goal.returns-then-to_come-eq0-clause-names
+returns-then-to_come-eq0-clause-names c k bs =
     let kind = c.in_ok-kind.kind in
     let empty : map view c.new-items.result.items ≡ [] = rw c.new-items.ensures.items refl in
     names k (view c.args.value) (kind_view kind) c.args.to_come bs c.in_ok-kind.ensures
     ∙ row_whole k (push (kind_view kind)) [] _ c.args.to_come bs empty c.if-to_come-eq0.true ∙ ap (λ (x : Tree). Ok (x, bs)) (sym (view-Push kind c.new-items.result))
 
-pub returns : goal.returns
-returns c k bs =
+pub returns-clause-names : goal.returns-clause-names
+returns-clause-names c k bs =
     let kind = c.in_ok-kind.kind in
     let empty : map view c.new-items.result.items ≡ [] = rw c.new-items.ensures.items refl in
     names k (view c.args.value) (kind_view kind) c.args.to_come bs c.in_ok-kind.ensures
