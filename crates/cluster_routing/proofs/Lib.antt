@@ -31,4 +31,7 @@ pub mod NodeReplies
 pub mod Flags
 pub mod Counting
 pub mod Joined
+pub mod AnyOrder
 pub mod CountsInTurn
+pub mod AggregatesInTurn
+pub mod SameRoutings

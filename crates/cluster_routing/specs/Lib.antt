@@ -28,3 +28,4 @@ pub mod Policies
 pub mod Outcomes
 pub mod Counted
 pub mod CombineLaws
+pub mod Comparisons

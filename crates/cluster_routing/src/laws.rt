@@ -3,7 +3,7 @@
 
 ghost use Rattle.std.specs.Prelude.{◌≡◌, fold, option_map, true, IfOk};
 ghost use Rattle.cluster_routing.specs.Address.{address_cmp, hashed_address, same_address};
-ghost use Rattle.cluster_routing.specs.CombineLaws.{CountsInAnyOrder, OneSlotIsTheWhole, SplitWordsAreNames, SubsAreAtTheirPlaces};
+ghost use Rattle.cluster_routing.specs.CombineLaws.{AggregatesInAnyOrder, CountsInAnyOrder, OneSlotIsTheWhole, SplitWordsAreNames, SubsAreAtTheirPlaces};
 ghost use Rattle.cluster_routing.specs.Info.{same_redirection, shown_info, shown_redirect, texts};
 ghost use Rattle.cluster_routing.specs.Routing.{destination};
 ghost use Rattle.cluster_routing.specs.Laws.{CaseOfTheWord, EachAddressOnce, EachNameHasItsRow, EqualTags, OneRange, OrderAgrees, PartsShareThePlaces, RoundTrip, RoutesAsOnTheWire, TopologyServes};
@@ -147,4 +147,10 @@ pub fn split_words_are_names()
 /// The counts of the same replies make the same map, whatever order the replies come in.
 pub fn counts_are_added_in_any_order()
     ensures { CountsInAnyOrder }
+{}
+
+/// The sum, or the least, of the same replies is the same, or is refused, whatever order the replies
+/// come in.
+pub fn aggregates_are_made_in_any_order()
+    ensures { AggregatesInAnyOrder }
 {}

@@ -5,6 +5,7 @@ mod address;
 mod all_nodes;
 mod candidates;
 mod combine;
+pub mod comparisons;
 mod copies;
 pub mod laws;
 mod parts;

@@ -18,6 +18,8 @@ mod nodes;
 #[cfg(test)]
 mod routes;
 #[cfg(test)]
+mod strategies;
+#[cfg(test)]
 mod texts;
 #[cfg(test)]
 mod topology;

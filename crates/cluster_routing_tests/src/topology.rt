@@ -24,7 +24,8 @@ const ROWS: &[(u16, u16, &str, &[&str])] = &[
     (500, 599, "n1:7001", &["n1:10000"]),
 ];
 
-fn sample_map(alloc: Global) -> Result<SlotMap, RedisError> {
+/// A map of five ranges.
+pub(crate) fn sample_map(alloc: Global) -> Result<SlotMap, RedisError> {
     let mut slots = Vec::new(alloc);
     for (start, end, primary, replicas) in ROWS {
         let primary = NodeAddress::try_from(alloc, primary)?;

@@ -22,5 +22,6 @@ pub mod Respelled
 pub mod RecordLaws
 pub mod RecordExamples
 pub mod RespelledExamples
+pub mod SameEntries
 pub mod RecordViews
 pub mod InfoViews

@@ -14,6 +14,7 @@ mod pending;
 mod pending_count;
 mod range;
 mod read;
+mod same_entry;
 mod status;
 mod stream_info;
 mod under_name;

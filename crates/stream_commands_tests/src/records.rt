@@ -78,6 +78,38 @@ fn entries(rt: HostRuntime) {
     reads::<StreamClaimReply, _>(&rt, alloc, b"*1\r\n$3\r\n1-0\r\n", "refused");
 }
 
+// Entries, of which the first two alone are equal: then come fields in another order, one field less,
+// another value, another id, and no fields.
+const SOME_ENTRIES: &[u8] =
+    b"*7\r\n*2\r\n$3\r\n1-0\r\n*4\r\n+f\r\n+v\r\n+g\r\n:1\r\n*2\r\n$3\r\n1-0\r\n%2\r\n$1\r\nf\r\n+v\r\n$1\r\ng\r\n:1\r\n*2\r\n$3\r\n1-0\r\n*4\r\n+g\r\n:1\r\n+f\r\n+v\r\n*2\r\n$3\r\n1-0\r\n*2\r\n+f\r\n+v\r\n*2\r\n$3\r\n1-0\r\n*4\r\n+f\r\n+v\r\n+g\r\n:2\r\n*2\r\n$3\r\n1-1\r\n*4\r\n+f\r\n+v\r\n+g\r\n:1\r\n*2\r\n$3\r\n1-0\r\n*0\r\n";
+
+// For each entry whether it equals the first.
+fn equal_to_the_first(alloc: Global, bytes: &[u8]) -> Result<String, RedisError> {
+    let reply = parse_redis_value(alloc, bytes)?;
+    let entries = from_redis_value::<StreamRangeReply>(alloc, reply)?;
+    let mut told = String::new(alloc);
+    let ids = entries.ids.as_slice();
+    if let [first, ..] = ids {
+        for entry in ids {
+            told.push_str(if entry == first { "=" } else { "/" })?;
+        }
+    }
+    Ok(told)
+}
+
+#[test]
+fn equality_of_entries(rt: HostRuntime) {
+    let alloc = rt.alloc();
+    is_text(&rt, equal_to_the_first(alloc, SOME_ENTRIES), "==/////");
+    let mut timed = StreamId::empty(alloc);
+    assert!(rt; timed == StreamId::empty(alloc));
+    timed.delivered_count = Some(1);
+    assert!(rt; timed != StreamId::empty(alloc));
+    timed.delivered_count = None;
+    timed.milliseconds_elapsed_from_delivery = Some(0);
+    assert!(rt; timed != StreamId::empty(alloc));
+}
+
 const CLAIMS: &[(&[u8], &str)] = &[
     (b"*1\r\n$3\r\n0-0\r\n", "refused"),
     (
@@ -210,6 +242,10 @@ fn status_numbers_and_texts(rt: HostRuntime) {
     shows(&rt, alloc, numbers, "[-1, 1, 2, -1, 1, 2]");
     let number = refusal::<XDelExStatusCode>(alloc, b":3\r\n");
     is_text(&rt, number, "Invalid XDelExStatusCode status code: 3");
+    let number = refusal::<XAckDelStatusCode>(alloc, b":0\r\n");
+    is_text(&rt, number, "Invalid XAckDelStatusCode status code: 0");
+    let null = refusal::<XDelExStatusCode>(alloc, b"_\r\n");
+    is_text(&rt, null, "Response type not XDelExStatusCode compatible");
     let null = refusal::<XAckDelStatusCode>(alloc, b"_\r\n");
     is_text(&rt, null, "Response type not XAckDelStatusCode compatible");
 }

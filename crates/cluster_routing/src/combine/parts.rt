@@ -5,8 +5,9 @@ ghost use Rattle.std.specs.List.{list_all};
 ghost use Rattle.resp_core.specs.Errors.{by_cause};
 ghost use Rattle.resp_core.specs.View.{view};
 ghost use Rattle.resp_core.specs.declared.errors.redis_error.Cause.TheVariants.{Memory};
-ghost use Rattle.cluster_routing.specs.Combine.{all_okay, combine, is_okay, part_replies, slots_by, IsCutInto};
+ghost use Rattle.cluster_routing.specs.Combine.{all_okay, combine, combine_at, is_okay, part_replies, slots_by, IsCutInto};
 ghost use Rattle.cluster_routing.specs.Info.{shown_part};
+ghost use Rattle.cluster_routing.specs.Parts.{width_of};
 ghost use Rattle.cluster_routing.specs.Policies.{or_bad_reply, tree_or_refusal};
 ghost use Rattle.cluster_routing.specs.Split.{Split};
 
@@ -20,11 +21,12 @@ use std::alloc::Global;
 /// The reply to a split command from those of its parts, in the order in which `routes` lists these,
 /// as `MultipleNodeRoutingInfo::MultiSlot` does; any order of them will do. By the policy the items
 /// of arrays come back to the places of their tuples, integers are added, or all parts have to have
-/// succeeded. (Documentation of the crate `redis`, `cluster_routing`.)
+/// succeeded. (Documentation of the crate `redis`, `cluster_routing`.) Of replies and places that are
+/// of no split command it makes one reply by the policy in the same way.
 ///
 /// # Errors
-/// `UnexpectedReturnType` where a reply is not of the shape that the policy wants, or no split
-/// command has the policy. `Memory` where memory is refused.
+/// `UnexpectedReturnType` where a reply is not of the shape that the policy wants, items do not fit
+/// their places, or no split command has the policy. `Memory` where memory is refused.
 pub fn combine_parts(
     alloc: Global,
     values: Vec<Value>,
@@ -32,7 +34,8 @@ pub fn combine_parts(
     pattern: MultiSlotArgPattern,
     policy: ResponsePolicy,
 ) -> Result<Value, RedisError>
-    ensures { (args : List (List ℕ)) (s : Split) (order : List ℕ) → IsCutInto args s order (record { pattern = pattern; policy = policy }) (map (λ p. p.1) (map shown_part routes.now)) (length values.items) → result ≢ Err (by_cause Memory) → tree_or_refusal result ≡ or_bad_reply (combine s (part_replies (slots_by order s) (map view values.items))) }
+    ensures any { result ≢ Err (by_cause Memory) → tree_or_refusal result ≡ or_bad_reply (combine_at policy (width_of pattern) (map (λ p. p.1) (map shown_part routes.now)) (map view values.items)) }
+    ensures cut { (args : List (List ℕ)) (s : Split) (order : List ℕ) → IsCutInto args s order (record { pattern = pattern; policy = policy }) (map (λ p. p.1) (map shown_part routes.now)) (length values.items) → result ≢ Err (by_cause Memory) → tree_or_refusal result ≡ or_bad_reply (combine s (part_replies (slots_by order s) (map view values.items))) }
 {
     match policy {
         ResponsePolicy::CombineArrays => {

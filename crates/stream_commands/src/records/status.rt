@@ -1,6 +1,7 @@
 //! What XDELEX and XACKDEL say of each id.
-ghost use Rattle.std.specs.Prelude.{false, None};
-ghost use Rattle.stream_commands.specs.StatusCodes.{status};
+ghost use Rattle.std.specs.Prelude.{◌≡◌, false, None};
+ghost use Rattle.resp_core.specs.View.{view};
+ghost use Rattle.stream_commands.specs.StatusCodes.{acknowledgement_status, deletion_status, status};
 
 use crate::records::one;
 use resp_args::FromRedisValue;
@@ -42,26 +43,32 @@ impl FromRedisValue for XDelExStatusCode {
         _alloc: Global,
         value: &Value,
     ) -> Result<XDelExStatusCode, ParsingError> {
-        match value {
-            Value::Int(n) => {
-                let code = *n;
-                if code == -1 {
-                    Ok(XDelExStatusCode::IdNotFound)
-                } else if code == 1 {
-                    Ok(XDelExStatusCode::Deleted)
-                } else if code == 2 {
-                    Ok(XDelExStatusCode::NotDeletedUnacknowledgedOrStillReferenced)
-                } else {
-                    Err(ParsingError::numbered("Invalid XDelExStatusCode status code: ", code))
-                }
-            }
-            _ => Err(ParsingError::fixed("Response type not XDelExStatusCode compatible")),
-        }
+        deletion_status(value)
     }
 
     fn from_byte_vec(alloc: Global, bytes: Vec<u8>) -> Result<Vec<XDelExStatusCode>, ParsingError> {
         let value = XDelExStatusCode::from_redis_value(alloc, Value::BulkString(bytes))?;
         one(alloc, value)
+    }
+}
+
+fn deletion_status(reply: &Value) -> Result<XDelExStatusCode, ParsingError>
+    ensures { result ≡ deletion_status (view reply.now) }
+{
+    match reply {
+        Value::Int(n) => {
+            let code = *n;
+            if code == XDelExStatusCode::IdNotFound as i64 {
+                Ok(XDelExStatusCode::IdNotFound)
+            } else if code == XDelExStatusCode::Deleted as i64 {
+                Ok(XDelExStatusCode::Deleted)
+            } else if code == XDelExStatusCode::NotDeletedUnacknowledgedOrStillReferenced as i64 {
+                Ok(XDelExStatusCode::NotDeletedUnacknowledgedOrStillReferenced)
+            } else {
+                Err(ParsingError::numbered("Invalid XDelExStatusCode status code: ", code))
+            }
+        }
+        _ => Err(ParsingError::fixed("Response type not XDelExStatusCode compatible")),
     }
 }
 
@@ -100,21 +107,7 @@ impl FromRedisValue for XAckDelStatusCode {
         _alloc: Global,
         value: &Value,
     ) -> Result<XAckDelStatusCode, ParsingError> {
-        match value {
-            Value::Int(n) => {
-                let code = *n;
-                if code == -1 {
-                    Ok(XAckDelStatusCode::IdNotFound)
-                } else if code == 1 {
-                    Ok(XAckDelStatusCode::AcknowledgedAndDeleted)
-                } else if code == 2 {
-                    Ok(XAckDelStatusCode::AcknowledgedNotDeletedStillReferenced)
-                } else {
-                    Err(ParsingError::numbered("Invalid XAckDelStatusCode status code: ", code))
-                }
-            }
-            _ => Err(ParsingError::fixed("Response type not XAckDelStatusCode compatible")),
-        }
+        acknowledgement_status(value)
     }
 
     fn from_byte_vec(
@@ -123,5 +116,25 @@ impl FromRedisValue for XAckDelStatusCode {
     ) -> Result<Vec<XAckDelStatusCode>, ParsingError> {
         let value = XAckDelStatusCode::from_redis_value(alloc, Value::BulkString(bytes))?;
         one(alloc, value)
+    }
+}
+
+fn acknowledgement_status(reply: &Value) -> Result<XAckDelStatusCode, ParsingError>
+    ensures { result ≡ acknowledgement_status (view reply.now) }
+{
+    match reply {
+        Value::Int(n) => {
+            let code = *n;
+            if code == XAckDelStatusCode::IdNotFound as i64 {
+                Ok(XAckDelStatusCode::IdNotFound)
+            } else if code == XAckDelStatusCode::AcknowledgedAndDeleted as i64 {
+                Ok(XAckDelStatusCode::AcknowledgedAndDeleted)
+            } else if code == XAckDelStatusCode::AcknowledgedNotDeletedStillReferenced as i64 {
+                Ok(XAckDelStatusCode::AcknowledgedNotDeletedStillReferenced)
+            } else {
+                Err(ParsingError::numbered("Invalid XAckDelStatusCode status code: ", code))
+            }
+        }
+        _ => Err(ParsingError::fixed("Response type not XAckDelStatusCode compatible")),
     }
 }

@@ -24,4 +24,4 @@ returns-in-Some c client picks command order number ds is_plan split count m =
     let joins = joined_reply client picks command order number ds is_plan (shown_split c.in-Some.split) (rw c.in-Some.is at split) (map view c.args.replies.items) (length-map _ _ ∙ count) in
     let places = ap (λ rs. map (λ (r : Route × List ℕ). r.1) (map shown_part rs)) (sym c.deref.ensures.value) in
     let cut = recut _ _ _ _ _ _ _ _ joins.cut_into places (length-map _ _) in
-    same_tree c.combine_parts.result ∙ c.combine_parts.ensures (sent command) joins.split _ cut (λ k. m (ap (tree_result view) k)) ∙ ap or_bad_reply (sym joins.same)
+    same_tree c.combine_parts.result ∙ c.combine_parts.ensures.cut (sent command) joins.split _ cut (λ k. m (ap (tree_result view) k)) ∙ ap or_bad_reply (sym joins.same)
