@@ -4,6 +4,7 @@ pub mod Piping
 pub mod NodeLoop
 pub mod SeveralNodes
 pub mod Prepared
+pub mod Ending
 pub mod TypedCalls
 pub mod Deletions
 pub mod Relinking

@@ -108,3 +108,8 @@ module _ (strategy : Option Strategy) (client : Client) (entries : List Entry) (
     planned = plan_unparted None client (Pipeline entries) picks refusal e;
     picked = subst (λ ps. ArePicks strategy client (Pipeline entries) ps) (sym none) (picks_unparted strategy client (Pipeline entries) refusal e);
   }
+
+-- the picks of a pipeline are none
+pub planned_unpicked : (strategy : Option Strategy) (client : Client) (entries : List Entry) (picks : List Address) (parts : List Part) (made : Result (List Dispatch) Refusal) → pipeline_parts 0 entries ≡ Ok parts
+    → AreDispatched None client parts picks made → IsPlanned strategy client (Pipeline entries) [] made
+planned_unpicked strategy client entries picks parts made e d = subst (λ ps. IsPlanned strategy client (Pipeline entries) ps made) d.picked (pipeline_planned strategy client entries picks parts made e d)

@@ -190,9 +190,9 @@ module _ (cds : List CodeDispatch) where
       ∙ ap (λ why. unless why (Ok (Value (pipeline_reply entries xs))))
       (sym (ap (pipeline_refusal faults xs) errors ∙ all_answered faults xs (errors_in 0 trees) (all_replied xs (concat (map (λ (a : ℕ × List Tree). a.1) answers)) tells.3)))
 
-module _ (strategy : Option Strategy) (old new : World) (entries : List Entry) (cds : List CodeDispatch) (picks : List Address) (result : Result (List (ℕ × List Tree)) Refusal) (reply : Result Tree Refusal)
-    (planned : plan (client_of old) picks (Pipeline entries) ≡ Ok (map dispatch_of cds)) (picked : ArePicks strategy (client_of old) (Pipeline entries) picks) (placed : AllByRecursion (IsPlaced old.nodes) cds)
-    (m : GroupsMade (with_log old [] picks) new (pipe_groups cds) result) (made : IsMadeOfGroups entries cds result reply) where
+module _ (strategy : Option Strategy) (old new : World) (entries : List Entry) (cds : List CodeDispatch) (result : Result (List (ℕ × List Tree)) Refusal) (reply : Result Tree Refusal)
+    (planned : plan (client_of old) [] (Pipeline entries) ≡ Ok (map dispatch_of cds)) (picked : ArePicks strategy (client_of old) (Pipeline entries) []) (placed : AllByRecursion (IsPlaced old.nodes) cds)
+    (m : GroupsMade (with_log old [] []) new (pipe_groups cds) result) (made : IsMadeOfGroups entries cds result reply) where
   plans : plan (client_of old) new.picked (Pipeline entries) ≡ Ok (map dispatch_of cds)
   plans = subst (λ ps. plan (client_of old) ps (Pipeline entries) ≡ Ok (map dispatch_of cds)) (sym m.picked) planned
 
@@ -231,13 +231,14 @@ module _ (strategy : Option Strategy) (old new : World) (entries : List Entry) (
       (λ place. legal (exchanges_of place m.events) (a.whole place))
       (λ faults agrees place. rw plans (told cds old.nodes (client_of old) entries placed slots faults (exchanges_of place m.events) result reply (a.tells faults agrees place) made there)))
       (λ e n. absurd (false≢true n))
+      (λ e none. m.picked)
 
 -- the same from what the code says of its steps
-pub reply_made : (strategy : Option Strategy) (old mid new : World) (entries : List Entry) (cds : List CodeDispatch) (picks : List Address) (gs : List Group) (result : Result (List (ℕ × List Tree)) Refusal) (reply : Result Tree Refusal)
-    → mid ≡ with_log old [] picks → IsPlanned strategy (client_of old) (Pipeline entries) picks (Ok (map dispatch_of cds)) → AllByRecursion (IsPlaced mid.nodes) cds → gs ≡ pipe_groups cds → GroupsMade mid new gs result → IsMadeOfGroups entries cds result reply
+pub reply_made : (strategy : Option Strategy) (old mid new : World) (entries : List Entry) (cds : List CodeDispatch) (gs : List Group) (result : Result (List (ℕ × List Tree)) Refusal) (reply : Result Tree Refusal)
+    → mid ≡ with_log old [] [] → IsPlanned strategy (client_of old) (Pipeline entries) [] (Ok (map dispatch_of cds)) → AllByRecursion (IsPlaced mid.nodes) cds → gs ≡ pipe_groups cds → GroupsMade mid new gs result → IsMadeOfGroups entries cds result reply
     → CallMade strategy old new (Pipeline entries) (value_answer reply)
-reply_made strategy old mid new entries cds picks gs result reply stays planned placed grouped m made =
-    pipeline_made strategy old new entries cds picks result reply planned.planned planned.picked (subst (λ (w : World). AllByRecursion (IsPlaced w.nodes) cds) stays placed)
+reply_made strategy old mid new entries cds gs result reply stays planned placed grouped m made =
+    pipeline_made strategy old new entries cds result reply planned.planned planned.picked (subst (λ (w : World). AllByRecursion (IsPlaced w.nodes) cds) stays placed)
     (subst (λ (w : World). GroupsMade w new (pipe_groups cds) result) stays (subst (λ hs. GroupsMade mid new hs result) grouped m)) made
 
 -- ---- places of links

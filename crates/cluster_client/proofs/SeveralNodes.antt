@@ -334,6 +334,7 @@ module _ (strategy : Option Strategy) (old new : World) (command : Command) (ds 
       let is = told command faults (exchanges_of place m.events) result reply made there (a.tells faults agrees place) in
       rw plans (ap value_answer is ∙ answer_is command (several_reply faults command (exchanges_of place m.events)))))
       (λ e n. absurd (false≢true n))
+      (λ e none. m.picked)
 
 -- ---- the same from what the code says
 
@@ -341,7 +342,7 @@ module _ (strategy : Option Strategy) (old new : World) (command : Command) (ds 
 pub fan_not_sent : (strategy : Option Strategy) (old new : World) (command : Command) (refusal : Refusal) → Untouched old new → new.picked ≡ []
     → (refused_by refusal ≢ Err (by_cause Memory) → IsPlanned strategy (client_of old) (FanOut command) [] (Err refusal)) → CallMade strategy old new (FanOut command) (Err refusal)
 fan_not_sent strategy old new command refusal u picks why =
-    not_sent strategy old new (FanOut command) refusal refl u
+    not_sent strategy old new (FanOut command) refusal refl u picks
     (λ m. let p = why m in (
       subst (λ ps. plan (client_of old) ps (FanOut command) ≡ Err refusal) (sym picks) p.planned,
       subst (λ ps. ArePicks strategy (client_of old) (FanOut command) ps) (sym picks) p.picked,

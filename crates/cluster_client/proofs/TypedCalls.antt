@@ -100,8 +100,9 @@ module _ (strategy : Option Strategy) (old new : World) (call : StreamCall) (fit
       rw (plans_alike client picks) (read_alike (stream_answer call) (plan client picks query) (sent_refusal client faults task xs) (reply_of faults task xs) r e)
 
   -- the call was made, if its command was, and answers what the reply reads as
-  pub typed_made : (r : Result Tree Refusal) (a : Result Answer Refusal) → CallMade strategy old new query (value_answer r) → (a ≢ Err (by_cause Memory) → a ≡ read_by (stream_answer call) r) → CallMade strategy old new (OnStreams call) a
-  typed_made r a m is =
+  pub typed_made : (r : Result Tree Refusal) (a : Result Answer Refusal) → CallMade strategy old new query (value_answer r) → (a ≢ Err (by_cause Memory) → a ≡ read_by (stream_answer call) r)
+      → (a ≡ Err (by_cause Memory) → new.log ≡ [] → new.picked ≡ []) → CallMade strategy old new (OnStreams call) a
+  typed_made r a m is none =
       call_made strategy old new (OnStreams call) a (happened_alike m.happened)
       (λ had.
       let told = m.answered (had_memory (stream_answer call) r a is had) in
@@ -115,6 +116,7 @@ module _ (strategy : Option Strategy) (old new : World) (call : StreamCall) (fit
         flag = told.flag;
       })
       (λ e n. absurd (false≢true n))
+      none
 
 -- ---- the conversion
 
@@ -151,12 +153,12 @@ read_sentence_by key id streams options = rw (stream_keys_by key id streams, str
 
 -- memory was refused for the command
 pub unwritten : (strategy : Option Strategy) (old new : World) (call : StreamCall) → new ≡ with_log old [] [] → CallMade strategy old new (OnStreams call) (Err (by_cause Memory))
-unwritten strategy old new call e = not_begun strategy old new (OnStreams call) (relogged_untouched old new [] e)
+unwritten strategy old new call e = not_begun strategy old new (OnStreams call) (relogged_untouched old new [] e) (ap (λ (w : World). w.picked) e)
 
 -- a check before all others is not met
 pub refused_early : (strategy : Option Strategy) (old new : World) (call : StreamCall) (refusal : Refusal) → stream_refusal call ≡ Some refusal → new ≡ with_log old [] [] → CallMade strategy old new (OnStreams call) (Err refusal)
 refused_early strategy old new call refusal why e =
     let none : call_parts (client_of old) (OnStreams call) ≡ Err refusal = ap (λ o. unless_refused o (task_parts old.settings.read_only old.entries (one_command (plain_command (sentence call)) 0 None))) why in
     let picked : new.picked ≡ [] = ap (λ (w : World). w.picked) e in
-    not_sent strategy old new (OnStreams call) refusal refl (relogged_untouched old new [] e)
+    not_sent strategy old new (OnStreams call) refusal refl (relogged_untouched old new [] e) picked
     (λ m. (plan_unparted strategy (client_of old) (OnStreams call) new.picked refusal none, subst (λ ps. ArePicks strategy (client_of old) (OnStreams call) ps) (sym picked) (picks_unparted strategy (client_of old) (OnStreams call) refusal none)))

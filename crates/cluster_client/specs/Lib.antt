@@ -2,3 +2,4 @@ pub mod Whole
 pub mod Relinks
 pub mod Shown
 pub mod NodeRuns
+pub mod Ended

@@ -21,6 +21,7 @@ ghost use Rattle.cluster_calls.specs.Links.Orders.{command_call, routes_in_order
 ghost use Rattle.cluster_calls.specs.Links.PartRuns.{PartsMade};
 ghost use Rattle.cluster_calls.specs.Links.Places.{IsOpenAt};
 ghost use Rattle.cluster_steps.specs.Turns.{hop_to};
+ghost use Rattle.cluster_client.specs.Ended.{CommandEnded};
 ghost use Rattle.cluster_client.specs.Whole.{whole};
 ghost use Rattle.cluster_calls.specs.Links.Run.{with_log};
 ghost use Rattle.cluster_calls.specs.Links.World.{addresses_of, has_repeats, link_at, new_world, nodes, tree_result, tree_results};
@@ -40,9 +41,22 @@ use cluster_steps::route::{Parts, parts_of};
 use cluster_steps::slots::{slot_map_in, slots_request};
 use cluster_steps::turn::{Turn, turn_by};
 use resp_args::{Cmd, FromRedisValue, from_redis_value};
-use resp_core::{Cause, PushInfo, RedisError, Value};
+use resp_core::{Cause, ErrorKind, PushInfo, RedisError, Value};
 use resp_link::ConnectionLike;
 use std::alloc::{AllocError, Global};
+
+/// Whether memory was refused.
+fn lacks_memory(reply: &Result<Value, RedisError>) -> bool
+    ensures { (result ≡ true) ↔ (reply.now ≡ Err (by_cause Memory)) }
+{
+    match reply {
+        Ok(_) => false,
+        Err(e) => match e.kind() {
+            ErrorKind::Memory => true,
+            _ => false,
+        },
+    }
+}
 
 /// A client of a Redis Cluster over links that its maker hands in, one for each node.
 ///
@@ -156,6 +170,7 @@ impl<L: ConnectionLike + Drop> ClusterClient<L> {
         ensures happened { Happened (option_map (λ s. admits s.now) strategy.entry) (whole L.seen self.old) (whole L.seen self.new) (Query cmd.now number) }
         ensures answered { result ≢ Err (by_cause Memory)
             → ValueMade (option_map (λ s. admits s.now) strategy.entry) (whole L.seen self.old) (whole L.seen self.new) (Query cmd.now number) T.meaning T.convert result }
+        ensures unpicked { result ≡ Err (by_cause Memory) → (whole L.seen self.new).log ≡ [] → (whole L.seen self.new).picked ≡ [] }
     {
         let reply = self.reply_to(alloc, cmd, number, strategy)?;
         Ok(from_redis_value(alloc, reply)?)
@@ -186,9 +201,37 @@ impl<L: ConnectionLike + Drop> ClusterClient<L> {
         ensures { CallMade (option_map (λ s. admits s.now) strategy.entry) (whole L.seen self.old) (whole L.seen self.new)
             (command_call cmd.now (option_map (λ o. o.now) order.entry) number) (value_answer (tree_result view result)) }
     {
+        let reply = self.reply_with_picks(alloc, cmd, order, number, strategy);
+        self.unpick(&reply);
+        reply
+    }
+
+    /// The same; its picks are shown also where memory was refused before a request was written down.
+    fn reply_with_picks(
+        &mut self,
+        alloc: Global,
+        cmd: &Cmd,
+        order: Option<&[usize]>,
+        number: u64,
+        strategy: Option<&dyn ReadRoutingStrategy>,
+    ) -> Result<Value, RedisError>
+        ensures { CommandEnded (option_map (λ s. admits s.now) strategy.entry) (whole L.seen self.old) (whole L.seen self.new)
+            (command_call cmd.now (option_map (λ o. o.now) order.entry) number) (value_answer (tree_result view result)) }
+    {
         let Prepared { dispatches, split } = self.prepare(alloc, cmd, order, number, strategy)?;
         let replies = self.follow_all(alloc, dispatches)?;
         reply_of_parts(alloc, split, replies)
+    }
+
+    /// Forgets the picks where memory was refused before a request was written down.
+    fn unpick(&mut self, reply: &Result<Value, RedisError>)
+        ensures stays { whole L.seen self.new ≡ with_log (whole L.seen self.old) (whole L.seen self.old).log (addresses self.new.picked.items) }
+        ensures forgotten { reply.now ≡ Err (by_cause Memory) → (whole L.seen self.old).log ≡ [] → addresses self.new.picked.items ≡ [] }
+        ensures kept { (reply.now ≡ Err (by_cause Memory) → (whole L.seen self.old).log ≢ []) → addresses self.new.picked.items ≡ addresses self.old.picked.items }
+    {
+        if self.asked.is_empty() && lacks_memory(reply) {
+            self.picked = Vec::new(*self.picked.allocator());
+        }
     }
 
     /// What is done for a command before its first byte: its parts, where each of them goes first, and
@@ -297,7 +340,8 @@ impl<L: ConnectionLike + Drop> ClusterClient<L> {
     }
 
     /// What the strategy answered in the last call, for one part after another, up to and with one to
-    /// whose node no usable link leads; none where there was no strategy or it was not asked.
+    /// whose node no usable link leads; none where there was no strategy or it was not asked, and none
+    /// where memory was refused before a request was written down.
     pub fn picked(&self) -> &[NodeAddress]
         ensures { addresses result.now ≡ (whole L.seen self.now).picked }
     {

@@ -38,6 +38,7 @@ pub use cluster_routing::SlotRange;
 pub use cluster_routing::SlotRangeMap;
 pub use cluster_routing::SlotRangeValues;
 pub use cluster_routing::SlotRanges;
+pub use cluster_routing::SplitParts;
 pub use cluster_routing::parse_slots;
 pub use cluster_routing::slot_cmd;
 pub use cluster_steps::asked::Asked;

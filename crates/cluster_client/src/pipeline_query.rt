@@ -5,7 +5,6 @@ ghost use Rattle.resp_core.specs.Errors.{by_cause};
 ghost use Rattle.resp_core.specs.View.{view};
 ghost use Rattle.resp_core.specs.declared.errors.redis_error.Cause.TheVariants.{Memory};
 ghost use Rattle.cluster_routing.specs.Choice.{Strategy};
-ghost use Rattle.cluster_routing.specs.Seen.{addresses};
 ghost use Rattle.cluster_calls.specs.Calls.Call.{Pipeline};
 ghost use Rattle.cluster_calls.specs.Links.Converted.{ValueMade, value_answer};
 ghost use Rattle.cluster_steps.specs.Dispatches.{IsPlaced, IsPlanned, dispatches_of};
@@ -37,21 +36,15 @@ impl<L: ConnectionLike + Drop> ClusterClient<L> {
         alloc: Global,
         commands: &[PipelineCommand],
     ) -> Result<Vec<Dispatch>, RedisError>
-        ensures stays { whole L.seen self.new ≡ with_log (whole L.seen self.old) [] (addresses self.new.picked.items) }
-        ensures planned { result ≢ Err (by_cause Memory) → (strategy : Option Strategy) → IsPlanned strategy (client_of (whole L.seen self.old)) (Pipeline commands.now) (addresses self.new.picked.items) (dispatches_of result) }
+        ensures stays { whole L.seen self.new ≡ with_log (whole L.seen self.old) [] [] }
+        ensures planned { result ≢ Err (by_cause Memory) → (strategy : Option Strategy) → IsPlanned strategy (client_of (whole L.seen self.old)) (Pipeline commands.now) [] (dispatches_of result) }
         ensures placed { IfOk result (λ v. AllByRecursion (IsPlaced (nodes L.seen self.new.links.nodes.items)) v.items) }
     {
         self.asked = Vec::new(alloc);
         self.picked = Vec::new(alloc);
         let parts = pipeline_parts(alloc, commands)?;
-        dispatches(
-            &self.links,
-            alloc,
-            &self.slots,
-            parts,
-            None,
-            &mut self.picked,
-        )
+        let mut picked = Vec::new(alloc);
+        dispatches(&self.links, alloc, &self.slots, parts, None, &mut picked)
     }
 
     /// The replies to requests that go out over one link in one write.
@@ -144,6 +137,7 @@ impl ClusterPipeline {
         ensures happened { (strategy : Option Strategy) → Happened strategy (whole L.seen client.old) (whole L.seen client.new) (Pipeline self.now) }
         ensures answered { result ≢ Err (by_cause Memory) → (strategy : Option Strategy)
             → ValueMade strategy (whole L.seen client.old) (whole L.seen client.new) (Pipeline self.now) T.meaning T.convert result }
+        ensures unpicked { result ≡ Err (by_cause Memory) → (whole L.seen client.new).log ≡ [] → (whole L.seen client.new).picked ≡ [] }
     {
         let reply = client.reply_to_pipeline(alloc, self.commands())?;
         Ok(from_redis_value(alloc, reply)?)

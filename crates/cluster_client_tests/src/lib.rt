@@ -8,6 +8,8 @@ mod clients;
 #[cfg(test)]
 mod links;
 #[cfg(test)]
+mod memory;
+#[cfg(test)]
 mod pipelines;
 #[cfg(test)]
 mod reads;

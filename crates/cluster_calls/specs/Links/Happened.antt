@@ -79,8 +79,10 @@ pub record Played (old new : World) (call : Call) (taken : Address → List Tree
 
 -- ---- a call
 
+-- No picks are shown where memory was refused before a request was written down.
 pub record CallMade (strategy : Option Strategy) (old new : World) (call : Call) (answer : Result Answer Refusal) : Type 0 where
   pub happened : Happened strategy old new call
   pub answered : answer ≢ Err (by_cause Memory) → Answered strategy old new call happened.events answer
   pub played : answer ≢ Err (by_cause Memory) → Played old new call (taken_of happened.events) answer
   pub memory : answer ≡ Err (by_cause Memory) → is_refresh call ≡ true → LeavesMap old new
+  pub unpicked : answer ≡ Err (by_cause Memory) → new.log ≡ [] → new.picked ≡ []

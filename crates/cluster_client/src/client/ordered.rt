@@ -1,5 +1,5 @@
 //! Commands whose parts are sent in an order that the caller gives.
-ghost use Rattle.std.specs.Prelude.{◌≡◌, ◌≢◌, Err, option_map};
+ghost use Rattle.std.specs.Prelude.{◌≡◌, ◌≢◌, [], Err, option_map};
 ghost use Rattle.resp_core.specs.Errors.{by_cause};
 ghost use Rattle.resp_core.specs.declared.errors.redis_error.Cause.TheVariants.{Memory};
 ghost use Rattle.cluster_calls.specs.Calls.Call.{Ordered};
@@ -41,6 +41,7 @@ impl<L: ConnectionLike + Drop> ClusterClient<L> {
         ensures happened { Happened (option_map (λ s. admits s.now) strategy.entry) (whole L.seen self.old) (whole L.seen self.new) (Ordered cmd.now order.now number) }
         ensures answered { result ≢ Err (by_cause Memory)
             → ValueMade (option_map (λ s. admits s.now) strategy.entry) (whole L.seen self.old) (whole L.seen self.new) (Ordered cmd.now order.now number) T.meaning T.convert result }
+        ensures unpicked { result ≡ Err (by_cause Memory) → (whole L.seen self.new).log ≡ [] → (whole L.seen self.new).picked ≡ [] }
     {
         let reply = self.reply_in_order(alloc, cmd, Some(order), number, strategy)?;
         Ok(from_redis_value(alloc, reply)?)

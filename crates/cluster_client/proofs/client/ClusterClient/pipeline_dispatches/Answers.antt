@@ -1,18 +1,17 @@
-use Rattle.std.proofs.Common.{◌≡◌, ◌≢◌, map, sym, ap, Ok, Err}
+use Rattle.std.proofs.Common.{◌≡◌, ◌≢◌, refl, map, sym, ap, Ok, Err}
 use Rattle.std.proofs.lemmas.Result.{err_from_is_err_and}
-use Rattle.cluster_routing.specs.Seen.{addresses}
 use Rattle.cluster_steps.specs.FirstPlaces.{part_of}
 use Rattle.cluster_calls.specs.Links.Happened.{client_of}
 use Rattle.cluster_client.specs.Whole.{whole}
-use Rattle.cluster_client.proofs.PipeParts.{pipeline_planned, pipeline_unplanned}
+use Rattle.cluster_client.proofs.PipeParts.{pipeline_unplanned, planned_unpicked}
 use Rattle.cluster_client.proofs.client.ClusterClient.pipeline_dispatches.Goals as goal
 
 pub returns-in_err-parts-clause-planned : goal.returns-in_err-parts-clause-planned
 returns-in_err-parts-clause-planned g c =
     let p = err_from_is_err_and c.from_residual.result c.from_residual.ensures.1 in
-    rw (p.1, p.2) (λ m strategy. pipeline_unplanned strategy _ _ _ _ (sym (c.in_err-parts.ensures (λ k. m (cc k)))) (ap addresses c.new-2.ensures.items))
+    rw (p.1, p.2) (λ m strategy. pipeline_unplanned strategy _ _ _ _ (sym (c.in_err-parts.ensures (λ k. m (cc k)))) refl)
 
 pub returns-clause-planned : goal.returns-clause-planned
 returns-clause-planned g c m strategy =
     let world = whole g.L.ConnectionLike.seen c.args.self.now in
-    pipeline_planned strategy (client_of world) c.args.commands.now _ _ _ (sym (c.in_ok-parts.ensures (λ k. cc k))) (c.dispatches.ensures.dispatched m world.settings)
+    planned_unpicked strategy (client_of world) c.args.commands.now _ _ _ (sym (c.in_ok-parts.ensures (λ k. cc k))) (c.dispatches.ensures.dispatched m world.settings)

@@ -12,7 +12,7 @@ returns-in_default-clause-made g c =
 pub returns-in_err-request-clause-made : goal.returns-in_err-request-clause-made
 returns-in_err-request-clause-made g c =
     let p = err_from_is_err_and c.from_residual.result c.from_residual.ensures.1 in
-    rw (p.1, p.2) (not_begun _ _ _ _ (record { nodes = refl; log = c.new.ensures.items; entries = refl; settings = refl; flag = refl }))
+    rw (p.1, p.2) (not_begun _ _ _ _ (record { nodes = refl; log = c.new.ensures.items; entries = refl; settings = refl; flag = refl }) (ap addresses c.new-2.ensures.items))
 
 pub returns-in_err-reply-clause-made : goal.returns-in_err-reply-clause-made
 returns-in_err-reply-clause-made g c =

@@ -1,6 +1,9 @@
-use Rattle.std.proofs.Common.{◌≡◌, refl, ap, Ok, Err}
+use Rattle.std.proofs.Common.{◌≡◌, refl, ap, None, Ok, Err}
 use Rattle.std.proofs.lemmas.Result.{err_from_is_err_and}
 use Rattle.resp_core.specs.View.{view}
+use Rattle.stream_commands.specs.Commands.{plain_command}
+use Rattle.cluster_calls.specs.Calls.Task.{sentence}
+use Rattle.cluster_calls.proofs.LinkLaws.Unpicked.{answered_unpicked}
 use Rattle.cluster_client.proofs.TypedCalls.{converted, typed_made, unconverted, unwritten}
 use Rattle.cluster_client.proofs.client.ClusterClient.reply_as.Goals as goal
 
@@ -8,18 +11,18 @@ pub returns-in_err-reply-in-Ok : goal.returns-in_err-reply-in-Ok
 returns-in_err-reply-in-Ok g c call shown fits written reads =
     let p = err_from_is_err_and c.from_residual.result c.from_residual.ensures.1 in
     let made = rw (rw c.in-Ok.is at written) at c.in_err-reply-in-Ok.ensures in
-    rw (p.1, p.2) (typed_made _ _ _ call fits (Err c.in_err-reply-in-Ok.field-0.0) _ made (λ had. refl))
+    rw (p.1, p.2) (typed_made _ _ _ call fits (Err c.in_err-reply-in-Ok.field-0.0) _ made (λ had. refl) made.unpicked)
 
 pub returns-in_err-from_redis_value-in-Ok : goal.returns-in_err-from_redis_value-in-Ok
 returns-in_err-from_redis_value-in-Ok g c call shown fits written reads =
     let p = err_from_is_err_and c.from_residual-in_err-from_redis_value-in-Ok.result c.from_residual-in_err-from_redis_value-in-Ok.ensures.1 in
     let made = rw (rw c.in-Ok.is at written) at c.in_ok-reply-in-Ok.ensures in
-    rw (p.1, p.2) (typed_made _ _ _ call fits (Ok (view c.in_ok-reply-in-Ok.reply)) _ made (unconverted g.T.FromRedisValue.meaning call g.T.FromRedisValue.convert shown (view c.in_ok-reply-in-Ok.reply) c.in_err-from_redis_value-in-Ok.field-0.0 reads c.in_err-from_redis_value-in-Ok.ensures))
+    rw (p.1, p.2) (typed_made _ _ _ call fits (Ok (view c.in_ok-reply-in-Ok.reply)) _ made (unconverted g.T.FromRedisValue.meaning call g.T.FromRedisValue.convert shown (view c.in_ok-reply-in-Ok.reply) c.in_err-from_redis_value-in-Ok.field-0.0 reads c.in_err-from_redis_value-in-Ok.ensures) (λ e. answered_unpicked _ _ _ _ (plain_command (sentence call)) 0 None refl _ made))
 
 pub returns-in_ok-from_redis_value-in-Ok : goal.returns-in_ok-from_redis_value-in-Ok
 returns-in_ok-from_redis_value-in-Ok g c call shown fits written reads =
     let made = rw (rw c.in-Ok.is at written) at c.in_ok-reply-in-Ok.ensures in
-    typed_made _ _ _ call fits (Ok (view c.in_ok-reply-in-Ok.reply)) _ made (λ had. converted call g.T.FromRedisValue.convert shown (view c.in_ok-reply-in-Ok.reply) _ reads c.in_ok-from_redis_value-in-Ok.ensures)
+    typed_made _ _ _ call fits (Ok (view c.in_ok-reply-in-Ok.reply)) _ made (λ had. converted call g.T.FromRedisValue.convert shown (view c.in_ok-reply-in-Ok.reply) _ reads c.in_ok-from_redis_value-in-Ok.ensures) (λ e. cc e)
 
 pub returns-in-Err : goal.returns-in-Err
 returns-in-Err g c call shown fits written reads =

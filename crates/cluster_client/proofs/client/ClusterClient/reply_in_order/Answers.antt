@@ -1,43 +1,10 @@
 use Rattle.std.specs.Prelude.{option_map}
-use Rattle.std.proofs.Common.{ℕ, List, Bor, ◌≡◌, ◌≢◌, ◌∙◌, refl, sym, ap, Err, Ok}
-use Rattle.std.proofs.lemmas.List.{length-map}
-use Rattle.std.proofs.lemmas.Result.{err_from_is_err_and}
-use Rattle.cluster_routing.specs.Split.{parts_by_place}
-use Rattle.cluster_calls.specs.Links.Happened.{client_of}
-use Rattle.cluster_calls.specs.Links.Orders.{command_call, routes_in_order}
-use Rattle.cluster_client.specs.Whole.{whole}
-use Rattle.cluster_calls.specs.Links.World.{World}
-use Rattle.cluster_steps.proofs.Dispatched.{command_plain, command_task, command_value}
-use Rattle.cluster_calls.proofs.LinkLaws.ManyParts.{as_many_replies, many_made}
-use Rattle.cluster_calls.proofs.LinkLaws.OneCommand.{not_sent, relogged_untouched}
+use Rattle.std.proofs.Common.{ℕ, List, Bor}
+use Rattle.cluster_client.proofs.Ending.{unpicked_made}
+use Rattle.cluster_steps.proofs.Dispatched.{command_plain}
 use Rattle.cluster_client.proofs.client.ClusterClient.reply_in_order.Goals as goal
-
-pub returns-in_err-dispatches : goal.returns-in_err-dispatches
-returns-in_err-dispatches g c =
-    let p = err_from_is_err_and c.from_residual.result c.from_residual.ensures.1 in
-    let told = c.in_err-dispatches.ensures in
-    let order = option_map (λ (o : Bor (List ℕ)). o.now) c.args.order in
-    rw (p.1, p.2) (not_sent _ _ _ _ _ (command_plain c.args.cmd.now order c.args.number) (relogged_untouched _ _ _ told.stays) (λ m. let planned = told.planned (λ k. m (cc k)) in (planned.planned, planned.picked)))
-
-pub returns-in_err-replies : goal.returns-in_err-replies
-returns-in_err-replies g c =
-    let p = err_from_is_err_and c.from_residual-in_err-replies.result c.from_residual-in_err-replies.ensures.1 in
-    let told = c.in_ok-dispatches.ensures in
-    let planned = told.planned (λ k. cc k) in
-    let made = rw told.stays at c.in_err-replies.ensures in
-    let order = option_map (λ (o : Bor (List ℕ)). o.now) c.args.order in
-    rw (p.1, p.2) (many_made _ _ _ (command_call c.args.cmd.now order c.args.number) c.args.cmd.now c.args.number order
-    (command_task c.args.cmd.now order c.args.number) (command_value c.args.cmd.now order c.args.number) (command_plain c.args.cmd.now order c.args.number) _ _ _ _ planned.planned planned.picked made refl)
 
 pub returns : goal.returns
 returns g c =
-    let world = whole g.L.ConnectionLike.seen c.args.self.now in
-    let told = c.in_ok-dispatches.ensures in
-    let planned = told.planned (λ k. cc k) in
-    let made = rw told.stays at c.in_ok-replies.ensures in
     let order = option_map (λ (o : Bor (List ℕ)). o.now) c.args.order in
-    let split = told.split ∙ ap (λ names. option_map (routes_in_order order) (parts_by_place c.args.cmd.now.args names)) (ap (λ (w : World). w.settings.read_only) told.stays) in
-    let count = sym (length-map _ _) ∙ as_many_replies _ _ _ _ made in
-    many_made _ _ _ (command_call c.args.cmd.now order c.args.number) c.args.cmd.now c.args.number order
-    (command_task c.args.cmd.now order c.args.number) (command_value c.args.cmd.now order c.args.number) (command_plain c.args.cmd.now order c.args.number) _ _ _ _ planned.planned planned.picked made
-    (c.reply_of_parts.ensures (client_of world) _ c.args.cmd.now order c.args.number _ planned.planned split count)
+    unpicked_made _ _ _ _ _ _ (command_plain c.args.cmd.now order c.args.number) c.reply_with_picks-reply.ensures c.unpick.ensures.stays c.unpick.ensures.forgotten c.unpick.ensures.kept

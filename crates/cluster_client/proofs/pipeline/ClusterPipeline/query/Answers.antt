@@ -1,4 +1,4 @@
-use Rattle.std.proofs.Common.{rules, ◌≡◌, ◌≢◌, ◌∙◌, refl, ap, Err, Ok}
+use Rattle.std.proofs.Common.{rules, ◌≡◌, ◌≢◌, ◌∙◌, refl, ap, Err, None, Ok}
 use Rattle.std.proofs.lemmas.Result.{err_from_is_err_and}
 use Rattle.resp_core.specs.View.{view}
 use Rattle.cluster_client.proofs.pipeline.ClusterPipeline.query.Goals as goal
@@ -24,3 +24,11 @@ returns-in_err-from_redis_value-clause-answered g c m strategy =
 pub returns-clause-answered : goal.returns-clause-answered
 returns-clause-answered g c m strategy =
     record { reply = Ok (view c.in_ok-reply.reply); made = rw c.commands.ensures at (c.in_ok-reply.ensures strategy); converted = search rules }
+
+pub returns-in_err-reply-clause-unpicked : goal.returns-in_err-reply-clause-unpicked
+returns-in_err-reply-clause-unpicked g c =
+    let p = err_from_is_err_and c.from_residual.result c.from_residual.ensures.1 in
+    rw (p.1, p.2) (rw c.commands.ensures at (c.in_err-reply.ensures None)).unpicked
+
+pub returns-in_err-from_redis_value-clause-unpicked : goal.returns-in_err-from_redis_value-clause-unpicked
+returns-in_err-from_redis_value-clause-unpicked g c e none = ((rw c.commands.ensures at (c.in_ok-reply.ensures None)).answered (λ k. cc k)).picks

@@ -1,0 +1,139 @@
+-- A call that has ended is made when its picks are forgotten, where memory was refused before a request was written down.
+use Rattle.std.proofs.Common.{◌≡◌, ◌≢◌, ℕ, false, List, [], Option, Some, None, refl, sym, ap, ◌∙◌, subst, Result, Ok, Err}
+use Rattle.std.proofs.lemmas.Bool.{false≢true}
+use Rattle.resp_core.specs.Errors.{Refusal, by_cause, by_server, at_position, by_servers, kind_by, kind_of, named_kind, server_kind}
+use Rattle.resp_core.specs.View.{view}
+use Rattle.resp_core.specs.declared.value.Value.{Value as CodeValue}
+use Rattle.resp_core.specs.declared.errors.redis_error.Cause.{Cause}
+use Rattle.resp_core.specs.declared.errors.redis_error.Cause.TheVariants as causes
+use Rattle.resp_core.specs.declared.errors.redis_error.Cause.TheVariants.{Memory}
+use Rattle.resp_core.specs.declared.errors.redis_error.ErrorKind.TheVariants as kinds
+use Rattle.resp_core.specs.declared.errors.server_error.ServerErrorKind.{ServerErrorKind}
+use Rattle.cluster_routing.specs.Choice.{Strategy}
+use Rattle.cluster_calls.specs.Calls.Answer.{Value, answer_in, answer_of}
+use Rattle.cluster_calls.specs.Calls.Call.{Call}
+use Rattle.cluster_calls.specs.Calls.Picks.{ArePicks}
+use Rattle.cluster_calls.specs.Calls.Plan.{Client, Dispatch, plan}
+use Rattle.cluster_calls.specs.Calls.Task.{one_command, task_of}
+use Rattle.cluster_calls.specs.Links.PartRuns.{IsMadeOfParts, PartsMade}
+use Rattle.cluster_steps.specs.Dispatches.{IsPlanned}
+use Rattle.resp_args.specs.Command.{Command}
+use Rattle.resp_args.specs.Packed.{sent}
+use Rattle.cluster_routing.specs.Address.{Address}
+use Rattle.resp_core.specs.Trees.{Tree}
+use Rattle.cluster_calls.proofs.LinkLaws.ManyParts as parts
+use Rattle.cluster_calls.specs.Links.Converted.{value_answer}
+use Rattle.cluster_calls.specs.Calls.Legal.{IsLegalCall}
+use Rattle.cluster_calls.specs.Links.Events.{Runs, exchanges_of}
+use Rattle.cluster_calls.specs.Links.Happened.{BeginsLegal, CallMade, Happened, client_of, is_refresh}
+use Rattle.cluster_calls.specs.Links.Run.{with_log}
+use Rattle.cluster_calls.specs.Links.World.{World, tree_result}
+use Rattle.cluster_calls.proofs.LinkLaws.OneCommand.{Untouched, nothing_happened, refused_by, unsent_answered}
+use Rattle.cluster_calls.proofs.LinkLaws.Played.{call_made}
+use Rattle.cluster_client.specs.Ended.{CommandEnded}
+
+-- ---- want of memory, by its kind
+
+memory_by : (cause : Cause) → kind_by cause ≡ kinds.Memory → cause ≡ causes.Memory
+memory_by causes.Memory e = refl
+memory_by causes.UnreadableAddress e = cc
+memory_by causes.RepeatedAddress e = cc
+memory_by causes.SettingOutOfRange e = cc
+memory_by causes.NoResponse e = cc
+memory_by causes.NoRoute e = cc
+memory_by causes.CursorInSplit e = cc
+memory_by causes.BrokenTuples e = cc
+memory_by causes.BadOrder e = cc
+memory_by causes.NoNode e = cc
+memory_by causes.NoLink e = cc
+memory_by causes.NoKeys e = cc
+memory_by causes.SeveralSlots e = cc
+memory_by causes.BadGroupName e = cc
+memory_by causes.Io e = cc
+memory_by causes.Parse e = cc
+memory_by causes.UnexpectedReturnType e = cc
+memory_by causes.ClaimsIdsAlone e = cc
+
+no_server_kind : (o : Option ServerErrorKind) (e : Refusal) → named_kind o ≡ kinds.Memory → e ≡ by_cause causes.Memory
+no_server_kind (Some kind) e k = cc
+no_server_kind None e k = cc
+
+pub memory_kind : (e : Refusal) → kind_of e ≡ kinds.Memory → e ≡ by_cause causes.Memory
+memory_kind (by_cause cause) k = ap by_cause (memory_by cause k)
+memory_kind (by_server error) k = no_server_kind (server_kind error.code) (by_server error) k
+memory_kind (at_position position) k = cc
+memory_kind (by_servers first more) k = no_server_kind (server_kind first.1.code) (by_servers first more) k
+
+-- ---- nothing was sent
+
+pub unsent_ended : (strategy : Option Strategy) (old new : World) (call : Call) (refusal : Refusal) → is_refresh call ≡ false → Untouched old new
+    → (refused_by refusal ≢ Err (by_cause Memory) → (plan (client_of old) new.picked call ≡ Err refusal) × ArePicks strategy (client_of old) call new.picked) → CommandEnded strategy old new call (Err refusal)
+unsent_ended strategy old new call refusal n u why = record { happened = nothing_happened strategy old new call u; answered = unsent_answered strategy old new call refusal n u why }
+
+-- a plan by no picks, where the picks are none
+pub planned_with : (strategy : Option Strategy) (client : Client) (call : Call) (refusal : Refusal) (picks none : List Address) → picks ≡ none → IsPlanned strategy client call none (Err refusal) → (plan client picks call ≡ Err refusal) × ArePicks strategy client call picks
+planned_with strategy client call refusal picks none same p = (
+  subst (λ ps. plan client ps call ≡ Err refusal) (sym same) p.planned,
+  subst (λ ps. ArePicks strategy client call ps) (sym same) p.picked,
+)
+
+-- ---- its parts were sent
+
+module _ (strategy : Option Strategy) (old new : World) (call : Call) (command : Command) (number : ℕ) (order : Option (List ℕ)) (task : task_of call ≡ one_command command number order)
+    (value : (tree : Tree) → answer_in call tree ≡ Some (Value tree)) (plain : is_refresh call ≡ false) (ds : List Dispatch) (picks : List Address) (result : Result (List Tree) Refusal) (reply : Result Tree Refusal)
+    (planned : plan (client_of old) picks call ≡ Ok ds) (picked : ArePicks strategy (client_of old) call picks)
+    (m : PartsMade (with_log old [] picks) new ds result) (made : IsMadeOfParts (sent command) ds result reply) where
+  pub command_ended : CommandEnded strategy old new call (value_answer reply)
+  command_ended = record {
+    happened = parts.happened strategy old new call command number order task value plain ds picks result reply planned picked m made;
+    answered = parts.many_answered strategy old new call command number order task value plain ds picks result reply planned picked m made;
+  }
+
+-- ---- the picks are forgotten
+
+value_memory : (r : Result CodeValue Refusal) → value_answer (tree_result view r) ≡ Err (by_cause Memory) → r ≡ Err (by_cause Memory)
+value_memory (Ok value) e = cc
+value_memory (Err refusal) e = let same : refusal ≡ by_cause Memory = cc in ap (λ k. Err k) same
+
+memory_value : (r : Result CodeValue Refusal) → r ≡ Err (by_cause Memory) → value_answer (tree_result view r) ≡ Err (by_cause Memory)
+memory_value r e = ap (λ k. value_answer (tree_result view k)) e
+
+module _ (strategy : Option Strategy) (old mid new : World) (call : Call) (r : Result CodeValue Refusal) (plain : is_refresh call ≡ false) (m : CommandEnded strategy old mid call (value_answer (tree_result view r)))
+    (stays : new ≡ with_log mid mid.log new.picked) (forgotten : r ≡ Err (by_cause Memory) → mid.log ≡ [] → new.picked ≡ []) (kept : (r ≡ Err (by_cause Memory) → mid.log ≢ []) → new.picked ≡ mid.picked) where
+  same_log : new.log ≡ mid.log
+  same_log = ap (λ (w : World). w.log) stays
+
+  kept_sent : new.log ≢ [] → new.picked ≡ mid.picked
+  kept_sent some = kept (λ e none. some (same_log ∙ none))
+
+  abbrev happened : Happened strategy old new call
+  happened = record {
+    events = m.happened.events;
+    runs = subst (λ ns. Runs old.nodes ns m.happened.events) (sym (ap (λ (w : World). w.nodes) stays)) m.happened.runs;
+    stops = m.happened.stops;
+    logged = same_log ∙ m.happened.logged;
+    calls = m.happened.calls;
+    picks = λ some. subst (λ ps. ArePicks strategy (client_of old) call ps) (sym (kept_sent some)) (m.happened.picks (λ none. some (same_log ∙ none)));
+    begins = λ some place. subst (λ ps. BeginsLegal (client_of old) ps call (exchanges_of place m.happened.events)) (sym (kept_sent some)) (m.happened.begins (λ none. some (same_log ∙ none)) place);
+    settings = ap (λ (w : World). w.settings) stays ∙ m.happened.settings;
+    map_stays = λ n. ap (λ (w : World). w.entries) stays ∙ m.happened.map_stays n;
+    flag = λ n. ap (λ (w : World). w.needs_refresh) stays ∙ m.happened.flag n;
+  }
+
+  pub unpicked_made : CallMade strategy old new call (value_answer (tree_result view r))
+  unpicked_made =
+      call_made strategy old new call (value_answer (tree_result view r)) happened
+      (λ had.
+      let a = m.answered had in
+      let same = kept (λ e none. had (memory_value r e)) in
+      record {
+        memory = a.memory;
+        logged = same_log ∙ a.logged;
+        picks = subst (λ ps. ArePicks strategy (client_of old) call ps) (sym same) a.picks;
+        legal = λ place. subst (λ ps. IsLegalCall (client_of old) ps call (exchanges_of place m.happened.events)) (sym same) (a.legal place);
+        answered = λ faults agrees place. subst (λ ps. value_answer (tree_result view r) ≡ answer_of (client_of old) ps faults call (exchanges_of place m.happened.events)) (sym same) (a.answered faults agrees place);
+        entries = λ place. ap (λ (w : World). w.entries) stays ∙ a.entries place;
+        flag = λ place. ap (λ (w : World). w.needs_refresh) stays ∙ a.flag place;
+      })
+      (λ e n. absurd (false≢true (sym plain ∙ n)))
+      (λ e none. forgotten (value_memory r e) (sym same_log ∙ none))
