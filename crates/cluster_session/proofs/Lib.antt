@@ -1,4 +1,5 @@
 mod Distinct
+mod OneText
 mod Pieces
 mod Runs
 mod Scripts

@@ -1,18 +1,19 @@
 -- A run of a session's calls, from what was seen of it.
-use Rattle.std.proofs.Common.{◌≡◌, ◌∙◌, ℕ, true, List, [], None, ap, map, subst}
+use Rattle.std.proofs.Common.{◌≡◌, ◌∙◌, ℕ, true, false, List, [], None, ap, map, subst}
 use Rattle.cluster_calls.specs.Calls.Call.{Call}
 use Rattle.cluster_calls.specs.Links.Play.{Plays, Shown}
-use Rattle.cluster_calls.specs.Links.World.{World, Node, new_world}
+use Rattle.cluster_calls.specs.Links.World.{World, Node, new_world, addresses_of, has_repeats}
 use Rattle.cluster_session.specs.PrintedRun.{PrintsRun, run_text}
 use Rattle.cluster_session.specs.Session.{Session, node_at_start, start}
 
 pub run_of : (session : Session) (all : List Node) (budget : ℕ) (first after : World) (calls : List Call) (shown : List Shown) (output : List ℕ)
-    → first ≡ new_world all (record { budget = budget; read_only = session.read_only }) → all ≡ map node_at_start session.nodes
+    → first ≡ new_world all (record { budget = budget; read_only = session.read_only }) → all ≡ map node_at_start session.nodes → has_repeats (addresses_of all) ≡ false
     → budget ≡ session.budget → calls ≡ session.calls → Plays None first after calls [] shown true → output ≡ run_text shown after.nodes
     → PrintsRun session output
-run_of session all budget first after calls shown output begins linked limit same plays text = record {
+run_of session all budget first after calls shown output begins linked once limit same plays text = record {
   after = after;
   shown = shown;
+  distinct = subst (λ ns. has_repeats (addresses_of ns) ≡ false) linked once;
   plays = subst (λ cs. Plays None (start session) after cs [] shown true) same (subst (λ w. Plays None w after calls [] shown true) started plays);
   text = text;
 }

@@ -1,5 +1,6 @@
 -- What is seen of a link over bytes in memory.
-use Rattle.std.proofs.Common.{true, map, drop, Some}
+use Rattle.std.proofs.Common.{map, drop, Some}
+use Rattle.resp_core.specs.Promise.{refuses_at}
 use Rattle.resp_core.specs.Standing.{waiting}
 use Rattle.resp_core.specs.View.{push_view}
 use Rattle.resp_link.specs.Call.{Seen}
@@ -13,8 +14,8 @@ link_seen l = record {
   left = Some (drop l.reader.at l.reader.bytes.items);
   held = waiting l.parser;
   pushes = map push_view l.pushes.items;
-  counts = record { refused = l.reader.refused; empty = l.reader.empty; reads = l.reader.reads };
-  refused = l.writer.refused;
-  flushed = true;
+  counts = record { promise = refuses_at l.reader.refused_at; refused = l.reader.refused; empty = l.reader.empty; reads = l.reader.reads };
+  write_counts = record { promise = refuses_at l.writer.refused_at; writes = l.writer.writes; refused = l.writer.refused; no_room = l.writer.no_room };
+  flushed = l.writer.flushed;
   usable = l.usable;
 }

@@ -9,3 +9,5 @@ pub mod PrintedRun
 pub mod Script
 pub mod ScriptRead
 pub mod Session
+pub mod Streams
+pub mod OneText

@@ -1,7 +1,10 @@
 -- A session as plain data: what is set up for each node, and the calls.
 -- Source: the session language is this repository's own (docs/SESSIONS.md).
 use Rattle.std.specs.Prelude.{ℕ, true, List, [], map, Some}
+use Rattle.resp_core.specs.Counts.{no_reads}
+use Rattle.resp_core.specs.Promise.{refuses_at}
 use Rattle.resp_link.specs.Call.{Seen}
+use Rattle.resp_link.specs.Counts.{no_writes}
 use Rattle.cluster_routing.specs.Address.{Address}
 use Rattle.cluster_calls.specs.Calls.Call.{Call}
 use Rattle.cluster_calls.specs.Links.World.{World, Node, new_world}
@@ -24,15 +27,16 @@ pub record Session : Type 0 where
 
 -- ---- the client before the first call
 
--- an open link: nothing was sent, and all the bytes are still to come
+-- An open link: nothing was sent, and all the bytes are still to come. It refuses the read and the write that are to fail, and no
+-- other.
 abbrev pub link_at_start : Setup → Seen
 link_at_start setup = record {
   sent = Some [];
   left = Some setup.bytes;
   held = [];
   pushes = [];
-  counts = record { refused = 0; empty = 0; reads = 0 };
-  refused = 0;
+  counts = no_reads (refuses_at setup.failing_read);
+  write_counts = no_writes (refuses_at setup.failing_write);
   flushed = true;
   usable = true;
 }

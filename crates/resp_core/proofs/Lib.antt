@@ -8,6 +8,7 @@ pub mod LineReads
 pub mod Groups
 pub mod Fronts
 pub mod GivenReads
+pub mod Promises
 pub mod Readings
 pub mod ReadingEnds
 pub mod Pairs

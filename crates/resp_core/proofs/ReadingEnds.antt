@@ -7,7 +7,7 @@ use Rattle.resp_core.specs.Trees.{Tree}
 use Rattle.resp_core.specs.Counts.{counted, CountsRead}
 use Rattle.resp_core.specs.Standing.{BeginsWith, BeginsFaulty, BeginsUnfinished}
 use Rattle.resp_core.specs.Incoming.{Reading, Takes, IsSound, ReadsWhile, Awaits, Lacks, Reads, Seeks, Stops, Meets}
-use Rattle.resp_core.proofs.Readings.{Consumes-none, Takes-none, Takes-append, ReadsWhile-append, Seeks-none, Stops-behind}
+use Rattle.resp_core.proofs.Readings.{Consumes-none, Takes-none, Takes-append, ReadsWhile-append, Seeks-none, Stops-behind, IsSound-append}
 
 -- while no value is taken, what is awaited is the bytes themselves
 awaits_all : (bytes : List ℕ) → BeginsUnfinished 100 bytes → Awaits [] bytes
@@ -31,6 +31,7 @@ taken a t rest b = record {
   joins = append-nil a.held ∙ b.2;
   room = omega arith;
   reads = λ _. refl;
+  promise = refl;
 }
 
 -- a value that is held whole behind what was read for it
@@ -51,19 +52,19 @@ still {b = b} p more awaits = subst (λ (x : List ℕ). Awaits [] (x ++ (b.held 
 pub Seeks-on : {a b c : Reading} → Seeks a b [] → Seeks b c [] → Seeks a c []
 Seeks-on {a} {b} {c} p q = record {
   takes = Takes-append p.takes q.takes;
-  sound = record { refused = q.sound.refused ∙ p.sound.refused; empty = q.sound.empty ∙ p.sound.empty };
+  sound = IsSound-append p.takes.promise p.sound q.sound;
   needed = ReadsWhile-append (Awaits []) (Awaits []) (Awaits []) a b c p.takes q.takes.got (λ bytes awaits. awaits) (still p.takes) p.needed q.needed;
 }
 
 pub Stops-on : {a b c : Reading} → Seeks a b [] → Stops b c [] → Stops a c []
-Stops-on p q = Stops-behind p.takes p.sound q
+Stops-on p q = Stops-behind p.takes p.sound (Seeks-on p) q
 
 pub Meets-fault : {a b : Reading} → Seeks a b [] → BeginsFaulty 100 b.held → Meets a b []
 Meets-fault p b = record { seeks = p; faulty = b }
 
 -- no further read was allowed
 pub Stops-bound : (a : Reading) → BeginsUnfinished 100 a.held → a.allowed ≡ 0 → Stops a a []
-Stops-bound a u e = record { takes = Takes-none a; unfinished = u; cause = inr (inr (record { refused = refl; empty = refl }, e)) }
+Stops-bound a u e = record { takes = Takes-none a; unfinished = u; cause = inr (inr (Seeks-none a, e)) }
 
 not_empty : (n : ℕ) (old new : ℕ) (rest : Bool) → (n ≡ 0 → ⊥) → new ≡ (if (n == 0) && rest then counted old else old) → new ≡ old
 not_empty n old new rest some e = elim (eqb_tells n 0) [ inl p ↦ absurd (some p.1) | inr p ↦ rw p.0 at e ]
@@ -81,8 +82,9 @@ Seeks-once a b buffer n u bytes counts joins some bound room allowed = record {
     joins = joins;
     room = omega (arith, length-take-le n buffer bound, room, allowed);
     reads = λ h. omega (arith, h, counts.reads, allowed);
+    promise = counts.promise;
   };
-  sound = record { refused = counts.refused; empty = not_empty n a.counts.empty b.counts.empty _ some counts.empty };
+  sound = record { refused = counts.refused; empty = not_empty n a.counts.empty b.counts.empty _ some counts.empty; kept = counts.kept };
   needed = inr (
     [],
     take n buffer,

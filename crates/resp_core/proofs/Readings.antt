@@ -5,8 +5,10 @@ use Rattle.std.proofs.lemmas.List.{append_cancel_left}
 use Rattle.std.proofs.Math.Nat.{le_trans, le_refl, add_assoc, add_comm, add-zero, add-le-add}
 use Rattle.std.specs.Io.KnownBytes.{Consumes}
 use Rattle.resp_core.specs.Trees.{Tree}
+use Rattle.resp_core.specs.Promise.{MayRefuse}
 use Rattle.resp_core.specs.Counts.{Counts, counted}
 use Rattle.resp_core.specs.Incoming.{Reading, SpelledInOrder, Takes, IsSound, ReadsWhile, BeginsInOrder, Lacks, Awaits, Reads, Seeks, Stops, Meets}
+use Rattle.resp_core.proofs.Promises.{RefusesNone-none, RefusesNone-append}
 use Rattle.resp_core.proofs.LawProofs.{one_value}
 use Rattle.resp_core.proofs.GivenReads.{given_in, given_both, allowed_both}
 
@@ -43,6 +45,7 @@ Takes-append {a} {b} {c} {ss} {ts} p q = record {
       ∙ ap (λ s. p.bytes ++ s) q.joins ∙ sym (append_assoc p.bytes q.bytes c.held);
   room = both_fit p.got q.got a.allowed b.allowed c.allowed p.room q.room;
   reads = λ h. q.reads (subst (λ k. k < 2 ^ 64 - 1) (sym (p.reads h)) h) ∙ p.reads h;
+  promise = q.promise ∙ p.promise;
 }
 
 -- what was so before the last read of the one or of the other
@@ -97,13 +100,20 @@ Lacks-behind ss ts bytes more p lacks rest h = lacks rest (BeginsInOrder-behind 
 pub Awaits-behind : (ss ts : List Tree) (bytes more : List ℕ) → SpelledInOrder 100 bytes ss → Awaits ts more → Awaits (ss ++ ts) (bytes ++ more)
 Awaits-behind ss ts bytes more p awaits rest h = awaits rest (BeginsInOrder-behind ss ts bytes more rest p h)
 
-IsSound-append : {a b c : Counts} → IsSound a b → IsSound b c → IsSound a c
-IsSound-append p q = record { refused = q.refused ∙ p.refused; empty = q.empty ∙ p.empty }
+pub IsSound-none : (a : Counts) → IsSound a a
+IsSound-none a = record { refused = refl; empty = refl; kept = RefusesNone-none a.promise a.reads }
+
+pub IsSound-append : {a b c : Counts} → b.promise ≡ a.promise → IsSound a b → IsSound b c → IsSound a c
+IsSound-append {a} {b} {c} e p q = record {
+  refused = q.refused ∙ p.refused;
+  empty = q.empty ∙ p.empty;
+  kept = RefusesNone-append a.promise b.promise a.reads b.reads c.reads e p.kept q.kept;
+}
 
 pub Reads-append : {a b c : Reading} {ss ts : List Tree} → Reads a b ss → Reads b c ts → Reads a c (ss ++ ts)
 Reads-append {a} {b} {c} {ss} {ts} p q = record {
   takes = Takes-append p.takes q.takes;
-  sound = IsSound-append p.sound q.sound;
+  sound = IsSound-append p.takes.promise p.sound q.sound;
   needed = ReadsWhile-append (Lacks ss) (Lacks ts) (Lacks (ss ++ ts)) a b c p.takes q.takes.got (Lacks-first ss ts) (λ more. Lacks-behind ss ts p.takes.bytes (b.held ++ more) p.takes.spells) p.needed q.needed;
 }
 
@@ -116,13 +126,14 @@ Takes-none a = record {
   joins = append-nil a.held;
   room = subst (λ k. k ≤ 4096 * a.allowed) (sym (add_comm 0 (4096 * a.allowed) ∙ add-zero (4096 * a.allowed))) (le_refl (4096 * a.allowed));
   reads = λ _. refl;
+  promise = refl;
 }
 
 pub Reads-none : (a : Reading) → Reads a a []
-Reads-none a = record { takes = Takes-none a; sound = record { refused = refl; empty = refl }; needed = inl (refl, refl, refl) }
+Reads-none a = record { takes = Takes-none a; sound = IsSound-none a.counts; needed = inl (refl, refl, refl) }
 
 pub Seeks-none : (a : Reading) → Seeks a a []
-Seeks-none a = record { takes = Takes-none a; sound = record { refused = refl; empty = refl }; needed = inl (refl, refl, refl) }
+Seeks-none a = record { takes = Takes-none a; sound = IsSound-none a.counts; needed = inl (refl, refl, refl) }
 
 -- what was read for the trees alone
 pub Reads-seek : {a b : Reading} {ts : List Tree} → Reads a b ts → Seeks a b ts
@@ -135,24 +146,29 @@ Reads-seek p = record {
 pub Seeks-after : {a b c : Reading} {ss ts : List Tree} → Reads a b ss → Seeks b c ts → Seeks a c (ss ++ ts)
 Seeks-after {a} {b} {c} {ss} {ts} p q = record {
   takes = Takes-append p.takes q.takes;
-  sound = IsSound-append p.sound q.sound;
+  sound = IsSound-append p.takes.promise p.sound q.sound;
   needed = ReadsWhile-append (Lacks ss) (Awaits ts) (Awaits (ss ++ ts)) a b c p.takes q.takes.got (λ bytes lacks rest h. absurd (Lacks-first ss ts bytes lacks rest h))
       (λ more. Awaits-behind ss ts p.takes.bytes (b.held ++ more) p.takes.spells) p.needed q.needed;
 }
 
-pub Stops-behind : {a b c : Reading} {ss ts : List Tree} → Takes a b ss → IsSound a.counts b.counts → Stops b c ts → Stops a c (ss ++ ts)
-Stops-behind p sound q = record {
+-- behind what was read before, whichever way further values are sought behind it
+pub Stops-behind : {a b c : Reading} {ss ts : List Tree} → Takes a b ss → IsSound a.counts b.counts → (Seeks b c ts → Seeks a c (ss ++ ts)) → Stops b c ts → Stops a c (ss ++ ts)
+Stops-behind {a} {b} {c} p sound seek q = record {
   takes = Takes-append p q.takes;
   unfinished = q.unfinished;
   cause = elim q.cause [
-    | inl e ↦ inl (e ∙ ap counted sound.refused)
-    | inr (inl e) ↦ inr (inl (e ∙ ap counted sound.empty))
-    | inr (inr e) ↦ inr (inr (IsSound-append sound e.0, e.1))
+    | inl e ↦ inl (e.0 ∙ ap counted sound.refused, subst (λ k. MayRefuse k c.counts.reads) p.promise e.1)
+    | inr (inl e) ↦ inr (inl (
+      e.0 ∙ ap counted sound.empty,
+      e.1,
+      RefusesNone-append a.counts.promise b.counts.promise a.counts.reads b.counts.reads c.counts.reads p.promise sound.kept e.2,
+    ))
+    | inr (inr e) ↦ inr (inr (seek e.0, e.1))
   ];
 }
 
 pub Stops-after : {a b c : Reading} {ss ts : List Tree} → Reads a b ss → Stops b c ts → Stops a c (ss ++ ts)
-Stops-after p q = Stops-behind p.takes p.sound q
+Stops-after p q = Stops-behind p.takes p.sound (Seeks-after p) q
 
 pub Meets-after : {a b c : Reading} {ss ts : List Tree} → Reads a b ss → Meets b c ts → Meets a c (ss ++ ts)
 Meets-after p q = record { seeks = Seeks-after p q.seeks; faulty = q.faulty }

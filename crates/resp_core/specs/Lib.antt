@@ -23,6 +23,7 @@ pub mod Room
 pub mod Condition
 pub mod Standing
 pub mod Advancing
+pub mod Promise
 pub mod Counts
 pub mod Incoming
 pub mod Examples

@@ -55,6 +55,7 @@ Reads-put_back {a} {b} ss t r =
           joins = r.takes.joins ∙ ap (λ x. x ++ b.held) apart.2 ∙ append_assoc apart.0 apart.1 b.held;
           room = r.takes.room;
           reads = r.takes.reads;
+          promise = r.takes.promise;
         };
         sound = r.sound;
         needed = elim r.needed [

@@ -115,3 +115,33 @@ fn a_link_hands_its_devices_back(rt: HostRuntime) {
     assert_eq!(rt; left, TEXT);
     assert_eq!(rt; written.as_slice(), b"ab".as_slice());
 }
+
+// A writer of std that takes all that it is given, and counts how often it is flushed.
+#[derive(Drop)]
+struct Flushed {
+    times: usize,
+}
+
+impl Write for Flushed {
+    fn write(&mut self, buf: &[u8]) -> std::io::Result<usize> {
+        Ok(buf.len())
+    }
+
+    fn flush(&mut self) -> std::io::Result<()> {
+        self.times = self.times.saturating_add(1);
+        Ok(())
+    }
+}
+
+// No clause ties the wrapper's flush to that of its writer: each call of the link is one flush there,
+// so that nothing waits in a writer that keeps what it is given.
+#[test]
+fn each_call_flushes_the_writer_of_std(rt: HostRuntime) {
+    let alloc = rt.alloc();
+    let writer = FromWrite::new(Flushed { times: 0 });
+    let mut link = ByteLink::new(alloc, FromRead::new(TEXT), writer);
+    assert!(rt; link.req_packed_commands(alloc, b"ab", 0, 0).is_ok());
+    assert!(rt; link.req_packed_commands(alloc, b"c", 0, 0).is_ok());
+    let (_reader, writer) = link.into_parts();
+    assert_eq!(rt; writer.into_inner().times, 2);
+}

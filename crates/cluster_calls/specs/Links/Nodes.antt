@@ -5,7 +5,7 @@ use Rattle.resp_core.specs.Trees.{Tree}
 use Rattle.resp_core.specs.Errors.{Refusal}
 use Rattle.resp_core.specs.Incoming.{SpelledInOrder}
 use Rattle.resp_link.specs.Replies.{is_push}
-use Rattle.resp_link.specs.Call.{Seen}
+use Rattle.resp_link.specs.Call.{Seen, SamePromises}
 use Rattle.cluster_routing.specs.Address.{Address}
 use Rattle.cluster_routing.specs.Lists.{concat}
 use Rattle.cluster_calls.specs.Links.Request.{Request, bytes_of}
@@ -40,7 +40,7 @@ abbrev pub coming : Seen → Option (List ℕ)
 coming link = prepend_known link.held link.left
 
 -- These values came in over a link, and the pushes among them were set aside. Behind them some bytes are unread: on a link that is
--- still open those that it holds.
+-- still open those that it holds. What its devices promise stays.
 pub record Came (old new : Seen) (taken : List Tree) : Type 0 where
   pub bytes : List ℕ
   pub unread : List ℕ
@@ -48,6 +48,7 @@ pub record Came (old new : Seen) (taken : List Tree) : Type 0 where
   pub consumed : Consumes (coming old) (prepend_known unread new.left) bytes
   pub kept : new.usable ≡ true → unread ≡ new.held
   pub set_aside : new.pushes ≡ old.pushes ++ filter is_push taken
+  pub promises : SamePromises old new
 
 -- ---- one node
 

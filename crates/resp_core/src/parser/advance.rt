@@ -11,15 +11,16 @@ use crate::parser::stop::Stop;
 use crate::value::Value;
 
 impl Parser {
-    ghost use Rattle.std.specs.Prelude.{◌≡◌, ◌≤◌, ℕ};
+    ghost use Rattle.std.specs.Prelude.{◌≡◌, ◌≤◌, ℕ, length};
     ghost use Rattle.resp_core.specs.declared.parser.Head.TheVariants.{Fresh, Line, Bytes};
-    ghost use Rattle.resp_core.specs.Standing.{Looks};
+    ghost use Rattle.resp_core.specs.Standing.{Looks, KeepsNoMore, waiting};
     ghost use Rattle.resp_core.specs.Advancing.{Advances, Reaches, Keeps};
 
     /// Forgets what was handed out, once it is half of the buffer or more.
     #[tactic(auto, using(crate::proofs::Fronts::front_dropped))]
     pub(super) fn drop_front(&mut self)
-        ensures { Keeps self.old self.new }
+        ensures keeps { Keeps self.old self.new }
+        ensures half { self.new.front ≤ length (waiting self.new) }
     {
         let left = self.buffer.len() - self.front;
         if self.front >= left {
@@ -36,6 +37,7 @@ impl Parser {
         ensures reaches { Reaches levels result self.old self.new }
         ensures looks { Looks self.old self.new }
         ensures condition { self.new.condition ≡ self.old.condition }
+        ensures no_more { KeepsNoMore self.old self.new }
     {
         loop {
             if let Some(value) = self.advance(levels)? {
@@ -50,6 +52,7 @@ impl Parser {
         ensures advances { Advances levels result self.old self.new }
         ensures looks { Looks self.old self.new }
         ensures condition { self.new.condition ≡ self.old.condition }
+        ensures no_more { KeepsNoMore self.old self.new }
     {
         match self.head {
             Head::Fresh => self.begin(levels),
@@ -65,6 +68,7 @@ impl Parser {
         ensures advances { Advances levels result self.old self.new }
         ensures looks { Looks self.old self.new }
         ensures condition { self.new.condition ≡ self.old.condition }
+        ensures no_more { KeepsNoMore self.old self.new }
     {
         let start = self.front;
         if start == self.buffer.len() {
@@ -91,6 +95,7 @@ impl Parser {
         ensures advances { (levels : ℕ) → Advances levels result self.old self.new }
         ensures looks { Looks self.old self.new }
         ensures condition { self.new.condition ≡ self.old.condition }
+        ensures no_more { KeepsNoMore self.old self.new }
     {
         let start = self.front;
         let searched = self.scanned - start;
@@ -126,6 +131,7 @@ impl Parser {
         ensures advances { (levels : ℕ) → Advances levels result self.old self.new }
         ensures looks { Looks self.old self.new }
         ensures condition { self.new.condition ≡ self.old.condition }
+        ensures no_more { KeepsNoMore self.old self.new }
     {
         let alloc = *self.buffer.allocator();
         let all = self.buffer.len();

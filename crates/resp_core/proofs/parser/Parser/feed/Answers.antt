@@ -23,7 +23,7 @@ pub returns-clause-ok : goal.returns-clause-ok
 returns-clause-ok c =
     let p = c.args.self.now in
     let q = c.drop_front.new.self in
-    let kept = c.drop_front.ensures in
+    let kept = c.drop_front.ensures.keeps in
     let piece = c.args.piece.now in
     on_ok_from c.extend_from_slice.result _ (λ ok bytes stands.
     let items : c.extend_from_slice.new.self.items ≡ q.buffer.items ++ piece = c.extend_from_slice.ensures.items ∙ ap (λ (b : Bool). if b then q.buffer.items ++ piece else q.buffer.items) ok in
@@ -35,7 +35,7 @@ pub returns-clause-err : goal.returns-clause-err
 returns-clause-err c =
     let p = c.args.self.now in
     let q = c.drop_front.new.self in
-    let kept = c.drop_front.ensures in
+    let kept = c.drop_front.ensures.keeps in
     let piece = c.args.piece.now in
     on_err_from c.extend_from_slice.result _ (λ err bytes stands.
     let items : c.extend_from_slice.new.self.items ≡ q.buffer.items = c.extend_from_slice.ensures.items ∙ ap (λ (b : Bool). if b then q.buffer.items ++ piece else q.buffer.items) err in
