@@ -1,3 +1,4 @@
 pub mod LinkLaws
 pub mod ServerLaws
 pub mod LogLaws
+pub mod MixedPlay

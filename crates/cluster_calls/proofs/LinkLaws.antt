@@ -27,3 +27,5 @@ pub mod OneRequest
 pub mod Refreshing
 pub mod Stretched
 pub mod FirstCalls
+pub mod ClosedNodes
+pub mod Unpicked

@@ -18,3 +18,6 @@ pub mod SentListsAre
 pub mod SentNoMore
 pub mod RefreshesOnce
 pub mod RefusedAsKind
+pub mod OneRun
+pub mod OneSpelling
+pub mod PromisedPlays

@@ -18,7 +18,9 @@ pub mod InPlace
 pub mod Runs
 pub mod AmongOthers
 pub mod Alone
+pub mod OneCall
 pub mod Unsplit
 pub mod Determined
 pub mod Agreeing
 pub mod AnyOrder
+pub mod Claim

@@ -18,3 +18,5 @@ pub mod Stretches
 pub mod SentLists
 pub mod Resending
 pub mod RefusedPlays
+pub mod ClosedLinks
+pub mod PromisedPlays

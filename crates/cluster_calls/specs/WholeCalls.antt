@@ -9,9 +9,16 @@ pub mod Checks
 pub mod WrongRules
 pub mod KeyRuns
 pub mod WrongServers
+pub mod TurnsOnSlots
 pub mod RunsAmongOthers
+pub mod OthersBetweenCalls
+pub mod OthersInPipelines
+pub mod WrongOthers
+pub mod WrongMoves
 pub mod WrongCounts
 pub mod WrongRuns
 pub mod MixedRun
 pub mod WrongPlays
 pub mod SentAgain
+pub mod MixedPlay
+pub mod ClosedLinks

@@ -1,23 +1,31 @@
 //! Laws of every call of a cluster client, over plain data.
 ghost use Rattle.cluster_routing.specs.CombineLaws.{OrderOfParts, OrderOfReplies, PartsAreRouted, SubsRouteToTheirSlot};
 ghost use Rattle.cluster_calls.specs.Links.Leaves.{UnaskedNodesStay};
+ghost use Rattle.cluster_calls.specs.OneServer.AmongOthers.{AnswersAmongOthers, UnsplitRunsStay};
 ghost use Rattle.cluster_calls.specs.OneServer.Bounds.{CallsAreBounded, PlaysAreBounded};
+ghost use Rattle.cluster_calls.specs.OneServer.ClosedLinks.{ClosedLinksChangeNothing};
 ghost use Rattle.cluster_calls.specs.OneServer.Headline.{AnswersAndKeyspace, Refusals};
 ghost use Rattle.cluster_calls.specs.OneServer.Laws.{HistoriesAreBySlot, EachPartIsAnsweredOnce, GapsNameNoKey, NodesKeepHistories, NodesOnceAscending, OneServerIsDetermined, OnlyRedirectsRepeat, PartsKeepHistories, RequestsAreBounded, RunsAgree};
-ghost use Rattle.cluster_calls.specs.OneServer.OneCall.{OneCallAsOnOneServer, RepliesDetermineLogs};
+ghost use Rattle.cluster_calls.specs.OneServer.OneCall.{OneCallAmongOthers, OneCallAsOnOneServer, RepliesDetermineLogs};
 ghost use Rattle.cluster_calls.specs.OneServer.Played.{PlayedAsOnOneServer};
+ghost use Rattle.cluster_calls.specs.OneServer.PlayedAmongOthers.{PlayedAmongOthers};
+ghost use Rattle.cluster_calls.specs.OneServer.PromisedPlays.{PromisedPlays};
 ghost use Rattle.cluster_calls.specs.OneServer.RefusedPlays.{PlaysAreRefused};
 ghost use Rattle.cluster_calls.specs.OneServer.Resending.{NoneIsSentAgain, PartsHaveTheirOwnSlots, PipelinesSendOnce, RefreshesSendOnce};
 ghost use Rattle.cluster_calls.specs.OneServer.RespelledPlays.{RespelledPlays};
 ghost use Rattle.cluster_calls.specs.OneServer.Respelling.{RespelledRuns};
 ghost use Rattle.cluster_calls.specs.OneServer.SentLists.{NoOtherLists};
 ghost use Rattle.cluster_calls.specs.OneServer.Stretches.{RunsHaveStretches};
-ghost use Rattle.cluster_calls.specs.OneServer.PlayedAmongOthers.{PlayedAmongOthers};
-ghost use Rattle.cluster_calls.specs.OneServer.AmongOthers.{AnswersAmongOthers, UnsplitRunsStay};
+ghost use Rattle.cluster_calls.specs.WholeCalls.MixedPlay.{FourArePlayedWhole};
 
 /// A call leaves the links of all nodes that its log does not name, also where memory is refused.
 pub fn unasked_nodes_stay()
     ensures { UnaskedNodesStay }
+{}
+
+/// A call does with a node whose link is closed what it does without it.
+pub fn closed_links_change_nothing()
+    ensures { ClosedLinksChangeNothing }
 {}
 
 /// A list of steps is a history exactly if it is one at each slot.
@@ -50,6 +58,12 @@ pub fn answers_among_others()
 /// Where no command is split and no call is a pipeline, all steps stay in their order, others' too.
 pub fn unsplit_runs_stay()
     ensures { UnsplitRunsStay }
+{}
+
+/// What `refresh` and `query` ensure makes each of their calls, made over honest nodes, as good as
+/// its command on one server, whatever others do before it, meanwhile, and behind it.
+pub fn one_call_among_others()
+    ensures { OneCallAmongOthers }
 {}
 
 /// What `refresh` and `query` ensure makes each of their calls, played over honest nodes, as good as
@@ -161,6 +175,12 @@ pub fn each_part_is_answered_once()
     ensures { EachPartIsAnsweredOnce }
 {}
 
+/// A run with a redirect, a split command of which a part is refused, a pipeline over two nodes and a
+/// lost request is played over an honest cluster, and is as on one server.
+pub fn four_are_played_whole()
+    ensures { FourArePlayedWhole }
+{}
+
 /// Replies to reads of streams that are spelled in another shape change nothing of a run.
 pub fn respelled_runs()
     ensures { RespelledRuns }
@@ -189,4 +209,10 @@ pub fn parts_are_routed()
 /// The command of a part routes to the part's slot, with the role of the whole command.
 pub fn subs_route_to_their_slot()
     ensures { SubsRouteToTheirSlot }
+{}
+
+/// Two plays of the same calls from one client over devices that promise to refuse none show the same,
+/// and send each node the same bytes.
+pub fn promised_plays()
+    ensures { PromisedPlays }
 {}

@@ -32,6 +32,7 @@ with_strategy strategy other old new call answer same m =
     call_made other old new call answer happened
     (λ had. let a = m.answered had in record { memory = a.memory; logged = a.logged; picks = same a.picks; legal = a.legal; answered = a.answered; entries = a.entries; flag = a.flag })
     m.memory
+    m.unpicked
 
 -- a refresh has no picks
 no_picks : (strategy : Option Strategy) (client : Client) (node : Address) → ArePicks strategy client (Refresh node) []

@@ -6,7 +6,7 @@ use Rattle.std.proofs.lemmas.List.Elements.{filter-append}
 use Rattle.resp_core.specs.Trees.{Tree}
 use Rattle.resp_core.specs.Incoming.{Reading, Takes, SpelledInOrder}
 use Rattle.resp_link.specs.Replies.{is_push}
-use Rattle.resp_link.specs.Call.{Seen}
+use Rattle.resp_link.specs.Call.{Seen, SamePromises}
 use Rattle.cluster_calls.specs.Links.Request.{Request, outgoing, bytes_of}
 use Rattle.cluster_routing.specs.Lists.{concat}
 use Rattle.cluster_calls.specs.Links.Nodes.{Came, coming, IsSentFor}
@@ -44,20 +44,21 @@ SpelledInOrder-append xs ys (v ∷ vs) ws p q =
     (p.0, p.1 ++ ys, ap (λ s. s ++ ys) p.2 ∙ append_assoc p.0 p.1 ys, p.3, SpelledInOrder-append p.1 ys vs ws p.4 q)
 
 -- nothing was taken, and what was held is unread
-pub Came-none : (a b : Seen) → b.left ≡ a.left → b.pushes ≡ a.pushes → (b.usable ≡ true → a.held ≡ b.held) → Came a b []
-Came-none a b l p k = record {
+pub Came-none : (a b : Seen) → b.left ≡ a.left → b.pushes ≡ a.pushes → (b.usable ≡ true → a.held ≡ b.held) → SamePromises a b → Came a b []
+Came-none a b l p k same = record {
   bytes = [];
   unread = a.held;
   spells = refl;
   consumed = subst (λ left. Consumes (coming a) (prepend_known a.held left) []) (sym l) (Consumes-same (coming a));
   kept = k;
   set_aside = p ∙ sym (append-nil a.pushes);
+  promises = same;
 }
 
 -- a reading of a link, whatever is unread behind it
 pub came : (a b : Seen) (r r' : Reading) (values : List Tree) → Takes r r' values → r.left ≡ a.left → r.held ≡ a.held → r'.left ≡ b.left
-    → (b.usable ≡ true → r'.held ≡ b.held) → b.pushes ≡ a.pushes ++ filter is_push values → Came a b values
-came a b r r' values t l h l' k p = record {
+    → (b.usable ≡ true → r'.held ≡ b.held) → b.pushes ≡ a.pushes ++ filter is_push values → SamePromises a b → Came a b values
+came a b r r' values t l h l' k p same = record {
   bytes = t.bytes;
   unread = r'.held;
   spells = t.spells;
@@ -67,6 +68,7 @@ came a b r r' values t l h l' k p = record {
       subst (λ left. Consumes (coming a) (prepend_known r'.held left) t.bytes) l' (subst (λ k. Consumes k (prepend_known r'.held r'.left) t.bytes) e1 c);
   kept = k;
   set_aside = p;
+  promises = same;
 }
 
 pub Came-append : (a b c : Seen) (vs ws : List Tree) → b.usable ≡ true → Came a b vs → Came b c ws → Came a c (vs ++ ws)
@@ -79,6 +81,7 @@ Came-append a b c vs ws u p q = record {
       Consumes-append (coming a) (coming b) (prepend_known q.unread c.left) p.bytes q.bytes first q.consumed;
   kept = q.kept;
   set_aside = rw filter-append (q.set_aside ∙ ap (λ x. x ++ filter is_push ws) p.set_aside ∙ append_assoc a.pushes (filter is_push vs) (filter is_push ws));
+  promises = (q.promises.0 ∙ p.promises.0, q.promises.1 ∙ p.promises.1);
 }
 
 -- ---- what was sent

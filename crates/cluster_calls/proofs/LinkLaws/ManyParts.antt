@@ -15,8 +15,8 @@ use Rattle.cluster_routing.specs.Policies.{or_bad_reply}
 use Rattle.cluster_calls.specs.Links.Log.{Exchange, is_answered, behind_answers}
 use Rattle.cluster_calls.specs.Links.World.{World}
 use Rattle.cluster_calls.specs.Links.Faults.{LinkFault}
-use Rattle.cluster_calls.specs.Links.Events.{exchanges_of, faults_of}
-use Rattle.cluster_calls.specs.Links.Happened.{client_of, is_refresh, Happened, CallMade}
+use Rattle.cluster_calls.specs.Links.Events.{log_of, exchanges_of, faults_of}
+use Rattle.cluster_calls.specs.Links.Happened.{client_of, is_refresh, Answered, Happened, CallMade}
 use Rattle.cluster_calls.specs.Links.Run.{with_log}
 use Rattle.cluster_calls.specs.Links.Converted.{value_answer}
 use Rattle.cluster_calls.specs.Links.PartRuns.{ArePartResults, PartsMade, replies_with_slots, IsMadeOfParts}
@@ -31,7 +31,6 @@ use Rattle.cluster_calls.specs.Calls.Answer.{Value, answer_in, unless}
 use Rattle.cluster_calls.proofs.LinkLaws.FaultsAgree.{agrees}
 use Rattle.cluster_calls.proofs.LinkLaws.LinkCalls.{AreLinkCalls, link_calls_made}
 use Rattle.cluster_calls.proofs.LinkLaws.MovedLaws.{answered_plain}
-use Rattle.cluster_calls.proofs.LinkLaws.Played.{call_made}
 
 -- ---- the parts' replies
 
@@ -94,16 +93,16 @@ module _ (strategy : Option Strategy) (old new : World) (call : Call) (command :
   plans : plan (client_of old) new.picked call ≡ Ok ds
   plans = subst (λ ps. plan (client_of old) ps call ≡ Ok ds) (sym m.picked) planned
 
-  are : ArePicks strategy (client_of old) call new.picked
+  pub are : ArePicks strategy (client_of old) call new.picked
   are = subst (λ ps. ArePicks strategy (client_of old) call ps) (sym m.picked) picked
 
-  legal : (xs : List Exchange) → PartByPart (client_of old) ds xs → IsLegalCall (client_of old) new.picked call xs
+  pub legal : (xs : List Exchange) → PartByPart (client_of old) ds xs → IsLegalCall (client_of old) new.picked call xs
   legal xs parts = rw (plans, task) parts
 
-  singles : AreLinkCalls (task_of call) m.events
+  pub singles : AreLinkCalls (task_of call) m.events
   singles = subst (λ t. AreLinkCalls t m.events) (sym task) m.single
 
-  abbrev happened : Happened strategy old new call
+  abbrev pub happened : Happened strategy old new call
   happened = record {
     events = m.events;
     runs = m.runs;
@@ -117,14 +116,11 @@ module _ (strategy : Option Strategy) (old new : World) (call : Call) (command :
     flag = λ n. m.flag;
   }
 
-  -- the call was made
-  pub many_made : CallMade strategy old new call (value_answer reply)
-  many_made =
-      call_made strategy old new call (value_answer reply) happened
-      (λ had.
+  -- what is answered, unless memory was refused
+  pub many_answered : value_answer reply ≢ Err (by_cause Memory) → Answered strategy old new call m.events (value_answer reply)
+  many_answered had =
       let there : reply ≢ Err (by_cause Memory) = λ e. had (ap value_answer e) in
       let a = m.answered (parts_had (sent command) ds result reply made there) in
       answered_plain strategy old new call (value_answer reply) happened plain singles a.memory m.logged are
       (λ place. legal (exchanges_of place m.events) (a.parts place))
-      (λ faults agrees place. rw (plans, task) (told call value (sent command) (client_of old) faults ds (exchanges_of place m.events) result reply (a.tells faults agrees place) made there)))
-      (λ e n. absurd (false≢true (sym plain ∙ n)))
+      (λ faults agrees place. rw (plans, task) (told call value (sent command) (client_of old) faults ds (exchanges_of place m.events) result reply (a.tells faults agrees place) made there))

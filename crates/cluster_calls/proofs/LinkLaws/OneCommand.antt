@@ -9,7 +9,7 @@ use Rattle.cluster_routing.specs.Choice.{Strategy}
 use Rattle.cluster_calls.specs.Links.Request.{Request}
 use Rattle.cluster_calls.specs.Links.World.{World}
 use Rattle.cluster_calls.specs.Links.Nodes.{link_calls}
-use Rattle.cluster_calls.specs.Links.Happened.{client_of, is_refresh, Happened, CallMade}
+use Rattle.cluster_calls.specs.Links.Happened.{client_of, is_refresh, Answered, Happened, CallMade}
 use Rattle.cluster_calls.specs.Links.Run.{with_log}
 use Rattle.cluster_calls.specs.Calls.Call.{Call}
 use Rattle.cluster_calls.specs.Calls.Task.{Task, slot_map_of, one_command, pipeline_of, several_nodes, task_of}
@@ -61,24 +61,29 @@ nothing_happened strategy old new call u = record {
 }
 
 -- memory was refused before anything was sent
-pub not_begun : (strategy : Option Strategy) (old new : World) (call : Call) → Untouched old new → CallMade strategy old new call (Err (by_cause Memory))
-not_begun strategy old new call u = call_made strategy old new call (Err (by_cause Memory)) (nothing_happened strategy old new call u) (λ m. absurd (m refl)) (λ e r. record { entries = u.entries; flag = u.flag })
+pub not_begun : (strategy : Option Strategy) (old new : World) (call : Call) → Untouched old new → new.picked ≡ [] → CallMade strategy old new call (Err (by_cause Memory))
+not_begun strategy old new call u none =
+    call_made strategy old new call (Err (by_cause Memory)) (nothing_happened strategy old new call u) (λ m. absurd (m refl)) (λ e r. record { entries = u.entries; flag = u.flag }) (λ e l. none)
 
 abbrev pub refused_by : Refusal → Result Answer Refusal
 refused_by e = Err e
 
--- a check before sending was not met, or memory was refused before anything was sent
-pub not_sent : (strategy : Option Strategy) (old new : World) (call : Call) (refusal : Refusal) → is_refresh call ≡ false → Untouched old new
-    → (refused_by refusal ≢ Err (by_cause Memory) → (plan (client_of old) new.picked call ≡ Err refusal) × ArePicks strategy (client_of old) call new.picked) → CallMade strategy old new call (Err refusal)
-not_sent strategy old new call refusal n u why =
-    let h = nothing_happened strategy old new call u in
-    call_made strategy old new call (Err refusal) h
-    (λ m. let told = why m in
-    answered_plain strategy old new call (Err refusal) h n (no_calls (task_of call)) refl u.log told.1 (λ place. rw told.0 refl) (λ faults agrees place. rw told.0 refl))
-    (λ e r. absurd (false≢true (sym n ∙ r)))
+-- what is answered where a check before sending was not met
+pub unsent_answered : (strategy : Option Strategy) (old new : World) (call : Call) (refusal : Refusal) → is_refresh call ≡ false → (u : Untouched old new)
+    → (refused_by refusal ≢ Err (by_cause Memory) → (plan (client_of old) new.picked call ≡ Err refusal) × ArePicks strategy (client_of old) call new.picked) → refused_by refusal ≢ Err (by_cause Memory)
+    → Answered strategy old new call [] (Err refusal)
+unsent_answered strategy old new call refusal n u why m =
+    let told = why m in
+    answered_plain strategy old new call (Err refusal) (nothing_happened strategy old new call u) n (no_calls (task_of call)) refl u.log told.1 (λ place. rw told.0 refl) (λ faults agrees place. rw told.0 refl)
   where
     no_calls : (task : Task) → AreLinkCalls task []
     no_calls (slot_map_of node) = tt
     no_calls (one_command command number order) = tt
     no_calls (pipeline_of entries) = tt
     no_calls (several_nodes command) = tt
+
+-- a check before sending was not met, or memory was refused before anything was sent
+pub not_sent : (strategy : Option Strategy) (old new : World) (call : Call) (refusal : Refusal) → is_refresh call ≡ false → Untouched old new → new.picked ≡ []
+    → (refused_by refusal ≢ Err (by_cause Memory) → (plan (client_of old) new.picked call ≡ Err refusal) × ArePicks strategy (client_of old) call new.picked) → CallMade strategy old new call (Err refusal)
+not_sent strategy old new call refusal n u none why =
+    call_made strategy old new call (Err refusal) (nothing_happened strategy old new call u) (unsent_answered strategy old new call refusal n u why) (λ e r. absurd (false≢true (sym n ∙ r))) (λ e l. none)

@@ -1,5 +1,5 @@
 -- A call that happened and answered is played as a reader sees it.
-use Rattle.std.proofs.Common.{◌≡◌, ◌≢◌, ℕ, true, List, sym, ap, ◌∙◌, subst, Option, Result, Err}
+use Rattle.std.proofs.Common.{◌≡◌, ◌≢◌, ℕ, true, List, [], sym, ap, ◌∙◌, subst, Option, Result, Err}
 use Rattle.resp_core.specs.Trees.{Tree}
 use Rattle.resp_core.specs.Errors.{Refusal, by_cause}
 use Rattle.resp_core.specs.declared.errors.redis_error.Cause.TheVariants.{Memory}
@@ -49,8 +49,9 @@ played strategy old new call answer h a =
 
 -- so code proves what happened and what was answered
 pub call_made : (strategy : Option Strategy) (old new : World) (call : Call) (answer : Result Answer Refusal) (h : Happened strategy old new call)
-    → (answer ≢ Err (by_cause Memory) → Answered strategy old new call h.events answer) → (answer ≡ Err (by_cause Memory) → is_refresh call ≡ true → LeavesMap old new) → CallMade strategy old new call answer
-call_made strategy old new call answer h a m = record { happened = h; answered = a; played = λ had. played strategy old new call answer h (a had); memory = m }
+    → (answer ≢ Err (by_cause Memory) → Answered strategy old new call h.events answer) → (answer ≡ Err (by_cause Memory) → is_refresh call ≡ true → LeavesMap old new)
+    → (answer ≡ Err (by_cause Memory) → new.log ≡ [] → new.picked ≡ []) → CallMade strategy old new call answer
+call_made strategy old new call answer h a m u = record { happened = h; answered = a; played = λ had. played strategy old new call answer h (a had); memory = m; unpicked = u }
 
 -- what the call leaves is the client behind its exchanges
 pub client_behind : (strategy : Option Strategy) (old new : World) (call : Call) (answer : Result Answer Refusal) (h : Happened strategy old new call) → Answered strategy old new call h.events answer → (place : ℕ)

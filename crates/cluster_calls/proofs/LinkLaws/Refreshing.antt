@@ -80,6 +80,7 @@ not_linked old new node shut u picks =
       flag = λ place. u.flag;
     })
     (λ e r. record { entries = u.entries; flag = u.flag })
+    (λ e l. picks)
 
 -- ---- one link call
 
@@ -125,6 +126,7 @@ module _ (old new : World) (node : Address) (linked : is_linked (open_links old.
         flag = λ place. rw (got, d) f;
       })
       (λ e k. cc e)
+      (λ e l. picks)
 
   -- the reply is or holds an error, or memory was refused behind it
   pub refresh_refused : (tree : Tree) (e : Refusal) → OneMade old.nodes new.nodes (slots_to node) (Ok tree) → (refused_by e ≢ Err (by_cause Memory) → (error : ErrorText) × (first_error tree ≡ Some error) × (e ≡ by_server error))
@@ -145,6 +147,7 @@ module _ (old new : World) (node : Address) (linked : is_linked (open_links old.
         flag = λ place. rw (got, d) f;
       })
       (λ k j. record { entries = r; flag = f })
+      (λ k l. picks)
 
   -- the link failed, or memory was refused in its call
   pub refresh_failed : (e : Refusal) → OneMade old.nodes new.nodes (slots_to node) (Err e) → new.entries ≡ old.entries → new.needs_refresh ≡ old.needs_refresh → CallMade None old new (Refresh node) (Err e)
@@ -164,6 +167,7 @@ module _ (old new : World) (node : Address) (linked : is_linked (open_links old.
         flag = λ place. rw got f;
       })
       (λ k j. record { entries = r; flag = f })
+      (λ k l. picks)
 
 -- ---- the same from what the code says of its exchange
 
@@ -181,7 +185,7 @@ module _ (old new : World) (node : Address) (which : ℕ) (at : IsOpenAt old.nod
   pub exchange_err : (e : Refusal) → Exchanged (Err e) → new.entries ≡ old.entries → new.needs_refresh ≡ old.needs_refresh → CallMade None old new (Refresh node) (Err e)
   exchange_err e x r f = elim (exchanged_one old.nodes new.nodes which before new.log (slots_to node) (Err e) at (asked (Err e) x)) as (λ _. CallMade None old new (Refresh node) (Err e)) [
     | inl same ↦ let memory : by_cause Memory ≡ e = cc (same.2) in
-        subst (λ k. CallMade None old new (Refresh node) (Err k)) memory (not_begun None old new (Refresh node) (record { nodes = same.0; log = same.1 ∙ none; entries = r; settings = settings; flag = f }))
+        subst (λ k. CallMade None old new (Refresh node) (Err k)) memory (not_begun None old new (Refresh node) (record { nodes = same.0; log = same.1 ∙ none; entries = r; settings = settings; flag = f }) picks)
     | inr made ↦ refresh_failed old new node at.linked (logged_one made.0) settings picks e made.1 r f
   ]
 

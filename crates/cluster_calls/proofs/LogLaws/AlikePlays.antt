@@ -49,7 +49,7 @@ shown_alike (t ∷ ts) (u ∷ us) l a =
 
 -- ---- no request is without its reply
 
-exchanges_then : (qs rs : List Request) (f : Address → List Tree) (place : ℕ) → exchanges f place (qs ++ rs) ≡ exchanges f place qs ++ exchanges (left_after_all f qs) (place + length qs) rs
+pub exchanges_then : (qs rs : List Request) (f : Address → List Tree) (place : ℕ) → exchanges f place (qs ++ rs) ≡ exchanges f place qs ++ exchanges (left_after_all f qs) (place + length qs) rs
 exchanges_then [] rs f place =
     let z : place ≡ place + 0 = omega arith in
     ap (λ p. exchanges f p rs) z

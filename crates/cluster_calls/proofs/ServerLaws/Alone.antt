@@ -185,8 +185,14 @@ served_alone meaning done ts keys keys' owns honest h = record {
   answers = all_answers meaning done ts h.served h.each;
 }
 
+-- what holds of a run whatever others do holds of it where they do nothing
+pub from_among_others : (meaning : Meaning) (done : ℕ → Bool) (ts : List RepliedCall) (keys keys' : Keyspace)
+    → ((calls : List CallTurns) → HonestAmongOthers meaning keys done ts calls [] keys' → AsOneServerAmongOthers meaning keys done ts calls [] keys')
+    → HonestRun meaning keys done (command_logs ts) keys' → AsOneServer meaning keys done ts keys'
+from_among_others meaning done ts keys keys' among honest =
+    let a = honest_alone meaning done ts keys keys' honest in served_alone meaning done ts keys keys' a.0 a.1 (among (map alone a.0) a.1)
+
 pub run_served : (strategy : Option Strategy) (faults : Address → LinkFault) (meaning : Meaning) (done : ℕ → Bool) (ts : List RepliedCall) (client : Client) (keys keys' : Keyspace) → GapsNameNoKey
     → AreOnSlots ts → IsPlayedFrom strategy client faults ts → HonestRun meaning keys done (command_logs ts) keys' → AsOneServer meaning keys done ts keys'
-run_served strategy faults meaning done ts client keys keys' gaps on h honest =
-    let a = honest_alone meaning done ts keys keys' honest in
-    served_alone meaning done ts keys keys' a.0 a.1 (served_among_others strategy faults meaning done ts client keys keys' gaps on h (map alone a.0) [] a.1)
+run_served strategy faults meaning done ts client keys keys' gaps on h =
+    from_among_others meaning done ts keys keys' (λ calls. served_among_others strategy faults meaning done ts client keys keys' gaps on h calls [])

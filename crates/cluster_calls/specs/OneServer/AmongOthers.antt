@@ -45,20 +45,25 @@ in_turn others (own ∷ owns) = map Other (concat (front others)) ++ (map Own ow
 abbrev pub turns_on : ℕ → List Turn → List Turn
 turns_on slot turns = filter (λ t. slot == (step_of t).slot) turns
 
--- what is done from one call to the end of the next: by others before it, by others while it is made, and by itself, list by list, where before
--- each list of its own stands the next of others'
+-- What is done from the end of one call to the end of the next: by others before it, by others while it is made, and by itself. Both are in lists
+-- then, and before each list of its own stands the next one of others'.
 pub record CallTurns : Type 0 where
   pub before : List Step
   pub during : List (List Step)
   pub own : List (List Step)
 
+-- all that is done while the call is made
+abbrev pub while_made : CallTurns → List Turn
+while_made c = in_turn c.during c.own
+
 abbrev pub call_turns : CallTurns → List Turn
-call_turns c = map Other c.before ++ in_turn c.during c.own
+call_turns c = map Other c.before ++ while_made c
 
 -- all of a run, and what others do behind it
 abbrev pub run_turns : List CallTurns → List Step → List Turn
 run_turns calls last = concat (map call_turns calls) ++ map Other last
 
+-- the turns lead from one keyspace to the other
 abbrev pub TurnsLead : Keyspace → List Turn → Keyspace → Type 0
 TurnsLead keys turns keys' = History keys (map step_of turns) keys'
 
@@ -70,14 +75,16 @@ AreItsRequests meaning done t c = Pairwise (Accounts meaning done) (task_log (ta
 
 -- The nodes did what they answered, in the order of the log, and in between what others asked for. That is all that is supposed of others.
 -- A request without an answer that was done late, behind its place in the log, may be taken for one of theirs, and `done` is false for it.
-pub record HonestAmongOthers (meaning : Meaning) (keys : Keyspace) (done : ℕ → Bool) (ts : List RepliedCall) (calls : List CallTurns) (last : List Step) (keys' : Keyspace) : Type 0 where
-  -- what was done for each call
+pub record HonestAmongOthers (meaning : Meaning) (keys : Keyspace) (done : ℕ → Bool) (ts : List RepliedCall)
+    (calls : List CallTurns) (last : List Step) (keys' : Keyspace) : Type 0 where
+  -- of each call its own lists are what its requests did
   pub requests : Pairwise (AreItsRequests meaning done) ts calls
   -- each step finds the cell that the steps before it left, whoever made them
   pub history : TurnsLead keys (run_turns calls last) keys'
 
 -- ---- one server
 
+-- all of these steps are on one slot
 abbrev pub are_on_one_slot : List Step → Bool
 are_on_one_slot [] = true
 are_on_one_slot (x ∷ xs) = list_all (λ (y : Step). x.slot == y.slot) xs
@@ -96,26 +103,34 @@ pub record IsServed (meaning : Meaning) (done : ℕ → Bool) (t : RepliedCall) 
   -- what others did before the call stays before it
   pub before : s.now.before ≡ s.was.before
   -- on each slot all stays as it was: the same steps, own and others', in the same order
-  pub same : (slot : ℕ) → turns_on slot (in_turn s.now.during s.now.own) ≡ turns_on slot (in_turn s.was.during s.was.own)
+  pub same : (slot : ℕ) → turns_on slot (while_made s.now) ≡ turns_on slot (while_made s.was)
   -- and where all own steps of the call are on one slot, as that of a command with one key is, all stays as it was
-  pub in_place : are_on_one_slot (concat s.was.own) ≡ true → in_turn s.now.during s.now.own ≡ in_turn s.was.during s.was.own
+  pub in_place : are_on_one_slot (concat s.was.own) ≡ true → while_made s.now ≡ while_made s.was
+
+-- what was done call by call on the nodes, and what is done on one server
+abbrev pub calls_were : List ServedCall → List CallTurns
+calls_were served = map (λ (s : ServedCall). s.was) served
+
+abbrev pub calls_now : List ServedCall → List CallTurns
+calls_now served = map (λ (s : ServedCall). s.now) served
 
 -- One server is given the operations that count, unsplit, one after another, and in between what others ask for. It may respond so, and
 -- it leaves these keys.
-pub record AsOneServerAmongOthers (meaning : Meaning) (keys : Keyspace) (done : ℕ → Bool) (ts : List RepliedCall) (calls : List CallTurns) (last : List Step) (keys' : Keyspace) : Type 0 where
+pub record AsOneServerAmongOthers (meaning : Meaning) (keys : Keyspace) (done : ℕ → Bool) (ts : List RepliedCall)
+    (calls : List CallTurns) (last : List Step) (keys' : Keyspace) : Type 0 where
   pub served : List ServedCall
-  -- they begin with what was
-  pub all : map (λ (s : ServedCall). s.was) served ≡ calls
-  -- each call has the answer that the responses say, and others' steps stay as `IsServed` says
+  -- these are all of the calls, as they were
+  pub all : calls_were served ≡ calls
+  -- each has the answer that the responses say, and others' steps stay as `IsServed` says
   pub each : Pairwise (IsServed meaning done) ts served
-  -- it is a history from and to the same keys
-  pub history : TurnsLead keys (run_turns (map (λ (s : ServedCall). s.now) served) last) keys'
+  -- all that is done now leads from and to the same keys
+  pub history : TurnsLead keys (run_turns (calls_now served) last) keys'
 
 -- over honest nodes a run is as good as one server, whatever others do in between
 abbrev pub AnswersAmongOthers : Type 0
 AnswersAmongOthers =
-    (strategy : Option Strategy) (client : Client) (faults : Address → LinkFault) (ts : List RepliedCall) (meaning : Meaning) (keys keys' : Keyspace) (done : ℕ → Bool)
-    (calls : List CallTurns) (last : List Step) → AreOnSlots ts → IsPlayedFrom strategy client faults ts
+    (strategy : Option Strategy) (client : Client) (faults : Address → LinkFault) (ts : List RepliedCall) (meaning : Meaning)
+    (keys keys' : Keyspace) (done : ℕ → Bool) (calls : List CallTurns) (last : List Step) → AreOnSlots ts → IsPlayedFrom strategy client faults ts
     → HonestAmongOthers meaning keys done ts calls last keys' → AsOneServerAmongOthers meaning keys done ts calls last keys'
 
 -- ---- where nothing is moved
@@ -134,7 +149,8 @@ is_unsplit call = is_unsplit_task (task_of call)
 -- what the nodes did.
 abbrev pub UnsplitRunsStay : Type 0
 UnsplitRunsStay =
-    (strategy : Option Strategy) (client : Client) (faults : Address → LinkFault) (ts : List RepliedCall) (meaning : Meaning) (keys keys' : Keyspace) (done : ℕ → Bool)
-    (calls : List CallTurns) (last : List Step) → AllByRecursion (λ (t : RepliedCall). is_unsplit t.call ≡ true) ts → IsPlayedFrom strategy client faults ts
+    (strategy : Option Strategy) (client : Client) (faults : Address → LinkFault) (ts : List RepliedCall) (meaning : Meaning)
+    (keys keys' : Keyspace) (done : ℕ → Bool) (calls : List CallTurns) (last : List Step)
+    → AllByRecursion (λ (t : RepliedCall). is_unsplit t.call ≡ true) ts → IsPlayedFrom strategy client faults ts
     → HonestAmongOthers meaning keys done ts calls last keys' → (one : AsOneServerAmongOthers meaning keys done ts calls last keys')
-    → run_turns (map (λ (s : ServedCall). s.now) one.served) last ≡ run_turns calls last
+    → run_turns (calls_now one.served) last ≡ run_turns calls last

@@ -67,7 +67,8 @@ pub record HonestCluster {strategy : Option Strategy} {old new : World} {calls :
   pub on_slots : AllByRecursion (λ call. is_on_slots call ≡ true) calls
   -- The nodes are honest. Each request that was answered with data was done once, as its command means, and its reply is what came of
   -- that. So was each that got no reply and that `done` names. No other request changed a key, and no one else did. So another client's
-  -- write breaks this, and so does a reply that was still to come when the run began and is read for another request.
+  -- write breaks this, and so does a reply that was still to come when the run began, where it is not what came of the request that it is
+  -- read for.
   pub honest : HonestRun meaning keys done (command_logs (replied played)) keys'
 
 -- The claim. Whatever the strategy, the client before and behind, the calls, and what was shown before and behind: where `play` keeps its

@@ -24,14 +24,16 @@ PartsHaveTheirOwnSlots = (client : Client) (picks : List Address) (call : Call) 
 -- Behind a request of a command whose reply is no redirect, or is lost, no other has its arguments again, whether the call is answered
 -- or not.
 abbrev pub NoneIsSentAgain : Type 0
-NoneIsSentAgain = (client : Client) (picks : List Address) (call : Call) (command : Command) (number : ℕ) (order : Option (List ℕ)) (before after : List Exchange) (x : Exchange)
+NoneIsSentAgain = (client : Client) (picks : List Address) (call : Call) (command : Command) (number : ℕ) (order : Option (List ℕ))
+    (before after : List Exchange) (x : Exchange)
     → task_of call ≡ one_command command number order → IsLegalCall client picks call (before ++ x ∷ after) → is_redirected x ≡ false
     → AllByRecursion (λ (y : Exchange). y.request.args ≢ x.request.args) after
 
 -- A pipeline sends its commands node by node, each once and as it is, from the first node on: those of all nodes where no link failed,
 -- so where it is answered.
 abbrev pub PipelinesSendOnce : Type 0
-PipelinesSendOnce = (client : Client) (picks : List Address) (faults : Address → LinkFault) (call : Call) (entries : List Entry) (ds : List Dispatch) (xs : List Exchange)
+PipelinesSendOnce = (client : Client) (picks : List Address) (faults : Address → LinkFault) (call : Call) (entries : List Entry)
+    (ds : List Dispatch) (xs : List Exchange)
     → task_of call ≡ pipeline_of entries → plan client picks call ≡ Ok ds → IsLegalCall client picks call xs
     → (asked left : List (List Dispatch)) × (node_groups ds ≡ asked ++ left) × (requests xs ≡ map direct (concat asked))
     × (list_any is_unanswered xs ≡ false → left ≡ []) × (sent_refusal client faults (task_of call) xs ≡ None → left ≡ [])

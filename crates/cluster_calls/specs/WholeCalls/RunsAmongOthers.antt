@@ -16,10 +16,11 @@ use Rattle.cluster_calls.specs.OneServer.Headline.{RepliedCall, with_replies}
 use Rattle.cluster_calls.specs.OneServer.Keyspace.{Keyspace, with_cell, Whole, PartOf, Step, History}
 use Rattle.cluster_calls.specs.OneServer.Meaning.{Meaning, DoOperation}
 use Rattle.cluster_calls.specs.OneServer.Operations.{RunCommand, Reply}
-use Rattle.cluster_calls.specs.OneServer.AmongOthers.{Turn, Own, Other, step_of, in_turn, turns_on, CallTurns, call_turns, run_turns, TurnsLead, AreItsRequests, HonestAmongOthers, are_on_one_slot, ServedCall, IsServed, AsOneServerAmongOthers}
+use Rattle.cluster_calls.specs.OneServer.AmongOthers.{Turn, Own, Other, step_of, in_turn, turns_on, CallTurns, call_turns, run_turns, TurnsLead, AreItsRequests, HonestAmongOthers, are_on_one_slot, ServedCall, IsServed, calls_were, calls_now, AsOneServerAmongOthers}
 use Rattle.cluster_calls.specs.WholeCalls.Base.{taken, plain, text}
 use Rattle.cluster_calls.specs.WholeCalls.KeyRuns.{get_a, get_b, slot_a, slot_b, does, sets_a, gets_a, meaning, none_done, put_again, answered, get_a_done, gets_a_allowed}
 use Rattle.cluster_calls.specs.WholeCalls.Splits.{mset_of}
+use Rattle.cluster_calls.specs.WholeCalls.TurnsOnSlots.{same_on_each}
 use Rattle.cluster_calls.specs.WholeCalls.WrongServers.{of_each, step_of as command_step, deed_byte, get_a_is_whole}
 
 abbrev pub nothing : Keyspace
@@ -56,14 +57,16 @@ behind_a_three own = record { before = sets_three ∷ []; during = []; own = own
 abbrev run_behind : List (List Step) → List Turn
 run_behind own = (in_turn [] own ++ []) ++ []
 
-pub a_get_cannot_miss_what_another_set : (own : List (List Step)) (keys' : Keyspace) → HonestAmongOthers meaning nothing none_done one_get (behind_a_three own ∷ []) [] keys' → ⊥
+pub a_get_cannot_miss_what_another_set : (own : List (List Step)) (keys' : Keyspace)
+    → HonestAmongOthers meaning nothing none_done one_get (behind_a_three own ∷ []) [] keys' → ⊥
 unfolding first_error
 a_get_cannot_miss_what_another_set own keys' h = by own h.requests h.history.1
   where
     none : AllByRecursion (λ (x : Step). x.deed ≡ Whole get_a → with_cell nothing slot_a (codes "3") x.slot ≡ x.before → ⊥) meaning
     none = (λ d e. cc, (λ d e. cc, (λ d e. false≢true (ap (λ q. deed_byte q == 97) d), tt)))
 
-    by : (ss : List (List Step)) → Pairwise (AreItsRequests meaning none_done) one_get (behind_a_three ss ∷ []) → History (with_cell nothing slot_a (codes "3")) (map step_of (run_behind ss)) keys' → ⊥
+    by : (ss : List (List Step)) → Pairwise (AreItsRequests meaning none_done) one_get (behind_a_three ss ∷ [])
+        → History (with_cell nothing slot_a (codes "3")) (map step_of (run_behind ss)) keys' → ⊥
     by [] a leads = absurd a.0
     by (s ∷ s2 ∷ ss) a leads = absurd a.0.1
     by (s ∷ []) a leads =
@@ -79,14 +82,16 @@ is_one (b ∷ bs) = b == 49
 pub and_no_server_would : (keys' : Keyspace) → AsOneServerAmongOthers meaning nothing none_done one_get (behind_a_three ((gets_a ∷ []) ∷ []) ∷ []) [] keys' → ⊥
 and_no_server_would keys' h = by h.served h.all h.each h.history
   where
-    by : (xs : List ServedCall) → map (λ (x : ServedCall). x.was) xs ≡ behind_a_three ((gets_a ∷ []) ∷ []) ∷ [] → Pairwise (IsServed meaning none_done) one_get xs
-        → TurnsLead nothing (run_turns (map (λ (x : ServedCall). x.now) xs) []) keys' → ⊥
+    by : (xs : List ServedCall) → calls_were xs ≡ behind_a_three ((gets_a ∷ []) ∷ []) ∷ []
+        → Pairwise (IsServed meaning none_done) one_get xs
+        → TurnsLead nothing (run_turns (calls_now xs) []) keys' → ⊥
     by [] e a leads = absurd a
     by (x ∷ x2 ∷ xs) e a leads = absurd a.1
     by (x ∷ []) e a leads =
         let is : x.was ≡ behind_a_three ((gets_a ∷ []) ∷ []) = cc in
         let place = a.0.in_place (ap (λ (c : CallTurns). are_on_one_slot (concat c.own)) is) in
-        let turns : call_turns x.now ≡ Other sets_three ∷ Own gets_a ∷ [] = ap (λ q. map Other q ++ in_turn x.now.during x.now.own) a.0.before ∙ ap (λ q. map Other x.was.before ++ q) place ∙ ap call_turns is in
+        let turns : call_turns x.now ≡ Other sets_three ∷ Own gets_a ∷ [] =
+        ap (λ q. map Other q ++ in_turn x.now.during x.now.own) a.0.before ∙ ap (λ q. map Other x.was.before ++ q) place ∙ ap call_turns is in
         let k = subst (λ q. History nothing (map step_of ((q ++ []) ++ [])) keys') turns leads in
         false≢true (ap is_one k.1.0)
 
@@ -109,7 +114,8 @@ abbrev pub finds_no_b : Step
 finds_no_b = does (Whole get_b) slot_b nil [] []
 
 abbrev pub one_mset : List RepliedCall
-one_mset = with_replies (taken (okay ∷ []) (okay ∷ [])) (answered mset_ab okay (plain n2 (mset_of (codes "a") (codes "1")) ∷ plain n1 (mset_of (codes "b") (codes "2")) ∷ []) ∷ [])
+one_mset = with_replies (taken (okay ∷ []) (okay ∷ []))
+    (answered mset_ab okay (plain n2 (mset_of (codes "a") (codes "1")) ∷ plain n1 (mset_of (codes "b") (codes "2")) ∷ []) ∷ [])
 
 abbrev pub puts : Meaning
 puts = puts_a ∷ puts_b ∷ []
@@ -155,39 +161,11 @@ others_may_look_within = record {
 abbrev pub looked_around : CallTurns
 looked_around = record { before = []; during = (finds_no_b ∷ []) ∷ (finds_a ∷ []) ∷ []; own = (puts_a ∷ puts_b ∷ []) ∷ [] }
 
--- a list of turns on a slot, turn by turn
-kept : (slot : ℕ) (t : Turn) (ts us : List Turn) → slot == (step_of t).slot ≡ true → turns_on slot ts ≡ us → turns_on slot (t ∷ ts) ≡ t ∷ us
-kept slot t ts us e h = ap (λ b. cond b (t ∷ turns_on slot ts) (turns_on slot ts)) e ∙ ap (λ q. t ∷ q) h
-
-left_out : (slot : ℕ) (t : Turn) (ts us : List Turn) → slot == (step_of t).slot ≡ false → turns_on slot ts ≡ us → turns_on slot (t ∷ ts) ≡ us
-left_out slot t ts us e h = ap (λ b. cond b (t ∷ turns_on slot ts) (turns_on slot ts)) e ∙ h
-
 abbrev around : List Turn
 around = Other finds_no_b ∷ Own puts_a ∷ Own puts_b ∷ Other finds_a ∷ []
 
 abbrev within : List Turn
 within = Own puts_a ∷ Other finds_a ∷ Other finds_no_b ∷ Own puts_b ∷ []
-
-same_turns : (slot : ℕ) → turns_on slot around ≡ turns_on slot within
-same_turns slot = by (slot == slot_a) refl (slot == slot_b) refl
-  where
-    by : (b : Bool) → slot == slot_a ≡ b → (c : Bool) → slot == slot_b ≡ c → turns_on slot around ≡ turns_on slot within
-    by true e true f = let two : slot_a ≡ slot_b = sym (eqb-true slot slot_a e) ∙ eqb-true slot slot_b f in absurd (false≢true (sym (ap (λ n. n == slot_a) two)))
-    by true e false f =
-        left_out slot (Other finds_no_b) (Own puts_a ∷ Own puts_b ∷ Other finds_a ∷ []) (Own puts_a ∷ Other finds_a ∷ []) f
-        (kept slot (Own puts_a) (Own puts_b ∷ Other finds_a ∷ []) (Other finds_a ∷ []) e (left_out slot (Own puts_b) (Other finds_a ∷ []) (Other finds_a ∷ []) f (kept slot (Other finds_a) [] [] e refl)))
-        ∙ sym (kept slot (Own puts_a) (Other finds_a ∷ Other finds_no_b ∷ Own puts_b ∷ []) (Other finds_a ∷ []) e
-        (kept slot (Other finds_a) (Other finds_no_b ∷ Own puts_b ∷ []) [] e (left_out slot (Other finds_no_b) (Own puts_b ∷ []) [] f (left_out slot (Own puts_b) [] [] f refl))))
-    by false e true f =
-        kept slot (Other finds_no_b) (Own puts_a ∷ Own puts_b ∷ Other finds_a ∷ []) (Own puts_b ∷ []) f
-        (left_out slot (Own puts_a) (Own puts_b ∷ Other finds_a ∷ []) (Own puts_b ∷ []) e (kept slot (Own puts_b) (Other finds_a ∷ []) [] f (left_out slot (Other finds_a) [] [] e refl)))
-        ∙ sym (left_out slot (Own puts_a) (Other finds_a ∷ Other finds_no_b ∷ Own puts_b ∷ []) (Other finds_no_b ∷ Own puts_b ∷ []) e
-        (left_out slot (Other finds_a) (Other finds_no_b ∷ Own puts_b ∷ []) (Other finds_no_b ∷ Own puts_b ∷ []) e (kept slot (Other finds_no_b) (Own puts_b ∷ []) (Own puts_b ∷ []) f (kept slot (Own puts_b) [] [] f refl))))
-    by false e false f =
-        left_out slot (Other finds_no_b) (Own puts_a ∷ Own puts_b ∷ Other finds_a ∷ []) [] f
-        (left_out slot (Own puts_a) (Own puts_b ∷ Other finds_a ∷ []) [] e (left_out slot (Own puts_b) (Other finds_a ∷ []) [] f (left_out slot (Other finds_a) [] [] e refl)))
-        ∙ sym (left_out slot (Own puts_a) (Other finds_a ∷ Other finds_no_b ∷ Own puts_b ∷ []) [] e
-        (left_out slot (Other finds_a) (Other finds_no_b ∷ Own puts_b ∷ []) [] e (left_out slot (Other finds_no_b) (Own puts_b ∷ []) [] f (left_out slot (Own puts_b) [] [] f refl))))
 
 pub they_look_around_on_one_server : AsOneServerAmongOthers puts nothing none_done one_mset (looked_within ∷ []) [] both_put
 unfolding destination rule_of table hash_slot splitting_of digits first_error
@@ -199,7 +177,7 @@ they_look_around_on_one_server = record {
       operations = ((mset_done, ((0, lit< tt, refl), ((1, lit< tt, refl), tt))), tt);
       answer = (okay, refl, refl);
       before = refl;
-      same = same_turns;
+      same = same_on_each (slot_a ∷ slot_b ∷ []) around within refl refl (refl, (refl, tt));
       in_place = λ one. absurd (false≢true one);
     },
     tt,
@@ -207,11 +185,15 @@ they_look_around_on_one_server = record {
   history = (refl, (refl, (refl, (refl, λ slot. ends slot))));
 }
   where
-    ends : (slot : ℕ) → with_cell (with_cell (with_cell (with_cell nothing slot_b []) slot_a (codes "1")) slot_b (codes "2")) slot_a (codes "1") slot ≡ both_put slot
+    ends : (slot : ℕ)
+        → with_cell (with_cell (with_cell (with_cell nothing slot_b []) slot_a (codes "1")) slot_b (codes "2")) slot_a (codes "1") slot ≡ both_put slot
     ends slot = by (slot == slot_a) refl (slot == slot_b) refl
       where
-        by : (c : Bool) → slot == slot_a ≡ c → (b : Bool) → slot == slot_b ≡ b → cond c (codes "1") (cond b (codes "2") (cond c (codes "1") (cond b [] []))) ≡ cond b (codes "2") (cond c (codes "1") [])
-        by true e true f = let two : slot_a ≡ slot_b = sym (eqb-true slot slot_a e) ∙ eqb-true slot slot_b f in absurd (false≢true (sym (ap (λ n. n == slot_a) two)))
+        by : (c : Bool) → slot == slot_a ≡ c → (b : Bool) → slot == slot_b ≡ b
+            → cond c (codes "1") (cond b (codes "2") (cond c (codes "1") (cond b [] []))) ≡ cond b (codes "2") (cond c (codes "1") [])
+        by true e true f =
+            let two : slot_a ≡ slot_b = sym (eqb-true slot slot_a e) ∙ eqb-true slot slot_b f in
+            absurd (false≢true (sym (ap (λ n. n == slot_a) two)))
         by true e false f = refl
         by false e true f = refl
         by false e false f = refl
@@ -220,7 +202,10 @@ they_look_around_on_one_server = record {
 -- half done. With both looks in their order around the whole command, some slot differs.
 pub no_order_keeps_both_looks : (front back : List Step) → front ++ back ≡ finds_a ∷ finds_no_b ∷ []
     → ((slot : ℕ) → turns_on slot (map Other front ++ (Own puts_a ∷ Own puts_b ∷ map Other back)) ≡ turns_on slot within) → ⊥
-no_order_keeps_both_looks [] back e same = let h : Own puts_b ∷ Other finds_no_b ∷ [] ≡ Other finds_no_b ∷ Own puts_b ∷ [] = ap (λ q. turns_on slot_b (Own puts_a ∷ Own puts_b ∷ map Other q)) (sym e) ∙ same slot_b in cc
+no_order_keeps_both_looks [] back e same =
+    let h : Own puts_b ∷ Other finds_no_b ∷ [] ≡ Other finds_no_b ∷ Own puts_b ∷ [] =
+    ap (λ q. turns_on slot_b (Own puts_a ∷ Own puts_b ∷ map Other q)) (sym e) ∙ same slot_b in
+    cc
 no_order_keeps_both_looks (x ∷ front) back e same =
     let is : x ≡ finds_a = cc in
     let h : Other finds_a ∷ turns_on slot_a (map Other front ++ (Own puts_a ∷ Own puts_b ∷ map Other back)) ≡ Own puts_a ∷ Other finds_a ∷ [] =
@@ -248,13 +233,22 @@ abbrev second_a : Step
 second_a = puts_at slot_a (codes "a" ∷ codes "2" ∷ []) (codes "1") (codes "2")
 
 pub they_cross : (keys' : Keyspace) × History nothing (first_a ∷ second_b ∷ first_b ∷ second_a ∷ []) keys'
-they_cross = (with_cell (with_cell (with_cell (with_cell nothing slot_a (codes "1")) slot_b (codes "2")) slot_b (codes "1")) slot_a (codes "2"), (refl, (refl, (refl, (refl, λ slot. refl)))))
+they_cross = (
+  with_cell (with_cell (with_cell (with_cell nothing slot_a (codes "1")) slot_b (codes "2")) slot_b (codes "1")) slot_a (codes "2"),
+  (refl, (refl, (refl, (refl, λ slot. refl)))),
+)
 
 pub the_first_is_as_if_at_once : (keys' : Keyspace) × History nothing (second_b ∷ first_a ∷ first_b ∷ second_a ∷ []) keys'
-the_first_is_as_if_at_once = (with_cell (with_cell (with_cell (with_cell nothing slot_b (codes "2")) slot_a (codes "1")) slot_b (codes "1")) slot_a (codes "2"), (refl, (refl, (refl, (refl, λ slot. refl)))))
+the_first_is_as_if_at_once = (
+  with_cell (with_cell (with_cell (with_cell nothing slot_b (codes "2")) slot_a (codes "1")) slot_b (codes "1")) slot_a (codes "2"),
+  (refl, (refl, (refl, (refl, λ slot. refl)))),
+)
 
 pub the_second_is_as_if_at_once : (keys' : Keyspace) × History nothing (first_a ∷ second_b ∷ second_a ∷ first_b ∷ []) keys'
-the_second_is_as_if_at_once = (with_cell (with_cell (with_cell (with_cell nothing slot_a (codes "1")) slot_b (codes "2")) slot_a (codes "2")) slot_b (codes "1"), (refl, (refl, (refl, (refl, λ slot. refl)))))
+the_second_is_as_if_at_once = (
+  with_cell (with_cell (with_cell (with_cell nothing slot_a (codes "1")) slot_b (codes "2")) slot_a (codes "2")) slot_b (codes "1"),
+  (refl, (refl, (refl, (refl, λ slot. refl)))),
+)
 
 pub not_the_first_before_the_second : (keys' : Keyspace) → History nothing (first_a ∷ first_b ∷ second_b ∷ second_a ∷ []) keys' → ⊥
 not_the_first_before_the_second keys' h = let e : [] ≡ codes "2" = h.1.0 in cc

@@ -15,6 +15,7 @@ use Rattle.cluster_routing.specs.Table.{rule_of, table}
 use Rattle.cluster_routing.specs.Examples.{first_node as n1, second_node as n2}
 use Rattle.cluster_calls.specs.Links.Events.{Event, fails}
 use Rattle.cluster_calls.specs.Links.Faults.{io}
+use Rattle.cluster_calls.specs.Links.Log.{Exchange}
 use Rattle.cluster_calls.specs.Links.Request.{Request, slots_command}
 use Rattle.cluster_calls.specs.Calls.Call.{Refresh}
 use Rattle.cluster_calls.specs.Calls.Legal.{IsLegalCall}
@@ -43,7 +44,10 @@ and_not_again h = cc
 
 -- ---- pipelines: SET a 1, GET b, GET a, of which the first is sent twice
 
-pub a_pipeline_sends_each_once : IsLegalCall on_halves [] three (log_over [] (okay ∷ okay ∷ text (codes "1") ∷ []) (plain n2 set_a ∷ plain n2 set_a ∷ plain n2 get_a ∷ [])) → ⊥
+abbrev pub set_twice : List Exchange
+set_twice = log_over [] (okay ∷ okay ∷ text (codes "1") ∷ []) (plain n2 set_a ∷ plain n2 set_a ∷ plain n2 get_a ∷ [])
+
+pub a_pipeline_sends_each_once : IsLegalCall on_halves [] three set_twice → ⊥
 unfolding destination rule_of table hash_slot splitting_of digits first_error
 a_pipeline_sends_each_once h = false≢true (ap (λ qs. list_any (λ (q : Request). length q.args == 2) qs) h.0)
 

@@ -1,0 +1,7 @@
+pub mod LinksEnd
+pub mod Spelled
+pub mod Redirected
+pub mod Parted
+pub mod Piped
+pub mod Lost
+pub mod Whole
