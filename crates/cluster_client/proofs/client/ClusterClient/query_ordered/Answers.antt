@@ -1,5 +1,7 @@
 use Rattle.std.proofs.Common.{◌≡◌, ◌≢◌, ◌∙◌, refl, ap, None, Some, Err}
 use Rattle.std.proofs.lemmas.Result.{err_from_is_err_and}
+use Rattle.resp_core.specs.Errors.{by_cause}
+use Rattle.resp_core.specs.declared.errors.redis_error.Cause.TheVariants.{Memory}
 use Rattle.cluster_calls.proofs.LinkLaws.Unpicked.{answered_unpicked}
 use Rattle.cluster_client.proofs.client.ClusterClient.query_ordered.Goals as goal
 
@@ -11,7 +13,7 @@ returns-in_err-reply-clause-answered g c m =
 pub returns-in_err-reply-clause-unpicked : goal.returns-in_err-reply-clause-unpicked
 returns-in_err-reply-clause-unpicked g c =
     let p = err_from_is_err_and c.from_residual.result c.from_residual.ensures.1 in
-    rw (p.1, p.2) c.in_err-reply.ensures.unpicked
+    rw (p.1, p.2) (λ lacks none. let lack : c.in_err-reply.field-0.0 ≡ by_cause Memory = cc in c.in_err-reply.ensures.unpicked (ap Err lack) none)
 
 pub returns-in_err-from_redis_value-clause-unpicked : goal.returns-in_err-from_redis_value-clause-unpicked
 returns-in_err-from_redis_value-clause-unpicked g c e = answered_unpicked _ _ _ _ c.args.cmd.now c.args.number (Some c.args.order.now) refl _ c.in_ok-reply.ensures

@@ -1,5 +1,7 @@
 use Rattle.std.proofs.Common.{rules, ◌≡◌, ◌≢◌, ◌∙◌, refl, ap, Err, None, Ok}
 use Rattle.std.proofs.lemmas.Result.{err_from_is_err_and}
+use Rattle.resp_core.specs.Errors.{by_cause}
+use Rattle.resp_core.specs.declared.errors.redis_error.Cause.TheVariants.{Memory}
 use Rattle.resp_core.specs.View.{view}
 use Rattle.cluster_client.proofs.pipeline.ClusterPipeline.query.Goals as goal
 
@@ -28,7 +30,7 @@ returns-clause-answered g c m strategy =
 pub returns-in_err-reply-clause-unpicked : goal.returns-in_err-reply-clause-unpicked
 returns-in_err-reply-clause-unpicked g c =
     let p = err_from_is_err_and c.from_residual.result c.from_residual.ensures.1 in
-    rw (p.1, p.2) (rw c.commands.ensures at (c.in_err-reply.ensures None)).unpicked
+    rw (p.1, p.2) (λ lacks none. let lack : c.in_err-reply.field-0.0 ≡ by_cause Memory = cc in (rw c.commands.ensures at (c.in_err-reply.ensures None)).unpicked (ap Err lack) none)
 
 pub returns-in_err-from_redis_value-clause-unpicked : goal.returns-in_err-from_redis_value-clause-unpicked
 returns-in_err-from_redis_value-clause-unpicked g c e none = ((rw c.commands.ensures at (c.in_ok-reply.ensures None)).answered (λ k. cc k)).picks
