@@ -16,6 +16,7 @@ pub(super) fn read_text<R: LinkRead>(
 ) -> Result<Vec<u8>, RedisError>
     ensures all { IfOk result (λ text. Consumes (R.left reader.old) (R.left reader.new) text.items) }
     ensures to_the_end { OnOk result (IsAtEnd (R.left reader.new)) }
+    ensures unrefused { OnOk result (NoneRefused (R.counts reader.old) (R.counts reader.new)) }
     ensures causes { IfErr result (λ e. (e ≡ by_cause Io) ⊎ (e ≡ by_cause Memory)) }
     // A read that fails is told as `Io`, and what was read and finds no room as `Memory`.
     ensures fails { IsErrOf result (by_cause Io) → ReadingFailed reads (R.counts reader.old) (R.counts reader.new) }
