@@ -8,8 +8,6 @@ mod clients;
 #[cfg(test)]
 mod links;
 #[cfg(test)]
-mod memory;
-#[cfg(test)]
 mod pipelines;
 #[cfg(test)]
 mod reads;
