@@ -1,4 +1,4 @@
--- T4 (ii) from what `play` ensures, for two plays.
+-- Two plays whose replies say the same, from what `play` ensures: they show the same, and send each node the same bytes.
 use Rattle.std.specs.Prelude.{◌||◌}
 use Rattle.std.proofs.Common.{◌≡◌, ℕ, suc, ◌+◌, Bool, false, List, [], ◌∷◌, ◌++◌, map, length, Option, Result, refl, sym, ap, ◌∙◌, subst, arith}
 use Rattle.std.specs.Io.KnownBytes.{Appends}
