@@ -165,7 +165,7 @@ fn slot_of(tuple: &[&[u8]]) -> u16
 }
 
 /// The parts of a command whose arguments have these slots.
-fn parts_of(
+pub(crate) fn parts_of(
     alloc: Global,
     slots: &[u16],
     role: SlotAddr,

@@ -47,7 +47,7 @@ fn aggregates_exactly(rt: HostRuntime) {
     }
 }
 
-fn parts(
+pub(crate) fn parts(
     alloc: Global,
     first: &[usize],
     second: &[usize],

@@ -6,6 +6,8 @@ mod combine;
 #[cfg(test)]
 mod copies;
 #[cfg(test)]
+mod keys;
+#[cfg(test)]
 mod many_nodes;
 #[cfg(test)]
 mod maps;

@@ -3,15 +3,18 @@
 //! A test prints a line `refused CALL` where a call is refused, sees what then stands, and goes on;
 //! no further call may be refused.
 
+use crate::combine::parts;
 use crate::routes::{TO_A, cmd};
 use crate::texts::text;
 use crate::topology::topology_text;
 use cluster_routing::{
-    ClusterTopology, NodeAddress, Route, RoutingInfo, SlotAddr, SlotMap, SlotRange, SlotRangeMap,
-    parse_slots,
+    AggregateOp, ClusterTopology, LogicalAggregateOp, MultiSlotArgPattern, NodeAddress,
+    ResponsePolicy, Route, RoutingInfo, SlotAddr, SlotMap, SlotRange, SlotRangeMap, aggregate,
+    combine_and_sort_array_results, combine_array_results, combine_map_results, combine_nodes,
+    combine_parts, group_keys_by_slot, logical_aggregate, parse_slots,
 };
 use resp_args::Cmd;
-use resp_core::{Value, parse_redis_value};
+use resp_core::{ErrorKind, RedisError, Value, parse_redis_value};
 use std::alloc::{AllocError, Global};
 use std::fmt::Debug;
 use std::io::Print;
@@ -219,4 +222,147 @@ fn topology(rt: HostRuntime) -> Result<(), Fail> {
             has_shards(&rt, rt.alloc(), &map.topology(rt.alloc())?)
         }
     }
+}
+
+fn has_groups<R: Abort + Print>(
+    rt: &R,
+    alloc: Global,
+    groups: &Vec<(Route, Vec<usize>)>,
+) -> Result<(), Fail> {
+    let wanted =
+        "[(Route { slot: 15495, slot_addr: Master }, [0, 2]), (Route { slot: 3300, slot_addr: Master }, [1])]";
+    shows(rt, alloc, groups, wanted)
+}
+
+#[test]
+fn keys_by_slot(rt: HostRuntime) -> Result<(), Fail> {
+    let keys: [&[u8]; 3] = [b"a", b"b", b"{a}x"];
+    match group_keys_by_slot(rt.alloc(), &keys, SlotAddr::Master) {
+        Ok(groups) => has_groups(&rt, rt.alloc(), &groups),
+        Err(_) => {
+            println!(rt; "refused group_keys_by_slot")?;
+            let groups = group_keys_by_slot(rt.alloc(), &keys, SlotAddr::Master)?;
+            has_groups(&rt, rt.alloc(), &groups)
+        }
+    }
+}
+
+// The replies in an array that is spelled so; none where memory was refused.
+fn items_of(alloc: Global, bytes: &[u8]) -> Option<Vec<Value>> {
+    match parse_redis_value(alloc, bytes) {
+        Ok(Value::Array(items)) => Some(items),
+        _ => None,
+    }
+}
+
+fn replies<R: Print>(rt: &R, alloc: Global, bytes: &[u8]) -> Result<Vec<Value>, Fail> {
+    match items_of(alloc, bytes) {
+        Some(items) => Ok(items),
+        None => {
+            println!(rt; "refused replies")?;
+            Ok(items_of(alloc, bytes).unwrap_or(Vec::new(alloc)))
+        }
+    }
+}
+
+fn lacks_memory<R: Abort>(rt: &R, e: RedisError) {
+    assert!(rt; e.kind() == ErrorKind::Memory);
+}
+
+fn outcomes(
+    alloc: Global,
+    values: Vec<Value>,
+) -> Result<Vec<(NodeAddress, Result<Value, RedisError>)>, RedisError> {
+    let mut outcomes = Vec::new(alloc);
+    let mut port = 7001u16;
+    for value in values {
+        let node = NodeAddress::from_parts(String::from_str(alloc, "n1")?, port);
+        outcomes.push((node, Ok(value)))?;
+        port = port.wrapping_add(1);
+    }
+    Ok(outcomes)
+}
+
+// The combining call of this name, and the last for any other name.
+fn combined(alloc: Global, name: &str, values: Vec<Value>) -> Result<Value, RedisError> {
+    let sum = AggregateOp::Sum;
+    let keys = MultiSlotArgPattern::KeysOnly;
+    match name {
+        "combine_map_results" => combine_map_results(alloc, values),
+        "combine_array_results" => combine_array_results(alloc, values),
+        "logical_aggregate" => logical_aggregate(alloc, values, LogicalAggregateOp::And),
+        "aggregate" => aggregate(values, sum),
+        "combine_and_sort_array_results" => {
+            combine_and_sort_array_results(alloc, values, &parts(alloc, &[0, 2], &[1])?, keys)
+        }
+        "combine_parts" => {
+            let order = parts(alloc, &[0, 2], &[1])?;
+            combine_parts(alloc, values, &order, keys, ResponsePolicy::CombineArrays)
+        }
+        "combine_nodes" => combine_nodes(alloc, ResponsePolicy::Special, outcomes(alloc, values)?),
+        _ => {
+            let policy = ResponsePolicy::Aggregate(sum);
+            combine_nodes(alloc, policy, outcomes(alloc, values)?)
+        }
+    }
+}
+
+fn combines<R: Abort + Print>(
+    rt: &R,
+    alloc: Global,
+    name: &str,
+    bytes: &[u8],
+) -> Result<Value, Fail> {
+    match combined(alloc, name, replies(rt, alloc, bytes)?) {
+        Ok(reply) => Ok(reply),
+        Err(e) => {
+            println!(rt; "refused {name}")?;
+            lacks_memory(rt, e);
+            Ok(combined(alloc, name, replies(rt, alloc, bytes)?)?)
+        }
+    }
+}
+
+const COMBINED: [(&str, &[u8], &str); 8] = [
+    (
+        "combine_map_results",
+        b"*2\r\n%2\r\n+b\r\n:1\r\n+a\r\n:2\r\n*4\r\n+c\r\n:3\r\n+a\r\n:4\r\n",
+        "Map([(BulkString([97]), Int(6)), (BulkString([98]), Int(1)), (BulkString([99]), Int(3))])",
+    ),
+    (
+        "combine_array_results",
+        b"*2\r\n*2\r\n:1\r\n:2\r\n*3\r\n:3\r\n:4\r\n:5\r\n",
+        "Array([Int(1), Int(2), Int(3), Int(4), Int(5)])",
+    ),
+    (
+        "logical_aggregate",
+        b"*2\r\n*3\r\n:1\r\n:0\r\n:2\r\n*3\r\n:1\r\n:1\r\n:1\r\n",
+        "Array([Int(1), Int(0), Int(1)])",
+    ),
+    ("aggregate", b"*2\r\n:3\r\n:4\r\n", "Int(7)"),
+    (
+        "combine_and_sort_array_results",
+        b"*2\r\n*2\r\n:7\r\n:9\r\n*1\r\n:8\r\n",
+        "Array([Int(7), Int(8), Int(9)])",
+    ),
+    (
+        "combine_parts",
+        b"*2\r\n*2\r\n:7\r\n:9\r\n*1\r\n:8\r\n",
+        "Array([Int(7), Int(8), Int(9)])",
+    ),
+    (
+        "combine_nodes",
+        b"*2\r\n:3\r\n_\r\n",
+        "Map([(BulkString([110, 49, 58, 55, 48, 48, 49]), Int(3)), (BulkString([110, 49, 58, 55, 48, 48, 50]), Nil)])",
+    ),
+    ("combine_nodes for a sum", b"*2\r\n:3\r\n:4\r\n", "Int(7)"),
+];
+
+#[test]
+fn combined_replies(rt: HostRuntime) -> Result<(), Fail> {
+    for (name, bytes, wanted) in COMBINED {
+        let reply = combines(&rt, rt.alloc(), name, bytes)?;
+        shows(&rt, rt.alloc(), &reply, wanted)?;
+    }
+    Ok(())
 }

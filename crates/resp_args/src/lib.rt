@@ -4,6 +4,7 @@
 mod arguments;
 mod cmd;
 pub mod command;
+pub mod comparisons;
 mod from;
 pub mod laws;
 mod packing;

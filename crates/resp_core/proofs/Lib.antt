@@ -3,6 +3,7 @@ pub mod Lines
 pub mod Complete
 pub mod Sound
 pub mod LawProofs
+mod Limits
 pub mod Numbers
 pub mod LineReads
 pub mod Groups
@@ -27,3 +28,5 @@ pub mod Steps
 pub mod Resting
 pub mod TextNumbers
 pub mod PlainNumbers
+pub mod SameTexts
+pub mod SameValues

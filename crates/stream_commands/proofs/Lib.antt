@@ -2,8 +2,11 @@ pub mod Reading
 pub mod Telling
 mod ExampleCommands
 pub mod Made
+pub mod Gather
+pub mod GatherSteps
 pub mod Lookups
 pub mod FieldCopies
 pub mod Respellings
 pub mod RespelledErrors
 mod WholeCommands
+mod EqualEntries

@@ -10,6 +10,7 @@ pub mod Shapes
 pub mod Entries
 pub mod EntryReplies
 pub mod ReadReply
+pub mod Join
 pub mod AutoClaim
 pub mod UnderNames
 pub mod Consumers
@@ -24,4 +25,5 @@ pub mod RecordExamples
 pub mod RespelledExamples
 pub mod SameEntries
 pub mod RecordViews
+pub mod Joining
 pub mod InfoViews

@@ -1,6 +1,7 @@
 //! Laws of equality of this crate's types. Each is the contract of a call that makes the one call that
 //! it speaks of.
 ghost use Rattle.std.specs.Prelude.{◌≡◌, ◌↔◌, true};
+ghost use Rattle.stream_commands.specs.RecordViews.{entry_view};
 ghost use Rattle.stream_commands.specs.SameEntries.{same_entry};
 
 use crate::config::ConfigRangeError;
@@ -11,6 +12,14 @@ use crate::trim::StreamMaxlen;
 /// Two entries are equal where ids, times and fields are, these in the same order.
 pub fn equality_of_entries(a: &StreamId, b: &StreamId) -> bool
     ensures { result ≡ same_entry a.now b.now }
+{
+    a == b
+}
+
+/// Two entries are equal exactly where they show the same entry: ids, times and fields, and of each
+/// field the tree of its value.
+pub fn equality_of_shown_entries(a: &StreamId, b: &StreamId) -> bool
+    ensures { result ≡ true ↔ entry_view a.now ≡ entry_view b.now }
 {
     a == b
 }

@@ -10,6 +10,10 @@ mod commands;
 #[cfg(test)]
 mod config;
 #[cfg(test)]
+mod join;
+#[cfg(test)]
+mod memory;
+#[cfg(test)]
 mod read;
 #[cfg(test)]
 mod real_replies;

@@ -216,7 +216,7 @@ fn refusal<T: FromRedisValue + Debug>(alloc: Global, bytes: &[u8]) -> Result<Str
     })
 }
 
-fn is_text<R: Abort, E: Drop>(rt: &R, found: Result<String, E>, expected: &str) {
+pub(crate) fn is_text<R: Abort, E: Drop>(rt: &R, found: Result<String, E>, expected: &str) {
     match found {
         Ok(text) => assert_eq!(rt; text.as_str(), expected),
         Err(_) => assert!(rt; false, "there is no text"),

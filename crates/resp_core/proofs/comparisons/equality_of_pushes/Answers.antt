@@ -1,0 +1,6 @@
+use Rattle.std.proofs.Common.{◌∙◌, sym}
+use Rattle.resp_core.proofs.SameValues.{pushes_tell}
+use Rattle.resp_core.proofs.comparisons.equality_of_pushes.Goals as goal
+
+pub returns : goal.returns
+returns c = let tells = pushes_tell c.args.a.now c.args.b.now in (λ h. tells.0 (sym c.eq.ensures ∙ h), λ e. c.eq.ensures ∙ tells.1 e)
