@@ -149,6 +149,10 @@ impl<L: ConnectionLike + Drop> ClusterClient<L> {
     /// names; behind ASK the request goes out with `ASKING` before it, in one write. The budget is
     /// that of each part.
     ///
+    /// It costs one round trip for each part, and one more for each redirect that is followed. The map
+    /// stays: after a MOVED each later part for that shard pays its own redirect, until a refresh
+    /// (`needs_refresh`). A pipeline of the parts costs one round trip for each node.
+    ///
     /// # Errors
     /// In the order of the checks: `NoResponse` for a command that waits for none; for a word that is
     /// split `CursorInSplit` where an argument is a gap, and `BrokenTuples` where its last tuple is
@@ -273,11 +277,11 @@ impl<L: ConnectionLike + Drop> ClusterClient<L> {
         requires { AllByRecursion (IsPlaced (nodes L.seen self.old.links.nodes.items)) parts.items }
         ensures { PartsMade (whole L.seen self.old) (whole L.seen self.new) (map dispatch_of parts.items) (tree_results view result) }
     {
-        let mut replies = Vec::new(alloc);
+        let mut replies = Vec::with_capacity(alloc, parts.len())?;
         'parts: for part in parts {
             let Dispatch { place, args } = part;
             let reply = self.follow(alloc, args, place)?;
-            replies.push(reply)?;
+            replies.push(reply).unwrap();
         }
         Ok(replies)
     }

@@ -264,10 +264,10 @@ impl<L: ConnectionLike + Drop> ClusterClient<L> {
         requires apart { IsDistinct same_address (map (λ d. address d.place.node) dispatches.items) }
         ensures { NodesAsked (whole L.seen self.old) (whole L.seen self.new) (map dispatch_of dispatches.items) (all_outcomes result) }
     {
-        let mut outcomes = Vec::new(alloc);
+        let mut outcomes = Vec::with_capacity(alloc, dispatches.len())?;
         'nodes: for dispatch in dispatches {
             let outcome = self.ask(alloc, dispatch)?;
-            outcomes.push(outcome)?;
+            outcomes.push(outcome).unwrap();
         }
         Ok(outcomes)
     }

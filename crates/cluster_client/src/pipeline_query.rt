@@ -81,11 +81,11 @@ impl<L: ConnectionLike + Drop> ClusterClient<L> {
         requires { AllByRecursion (λ g. IsGroupPlaced (nodes L.seen self.old.links.nodes.items) (group_of g)) groups.items }
         ensures { GroupsMade (whole L.seen self.old) (whole L.seen self.new) (map group_of groups.items) (answers_of view result) }
     {
-        let mut answered = Vec::new(alloc);
+        let mut answered = Vec::with_capacity(alloc, groups.len())?;
         'groups: for group in groups {
             let Group { which, requests } = group;
             let items = self.exchange_group(alloc, which, requests)?;
-            answered.push(Answered { which, items })?;
+            answered.push(Answered { which, items }).unwrap();
         }
         Ok(answered)
     }
@@ -117,6 +117,9 @@ impl ClusterPipeline {
     /// first use them: each gets all of its commands in one write, in the order of the pipeline, and
     /// then its replies are taken. No redirect is followed, and nothing is sent twice. Without commands
     /// nothing is sent, and the array is empty.
+    ///
+    /// It costs one round trip for each node that is used, one node after another: the commands of the
+    /// next one go out when the replies of this one are there. All replies are held until the last.
     ///
     /// # Errors
     /// In the order of the checks: for the first command that waits for no response, or does not go

@@ -173,3 +173,45 @@ fn an_early_end_closes_the_link_of_its_node(rt: HostRuntime) -> Result<(), Fail>
     assert_eq!(rt; link_state(alloc, &client, "n3:7003")?, None);
     Ok(())
 }
+
+/// All slots at n1:7001, then the refusal of a cluster that is down, twice.
+const DOWN: &[u8] =
+    b"*1\r\n*3\r\n:0\r\n:16383\r\n*2\r\n$2\r\nn1\r\n:7001\r\n-CLUSTERDOWN Hash slot not served\r\n-CLUSTERDOWN Hash slot not served\r\n";
+
+/// The kind of the refusal of a command that goes to all nodes, none where it is answered.
+fn fan_out_kind(
+    alloc: Global,
+    client: &mut Client,
+    name: &str,
+) -> Result<Option<ErrorKind>, RedisError> {
+    let cmd = command::cmd(alloc, name)?;
+    Ok(match client.fan_out(alloc, &cmd) {
+        Ok(_) => None,
+        Err(e) => Some(e.kind()),
+    })
+}
+
+#[test]
+fn a_servers_refusal_is_told_as_the_servers(rt: HostRuntime) -> Result<(), Fail> {
+    let alloc = rt.alloc();
+    let mut client = client(alloc, DOWN, b"")?;
+    assert!(rt; is_refreshed(alloc, &mut client)?);
+    let down = Some(ErrorKind::Server(ServerErrorKind::ClusterDown));
+    assert_eq!(rt; kind_of(number_at_a(alloc, &mut client, None)), down);
+    assert_eq!(rt; fan_out_kind(alloc, &mut client, "DBSIZE")?, down);
+    assert_eq!(rt; link_state(alloc, &client, "n1:7001")?, Some(true));
+    Ok(())
+}
+
+#[test]
+fn a_refused_fan_out_tells_why(rt: HostRuntime) -> Result<(), Fail> {
+    let alloc = rt.alloc();
+    let mut client = client(alloc, TEXT_AND_NUMBER, b"")?;
+    let unknown = fan_out_kind(alloc, &mut client, "DBSIZE")?;
+    assert_eq!(rt; unknown, Some(ErrorKind::ClusterConnectionNotFound));
+    assert!(rt; is_refreshed(alloc, &mut client)?);
+    let keyed = fan_out_kind(alloc, &mut client, "ECHO")?;
+    assert_eq!(rt; keyed, Some(ErrorKind::Client));
+    assert_eq!(rt; client.asked().len(), 0);
+    Ok(())
+}

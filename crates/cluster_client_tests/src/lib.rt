@@ -6,6 +6,8 @@ mod answers;
 #[cfg(test)]
 mod clients;
 #[cfg(test)]
+mod failing;
+#[cfg(test)]
 mod links;
 #[cfg(test)]
 mod pipelines;

@@ -21,11 +21,12 @@ const ALL_AND_OKAY: &[u8] =
 const THREE_SHARDS: &[u8] =
     b"*3\r\n*4\r\n:0\r\n:4095\r\n*2\r\n$2\r\nn1\r\n:7001\r\n*2\r\n$2\r\nn3\r\n:7003\r\n*3\r\n:4096\r\n:8191\r\n*2\r\n$2\r\nn1\r\n:7001\r\n*4\r\n:8192\r\n:16383\r\n*2\r\n$2\r\nn2\r\n:7002\r\n*2\r\n$2\r\nn4\r\n:7004\r\n*1\r\n$1\r\n3\r\n";
 
-/// Answers the replica at a place, and counts how often it is asked.
+/// Answers the replica at a place, and counts how often it is asked, and told that the cluster changed.
 #[derive(Drop)]
 struct Nth {
     place: usize,
     asked: Cell<u64>,
+    told: Cell<u64>,
 }
 
 impl Nth {
@@ -33,6 +34,7 @@ impl Nth {
         Nth {
             place,
             asked: Cell::new(0),
+            told: Cell::new(0),
         }
     }
 }
@@ -48,6 +50,10 @@ impl ReadRoutingStrategy for Nth {
             ReadCandidates::AnyNode(any) => replica_at(any.replicas(), self.place),
             ReadCandidates::ReplicasOnly(only) => replica_at(only.replicas(), self.place),
         }
+    }
+
+    fn on_topology_changed(&self, _topology: &ClusterTopology) {
+        self.told.set(self.told.get().wrapping_add(1));
     }
 }
 
@@ -101,6 +107,7 @@ fn a_strategy_picks_the_node_of_a_read(rt: HostRuntime) -> Result<(), Fail> {
     let second = Nth::new(1);
     assert_eq!(rt; number_at_a(alloc, &mut client, Some(&second))?, 1);
     assert_eq!(rt; second.asked.get(), 1);
+    assert_eq!(rt; second.told.get(), 0);
     assert!(rt; is_picked(alloc, &client, "n4:7004")?);
     assert!(rt; is_last_asked(alloc, &client, "n1:7001")?);
     assert_eq!(rt; number_at_a(alloc, &mut client, Some(&Nth::new(0)))?, 3);
@@ -136,6 +143,7 @@ fn no_strategy_is_asked_for_a_write(rt: HostRuntime) -> Result<(), Fail> {
     let strategy = Nth::new(0);
     assert!(rt; is_set(alloc, &mut client, &strategy)?);
     assert_eq!(rt; strategy.asked.get(), 0);
+    assert_eq!(rt; strategy.told.get(), 0);
     assert_eq!(rt; client.picked().len(), 0);
     Ok(())
 }
@@ -199,6 +207,7 @@ fn a_strategy_picks_for_each_part_with_replicas(rt: HostRuntime) -> Result<(), F
     let strategy = Nth::new(0);
     assert!(rt; are_read_backwards(alloc, &mut client, &strategy)?);
     assert_eq!(rt; strategy.asked.get(), 2);
+    assert_eq!(rt; strategy.told.get(), 0);
     assert!(rt; are_picked(alloc, &client, "n4:7004", "n3:7003")?);
     assert!(rt;
         has_sent(

@@ -48,7 +48,7 @@ fn shown<T: Debug + Drop>(
     Ok(format!(in alloc; "{value:?}")?)
 }
 
-fn xadd(alloc: Global, client: &mut Client) -> Result<String, RedisError> {
+pub(crate) fn xadd(alloc: Global, client: &mut Client) -> Result<String, RedisError> {
     let trim = StreamTrimStrategy::maxlen(StreamTrimmingMode::Approx, 10);
     let options = StreamAddOptions::empty().nomkstream().trim(trim);
     shown(
@@ -62,7 +62,7 @@ fn xtrim(alloc: Global, client: &mut Client) -> Result<String, RedisError> {
     shown(alloc, client.xtrim(alloc, "a", &options, None))
 }
 
-fn xread(alloc: Global, client: &mut Client) -> Result<String, RedisError> {
+pub(crate) fn xread(alloc: Global, client: &mut Client) -> Result<String, RedisError> {
     let options = StreamReadOptions::empty().group(alloc, "g", "c")?;
     shown(alloc, client.xread(alloc, &[("a", ">")], &options, None))
 }

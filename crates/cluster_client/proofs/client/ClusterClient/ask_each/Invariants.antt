@@ -1,4 +1,4 @@
-use Rattle.std.proofs.Common.{map}
+use Rattle.std.proofs.Common.{◌+◌, ◌≤◌, length, map, vec_capacity, vec_len}
 use Rattle.std.specs.List.{AllByRecursion}
 use Rattle.std.specs.Vec.Iter.{into_iter_items}
 use Rattle.cluster_routing.specs.Address.{same_address}
@@ -15,4 +15,5 @@ invariant-nodes g l = record {
   loop : AskLoop (whole g.L.ConnectionLike.seen l.fn.self) (whole g.L.ConnectionLike.seen l.self) (map dispatch_of l.fn.dispatches.items) (map dispatch_of (into_iter_items l.dispatch-iterator)) (outcomes_of l.outcomes.items);
   placed : AllByRecursion (IsPlaced (nodes g.L.ConnectionLike.seen l.self.links.nodes.items)) (into_iter_items l.dispatch-iterator);
   apart : IsDistinct same_address (map node_of (into_iter_items l.dispatch-iterator));
+  room : vec_len l.outcomes + length (into_iter_items l.dispatch-iterator) ≤ vec_capacity l.outcomes;
 }

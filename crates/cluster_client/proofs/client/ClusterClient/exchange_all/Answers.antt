@@ -1,17 +1,24 @@
-use Rattle.std.proofs.Common.{◌≡◌, ◌<◌, ◌∙◌, List, [], ◌∷◌, length, refl, sym}
+use Rattle.std.proofs.Common.{◌≡◌, ◌<◌, ◌∙◌, [], ◌∷◌, length, arith, sym}
 use Rattle.std.specs.Vec.Iter.{into_iter_items}
 use Rattle.std.proofs.lemmas.List.{length-map, map-append, nil_from_length}
+use Rattle.std.proofs.lemmas.Grind.{common_steps}
 use Rattle.std.proofs.lemmas.Result.{err_from_is_err_and}
 use Rattle.cluster_steps.specs.Groups.{group_of}
 use Rattle.cluster_client.proofs.GroupLoop.{groups_done, groups_failed, groups_more, groups_start, groups_stopped, stays_so, still_grouped}
 use Rattle.cluster_client.proofs.client.ClusterClient.exchange_all.Goals as goal
 
+pub returns-in_err-answered : goal.returns-in_err-answered
+returns-in_err-answered g c =
+    let p = err_from_is_err_and c.from_residual.result c.from_residual.ensures.1 in
+    rw (p.1, p.2) (groups_stopped _ _ _ _ _ _ (groups_start _ _) (stays_so _))
+
 pub groups-init : goal.groups-init
 groups-init g c =
     let all : into_iter_items c.into_iter-group-iterator.result ≡ c.args.groups.items = c.into_iter-group-iterator.ensures.into_iter_gives.0 in
     record {
-      loop = rw (all, c.new-answered.ensures.items) (groups_start _ _);
+      loop = rw (all, c.in_ok-answered.ensures.items) (groups_start _ _);
       placed = rw all c.requires;
+      room = rw all (grind (arith, common_steps));
     }
 
 pub exchange_group-requires : goal.exchange_group-requires
@@ -24,19 +31,11 @@ exchange_group-requires g c =
 
 pub returns-in_err-items : goal.returns-in_err-items
 returns-in_err-items g c =
-    let p = err_from_is_err_and c.from_residual.result c.from_residual.ensures.1 in
+    let p = err_from_is_err_and c.from_residual-in_err-items.result c.from_residual-in_err-items.ensures.1 in
     let steps : into_iter_items c.groups.group-iterator ≡ c.in-Some.group ∷ into_iter_items c.next.new.self = c.in-Some.ensures.steps.0 in
     let placed = rw steps at c.groups.invariant.placed in
     let loop = rw steps at c.groups.invariant.loop in
     rw (p.1, p.2) (groups_failed _ _ _ _ (group_of c.in-Some.group) _ _ loop (still_grouped loop _ placed.0) _ c.in_err-items.ensures.exchanged)
-
-pub returns-in_err-push : goal.returns-in_err-push
-returns-in_err-push g c =
-    let p = err_from_is_err_and c.from_residual-in_err-push.result c.from_residual-in_err-push.ensures.1 in
-    let steps : into_iter_items c.groups.group-iterator ≡ c.in-Some.group ∷ into_iter_items c.next.new.self = c.in-Some.ensures.steps.0 in
-    let placed = rw steps at c.groups.invariant.placed in
-    let loop = rw steps at c.groups.invariant.loop in
-    rw (p.1, p.2) (groups_stopped _ _ _ _ _ _ (groups_more _ _ _ _ (group_of c.in-Some.group) _ _ loop (still_grouped loop _ placed.0) _ c.in_ok-items.ensures.exchanged) (stays_so _))
 
 pub returns : goal.returns
 returns g c =
@@ -49,6 +48,7 @@ groups-preserved g c =
     let placed = rw steps at c.groups.invariant.placed in
     let loop = rw steps at c.groups.invariant.loop in
     record {
-      loop = rw (c.in_ok-push.ensures.items, map-append) (groups_more _ _ _ _ (group_of c.in-Some.group) _ _ loop (still_grouped loop _ placed.0) _ c.in_ok-items.ensures.exchanged);
+      loop = rw (c.push.ensures.items, c.unwrap.ensures, map-append) (groups_more _ _ _ _ (group_of c.in-Some.group) _ _ loop (still_grouped loop _ placed.0) _ c.in_ok-items.ensures.exchanged);
       placed = placed.1;
+      room = grind (arith, common_steps);
     }

@@ -1,6 +1,7 @@
-use Rattle.std.proofs.Common.{◌≡◌, ◌<◌, ◌∙◌, List, [], ◌∷◌, length, refl, sym}
+use Rattle.std.proofs.Common.{◌≡◌, ◌<◌, ◌∙◌, [], ◌∷◌, length, arith, sym}
 use Rattle.std.specs.Vec.Iter.{into_iter_items}
-use Rattle.std.proofs.lemmas.List.{length-map, map-append}
+use Rattle.std.proofs.lemmas.List.{length-map, map-append, nil_from_length}
+use Rattle.std.proofs.lemmas.Grind.{common_steps}
 use Rattle.std.proofs.lemmas.Result.{err_from_is_err_and}
 use Rattle.cluster_routing.specs.Seen.{address}
 use Rattle.cluster_steps.specs.Dispatches.{dispatch_of}
@@ -8,16 +9,18 @@ use Rattle.cluster_calls.specs.Links.World.{nodes}
 use Rattle.cluster_calls.proofs.LinkLaws.PartLoop.{from_place, parts_done, parts_more, parts_refused, parts_start, parts_stopped, place_within, still_placed}
 use Rattle.cluster_client.proofs.client.ClusterClient.follow_all.Goals as goal
 
-empty : {X : Type 0} (xs : List X) → length xs ≡ 0 → xs ≡ []
-empty [] e = refl
-empty (x ∷ xs) e = cc
+pub returns-in_err-replies : goal.returns-in_err-replies
+returns-in_err-replies g c =
+    let p = err_from_is_err_and c.from_residual.result c.from_residual.ensures.1 in
+    rw (p.1, p.2) (parts_stopped _ _ _ _ _ (parts_start _ _))
 
 pub parts-init : goal.parts-init
 parts-init g c =
     let all : into_iter_items c.into_iter-part-iterator.result ≡ c.args.parts.items = c.into_iter-part-iterator.ensures.into_iter_gives.0 in
     record {
-      loop = rw (all, c.new-replies.ensures.items) (parts_start _ _);
+      loop = rw (all, c.in_ok-replies.ensures.items) (parts_start _ _);
       placed = rw all c.requires;
+      room = rw all (grind (arith, common_steps));
     }
 
 pub follow-requires-clause-place : goal.follow-requires-clause-place
@@ -36,25 +39,16 @@ follow-requires-clause-within g c =
 
 pub returns-in_err-reply : goal.returns-in_err-reply
 returns-in_err-reply g c =
-    let p = err_from_is_err_and c.from_residual.result c.from_residual.ensures.1 in
+    let p = err_from_is_err_and c.from_residual-in_err-reply.result c.from_residual-in_err-reply.ensures.1 in
     let steps : into_iter_items c.parts.part-iterator ≡ c.in-Some.part ∷ into_iter_items c.next.new.self = c.in-Some.ensures.steps.0 in
     let placed = rw steps at c.parts.invariant.placed in
     let loop = rw steps at c.parts.invariant.loop in
     let chain = c.in_err-reply.ensures in
     rw (p.1, p.2) (parts_refused _ _ _ _ (dispatch_of c.in-Some.part) _ _ loop _ (from_place _ _ (dispatch_of c.in-Some.part) _ _ placed.0.direct chain))
 
-pub returns-in_err-push : goal.returns-in_err-push
-returns-in_err-push g c =
-    let p = err_from_is_err_and c.from_residual-in_err-push.result c.from_residual-in_err-push.ensures.1 in
-    let steps : into_iter_items c.parts.part-iterator ≡ c.in-Some.part ∷ into_iter_items c.next.new.self = c.in-Some.ensures.steps.0 in
-    let placed = rw steps at c.parts.invariant.placed in
-    let loop = rw steps at c.parts.invariant.loop in
-    let chain = c.in_ok-reply.ensures in
-    rw (p.1, p.2) (parts_stopped _ _ _ _ _ (parts_more _ _ _ _ (dispatch_of c.in-Some.part) _ _ loop _ (from_place _ _ (dispatch_of c.in-Some.part) _ _ placed.0.direct chain)))
-
 pub returns : goal.returns
 returns g c =
-    let none : into_iter_items c.parts.part-iterator ≡ [] = empty (into_iter_items c.parts.part-iterator) (sym c.parts.part-iterator.rest.ok.0 ∙ c.in-None.ensures.steps.0) in
+    let none : into_iter_items c.parts.part-iterator ≡ [] = nil_from_length _ (sym c.parts.part-iterator.rest.ok.0 ∙ c.in-None.ensures.steps.0) in
     parts_done _ _ _ _ (rw none at c.parts.invariant.loop)
 
 pub parts-preserved : goal.parts-preserved
@@ -64,6 +58,7 @@ parts-preserved g c =
     let loop = rw steps at c.parts.invariant.loop in
     let chain = c.in_ok-reply.ensures in
     record {
-      loop = rw (c.in_ok-push.ensures.items, map-append) (parts_more _ _ _ _ (dispatch_of c.in-Some.part) _ _ loop _ (from_place _ _ (dispatch_of c.in-Some.part) _ _ placed.0.direct chain));
+      loop = rw (c.push.ensures.items, c.unwrap.ensures, map-append) (parts_more _ _ _ _ (dispatch_of c.in-Some.part) _ _ loop _ (from_place _ _ (dispatch_of c.in-Some.part) _ _ placed.0.direct chain));
       placed = placed.1;
+      room = grind (arith, common_steps);
     }

@@ -1,4 +1,4 @@
-use Rattle.std.proofs.Common.{map}
+use Rattle.std.proofs.Common.{◌+◌, ◌≤◌, length, map, vec_capacity, vec_len}
 use Rattle.std.specs.List.{AllByRecursion}
 use Rattle.std.specs.Vec.Iter.{into_iter_items}
 use Rattle.resp_core.specs.View.{view}
@@ -12,4 +12,5 @@ abbrev pub invariant-parts : goal.invariant-parts
 invariant-parts g l = record {
   loop : PartLoop (whole g.L.ConnectionLike.seen l.fn.self) (whole g.L.ConnectionLike.seen l.self) (map dispatch_of l.fn.parts.items) (map dispatch_of (into_iter_items l.part-iterator)) (map view l.replies.items);
   placed : AllByRecursion (IsPlaced (nodes g.L.ConnectionLike.seen l.fn.self.links.nodes.items)) (into_iter_items l.part-iterator);
+  room : vec_len l.replies + length (into_iter_items l.part-iterator) ≤ vec_capacity l.replies;
 }
