@@ -6,3 +6,4 @@ mod Scripts
 mod Seen
 mod Setups
 mod Words
+mod OnlyFaults

@@ -11,3 +11,4 @@ pub mod ScriptRead
 pub mod Session
 pub mod Streams
 pub mod OneText
+pub mod OnlyFaults
