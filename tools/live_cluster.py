@@ -15,9 +15,9 @@ NAME = os.path.basename(sys.argv[0])
 
 
 def need_programs():
-    for needed in ("redis-server", "redis-cli", "socat"):
+    for needed in ("redis-server", "redis-cli"):
         if not shutil.which(needed):
-            sys.exit(f"{NAME}: {needed} is not here (Debian: apt-get install redis-server redis-tools socat)")
+            sys.exit(f"{NAME}: {needed} is not here (Debian: apt-get install redis-server redis-tools)")
 
 
 def cli(port, *words):

@@ -1,6 +1,6 @@
 //! Replies as `redis-cli` prints them, to a terminal or raw, and refusals for a person.
 use anyhow::Result;
-use cluster_client::{RedisError, Value};
+use cluster_client::{NodeAddress, RedisError, ServerError, Value};
 use std::alloc::Global;
 use std::io::Write;
 
@@ -227,14 +227,41 @@ fn print_quoted_byte(output: &mut Vec<u8>, byte: u8) -> Result<()> {
     Ok(())
 }
 
-/// Appends a refusal: a server's error as `redis-cli` prints it, any other with its number and kind.
-pub(crate) fn refusal(output: &mut Vec<u8>, style: Style, error: &RedisError) -> Result<()> {
+/// Appends a refusal: a server's error as `redis-cli` prints it, any other with its number and kind,
+/// and the node that was asked last.
+pub(crate) fn refusal(
+    output: &mut Vec<u8>,
+    style: Style,
+    error: &RedisError,
+    node: Option<&NodeAddress>,
+) -> Result<()> {
     let begin = if style == Style::Raw { "" } else { "(error) " };
     let end = if style == Style::Raw { "\n" } else { "" };
     match (error.code(), error.detail()) {
         (Some(code), Some(detail)) => writeln!(output, "{begin}{code} {detail}{end}")?,
         (Some(code), None) => writeln!(output, "{begin}{code}{end}")?,
-        (None, _) => writeln!(output, "(refused) {error}")?,
+        (None, _) => {
+            write!(output, "(refused) {error}")?;
+            if let Some(node) = node {
+                write!(output, "; last asked {node}")?;
+            }
+            writeln!(output, "")?;
+        }
+    }
+    Ok(())
+}
+
+/// Appends how many errors servers answered to a pipeline, and each behind the number from 1 of its
+/// command.
+pub(crate) fn errors(
+    output: &mut Vec<u8>,
+    style: Style,
+    errors: &[(usize, ServerError)],
+) -> Result<()> {
+    let begin = if style == Style::Raw { "" } else { "(error) " };
+    writeln!(output, "(errors) {}", errors.len())?;
+    for (position, error) in errors {
+        writeln!(output, "{}) {begin}{error}", position.saturating_add(1))?;
     }
     Ok(())
 }

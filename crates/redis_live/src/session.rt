@@ -1,6 +1,6 @@
 //! Commands in, replies out.
 use crate::devices::{Link, Peer, listed, open_link};
-use crate::print::{Style, refusal, reply};
+use crate::print::{Style, errors, refusal, reply};
 use crate::words::split;
 use anyhow::Result;
 use cluster_client::{
@@ -38,7 +38,7 @@ impl<L: ConnectionLike + Drop> Session<L> {
                 break;
             };
             write!(self.output, "(map from {}) ", peer.node)?;
-            refusal(&mut self.output, self.style, &error)?;
+            refusal(&mut self.output, self.style, &error, None)?;
         }
         if let Some(place) = answered
             && place < self.peers.len()
@@ -94,14 +94,31 @@ impl<L: ConnectionLike + Drop> Session<L> {
             return Ok(());
         };
         let answer = pipeline.query(alloc, &mut self.client);
-        self.tell(alloc, answer)
+        match answer {
+            Ok(value) => reply(&mut self.output, alloc, self.style, &value),
+            Err(error) => self.tell_errors(alloc, error),
+        }
+    }
+
+    /// Tells why a pipeline is refused: by the errors of servers, each of them.
+    fn tell_errors(&mut self, alloc: Global, error: RedisError) -> Result<()> {
+        if error.code().is_none() {
+            return self.tell_refusal(&error);
+        }
+        let found = error.into_server_errors(alloc)?;
+        errors(&mut self.output, self.style, &found)
     }
 
     fn tell(&mut self, alloc: Global, answer: Result<Value, RedisError>) -> Result<()> {
         match answer {
             Ok(value) => reply(&mut self.output, alloc, self.style, &value),
-            Err(error) => refusal(&mut self.output, self.style, &error),
+            Err(error) => self.tell_refusal(&error),
         }
+    }
+
+    fn tell_refusal(&mut self, error: &RedisError) -> Result<()> {
+        let node = self.client.asked().last().map(|asked| &asked.node);
+        refusal(&mut self.output, self.style, error, node)
     }
 
     fn flush<R: Print>(&mut self, rt: &R) -> io::Result<()> {
