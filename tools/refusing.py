@@ -2,6 +2,7 @@
 import os
 import shutil
 import subprocess
+import threading
 from pathlib import Path
 
 TOOLS = Path(__file__).resolve().parent
@@ -38,7 +39,7 @@ def run(words, made, which=0, given=b""):
     It answers the status, the lines printed, the text on standard error, and how many requests the
     program made: 0 where it did not end by itself.
     """
-    count = made.with_name("count")
+    count = made.with_name(f"count-{threading.get_ident()}")
     count.unlink(missing_ok=True)
     env = dict(os.environ, LD_PRELOAD=str(made), REFUSE=str(which), COUNT=str(count))
     ran = subprocess.run(words, input=given, capture_output=True, timeout=60, env=env)

@@ -1,0 +1,158 @@
+"""The calls of a client."""
+from . import combine, records, routing
+from .combine import Refused
+from .links import Request
+from .numbers import unsigned
+from .resp import first_error
+from .slots import address, all_nodes, primaries, primary, slot, slot_map
+
+KINDS = {
+    b"ERR": "ResponseError", b"EXECABORT": "ExecAbort", b"LOADING": "BusyLoading", b"NOSCRIPT": "NoScript",
+    b"MOVED": "Moved", b"ASK": "Ask", b"TRYAGAIN": "TryAgain", b"CLUSTERDOWN": "ClusterDown",
+    b"CROSSSLOT": "CrossSlot", b"MASTERDOWN": "MasterDown", b"READONLY": "ReadOnly", b"NOTBUSY": "NotBusy",
+    b"NOSUB": "NoSub", b"NOPERM": "NoPerm",
+}
+CLIENT = Refused("Client")
+NO_LINK = Refused("ClusterConnectionNotFound")
+ASCII_SPACE = "\t\n\f\r "
+
+
+def by_server(error):
+    kind = KINDS.get(error[1])
+    return Refused(f"Server({kind})" if kind else "Extension")
+
+
+def without_error(tree):
+    error = first_error(tree)
+    if error:
+        raise by_server(error)
+    return tree
+
+
+def words(text):
+    for space in ASCII_SPACE:
+        text = text.replace(space, " ")
+    return [word for word in text.split(" ") if word]
+
+
+def target(tree):
+    """Where a redirect leads and whether with ASKING, None for what can not be followed."""
+    if tree[0] != "error" or tree[1] not in (b"MOVED", b"ASK"):
+        return None
+    named = words(tree[2].decode())
+    if len(named) < 2 or unsigned(named[0], 16) is None:
+        return None
+    node = address(named[1])
+    return (node, tree[1] == b"ASK") if node else None
+
+
+class Client:
+    """Links by address, the budget of redirects, the slot map, and the log of the call that is made."""
+
+    def __init__(self, links, budget, memory):
+        self.links, self.budget, self.memory = links, budget, memory
+        self.entries, self.log = {}, []
+
+    def exchange(self, node, requests, offset=0):
+        """Writes the requests to the log, sends them in one write, and takes a reply to each."""
+        self.memory.begin_exchange()
+        self.log += requests
+        self.memory.at("logged")
+        data = b"".join(request.data() for request in requests)
+        replies = self.links[node].call(data, offset, len(requests), self.memory)
+        self.memory.at("taken")
+        return replies
+
+    def linked(self, node):
+        """The node, where there is one and an open link leads to it."""
+        if node not in self.links or not self.links[node].is_open:
+            raise NO_LINK
+        return node
+
+    def refresh(self, node):
+        [reply] = self.exchange(self.linked(node), [Request(node, [b"CLUSTER", b"SLOTS"])])
+        self.entries = slot_map(without_error(reply), node[0])
+
+    def follow(self, node, args):
+        """The reply to one part, behind its redirects."""
+        asking, left = False, self.budget
+        while True:
+            [reply] = self.exchange(node, [Request(node, args, asking)], int(asking))
+            onward = target(reply) if left else None
+            if not onward:
+                return without_error(reply)
+            node, asking = self.linked(onward[0]), onward[1]
+            left -= 1
+
+    def first_node(self, part, number):
+        if part.slot is not None:
+            return self.linked(primary(self.entries, part.slot))
+        nodes = all_nodes(self.entries)
+        return self.linked(nodes[number % len(nodes)] if nodes else None)
+
+    def query(self, args, number=0, order=None):
+        try:
+            parts = routing.parts(args)
+        except routing.NoRoute:
+            raise CLIENT from None
+        order = list(range(len(parts))) if order is None else order
+        if sorted(order) != list(range(len(parts))):
+            raise CLIENT
+        nodes = [self.first_node(part, number) for part in parts]
+        replies = [self.follow(nodes[at], parts[at].args) for at in order]
+        if not routing.is_split(args):
+            return replies[0]
+        return combine.of_parts(args, [parts[at] for at in order], replies)
+
+    def whole_slot(self, args):
+        """The one slot that a command of a pipeline goes to."""
+        try:
+            parts = routing.parts(args)
+        except routing.NoRoute:
+            raise CLIENT from None
+        if len(parts) != 1 or parts[0].slot is None:
+            raise CLIENT
+        return parts[0].slot
+
+    def pipeline(self, commands):
+        """The array of the replies to commands, each with whether its reply is left out."""
+        slots = [self.whole_slot(args) for args, _ in commands]
+        nodes = [self.linked(primary(self.entries, number)) for number in slots]
+        replies = [None] * len(nodes)
+        for node in dict.fromkeys(nodes):
+            places = [place for place, it in enumerate(nodes) if it == node]
+            taken = self.exchange(node, [Request(node, commands[place][0]) for place in places])
+            for place, reply in zip(places, taken):
+                replies[place] = reply
+        for reply in replies:
+            without_error(reply)
+        return ("array", [reply for reply, (_, ignored) in zip(replies, commands) if not ignored])
+
+    def outcome(self, node, args):
+        try:
+            [reply] = self.exchange(node, [Request(node, args)])
+            return without_error(reply)
+        except Refused as refused:
+            if str(refused) == "Memory":
+                raise
+            return refused
+
+    def fan(self, args):
+        try:
+            has_replicas, policy = routing.several(args)
+        except routing.NoRoute:
+            raise CLIENT from None
+        nodes = all_nodes(self.entries) if has_replicas else primaries(self.entries)
+        if not nodes:
+            raise NO_LINK
+        nodes = [self.linked(node) for node in nodes]
+        return combine.of_nodes(policy, [(node, self.outcome(node, args)) for node in nodes])
+
+    def xrange(self, key, start, end):
+        return records.entries(self.query([b"XRANGE", key, start, end]))
+
+    def xread(self, keys, ids):
+        if len({slot(key) for key in keys}) != 1:
+            raise CLIENT
+        part = routing.Part([b"XREAD", b"STREAMS", *keys, *ids], slot(keys[0]))
+        return records.reply(self.follow(self.first_node(part, 0), part.args))

@@ -1,0 +1,141 @@
+"""Runs by wrong rules, each of which tools/fault-checks has to see refused."""
+from model.client import Client
+from model.combine import Refused
+from model.links import Link
+from model.play import Run
+
+NIL = ("nil",)
+
+
+class LeavesLinkOpen(Link):
+    def call(self, *args):
+        try:
+            return super().call(*args)
+        finally:
+            self.is_open = True
+
+
+class WritesAgain(Link):
+    """Behind a refused write it writes the whole once more."""
+
+    def write(self, data):
+        try:
+            super().write(data)
+        except Refused:
+            super().write(data)
+
+
+class ReadsOnceMore(Link):
+    """It reads behind the last reply too."""
+
+    def call(self, *args):
+        replies = super().call(*args)
+        if self.come < self.size:
+            self.read()
+        return replies
+
+
+class ForgetsReplies(Link):
+    """A refused call drops what was read, and the link goes on behind it."""
+
+    def call(self, *args):
+        try:
+            return super().call(*args)
+        except Refused:
+            self.is_open, self.taken = True, len(self.values)
+            raise
+
+
+class LogsBehindSend(Client):
+    def exchange(self, node, requests, offset=0):
+        log = self.log
+        self.log = []
+        try:
+            replies = super().exchange(node, requests, offset)
+        finally:
+            self.log = log
+        self.log += requests
+        return replies
+
+
+class ClearsMap(Client):
+    """A refused refresh clears the slot map."""
+
+    def refresh(self, node):
+        try:
+            super().refresh(node)
+        except Refused:
+            self.entries = {}
+            raise
+
+
+class ClosesAll(Client):
+    """A refused exchange closes the links to all nodes."""
+
+    def exchange(self, node, requests, offset=0):
+        try:
+            return super().exchange(node, requests, offset)
+        except Refused:
+            for link in self.links.values():
+                link.is_open = False
+            raise
+
+
+class AnswersNil(Client):
+    """Where a link is closed, others answer nil."""
+
+    def follow(self, node, args):
+        reply = super().follow(node, args)
+        return reply if all(link.is_open for link in self.links.values()) else NIL
+
+
+class ChecksLinksLate(Client):
+    """The link of a part is looked for when the part is sent."""
+
+    def first_node(self, part, number):
+        try:
+            return super().first_node(part, number)
+        except Refused:
+            return min(self.links)
+
+    def exchange(self, node, requests, offset=0):
+        return super().exchange(self.linked(node), requests, offset)
+
+
+class AsksAgain(Client):
+    """A refused exchange is made again."""
+
+    def exchange(self, node, requests, offset=0):
+        try:
+            return super().exchange(node, requests, offset)
+        except Refused:
+            self.links[node].is_open = True
+            super().exchange(node, requests, offset)
+            raise
+
+
+class SendsLaterParts(Client):
+    """Behind a part whose link failed the later ones are sent."""
+
+    def query(self, args, number=0, order=None):
+        try:
+            return super().query(args, number, order)
+        except Refused as refused:
+            if str(refused) in ("Io", "Memory") and self.log and len(args) > 2:
+                super().query([args[0], args[-1]])
+            raise
+
+
+def by(part):
+    """Runs with this wrong link or client."""
+    name = "make_link" if issubclass(part, Link) else "make_client"
+    return type(part.__name__, (Run,), {name: part})
+
+
+FAULTS = [by(it) for it in (
+    LeavesLinkOpen, WritesAgain, ReadsOnceMore, ForgetsReplies, LogsBehindSend, ClearsMap, ClosesAll, AnswersNil,
+    ChecksLinksLate, AsksAgain, SendsLaterParts,
+)]
+MEMORY = [by(it) for it in (
+    LeavesLinkOpen, ForgetsReplies, LogsBehindSend, ClearsMap, ClosesAll, AsksAgain, SendsLaterParts,
+)]
