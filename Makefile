@@ -5,9 +5,9 @@
 # MINUTES=N make test   the same, but with as many of the must-fail edits as end within N minutes (docs/GATE.md)
 # make bench            times 10,000 and 20,000 queries, an MGET of as many keys, a pipeline of as many commands, the
 #                       parser over bytes cut in pieces, and a map of up to 16,384 slot ranges
-# make live HOST=H PORT=P   takes commands for the cluster of the node at H and P from standard input, by socat (docs/LIVE.md)
-# make live-test        tries that against a cluster of six, which it starts, by one client and then by four on the same keys;
-#                       no part of the gate
+# make live HOST=H PORT=P   takes commands for the cluster of the node at H and P from standard input (docs/LIVE.md)
+# make live-test        tries the program of docs/SOCKETS.md, and then `make live`, by one client and by four on the same keys,
+#                       against clusters of six, which it starts; no part of the gate
 SESSION ?= examples/sessions/moved.session
 
 HOST ?= 127.0.0.1
@@ -33,4 +33,5 @@ live:
 	@program=$$(tools/build redis_live) && tools/live "$$program" "$(HOST)" "$(PORT)"
 
 live-test:
+	@tools/sockets-test
 	@program=$$(tools/build redis_live) && tools/live-test "$$program" && tools/live-clients "$$program"
