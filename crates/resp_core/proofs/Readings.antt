@@ -40,12 +40,13 @@ Takes-append {a} {b} {c} {ss} {ts} p q = record {
   got = p.got ++ q.got;
   bytes = p.bytes ++ q.bytes;
   consumed = Consumes-append a.left b.left c.left p.got q.got p.consumed q.consumed;
-  spells = SpelledInOrder-append 100 p.bytes q.bytes ss ts p.spells q.spells;
+  spells = SpelledInOrder-append a.limit p.bytes q.bytes ss ts p.spells (subst (λ k. SpelledInOrder k q.bytes ts) p.same_limit q.spells);
   joins = sym (append_assoc a.held p.got q.got) ∙ ap (λ s. s ++ q.got) p.joins ∙ append_assoc p.bytes b.held q.got
       ∙ ap (λ s. p.bytes ++ s) q.joins ∙ sym (append_assoc p.bytes q.bytes c.held);
   room = both_fit p.got q.got a.allowed b.allowed c.allowed p.room q.room;
   reads = λ h. q.reads (subst (λ k. k < 2 ^ 64 - 1) (sym (p.reads h)) h) ∙ p.reads h;
   promise = q.promise ∙ p.promise;
+  same_limit = q.same_limit ∙ p.same_limit;
 }
 
 -- what was so before the last read of the one or of the other
@@ -71,34 +72,34 @@ ReadsWhile-append P Q Such a b c p got first second before (inr l) =
     )
 
 -- the first trees are there
-pub BeginsInOrder-first : (ss ts : List Tree) (bytes rest : List ℕ) → BeginsInOrder (ss ++ ts) bytes rest → (behind : List ℕ) × BeginsInOrder ss bytes behind × BeginsInOrder ts behind rest
-BeginsInOrder-first [] ts bytes rest h = (bytes, ([], refl, refl), h)
-BeginsInOrder-first (s ∷ ss) ts bytes rest h =
+pub BeginsInOrder-first : (limit : ℕ) (ss ts : List Tree) (bytes rest : List ℕ) → BeginsInOrder limit (ss ++ ts) bytes rest → (behind : List ℕ) × BeginsInOrder limit ss bytes behind × BeginsInOrder limit ts behind rest
+BeginsInOrder-first limit [] ts bytes rest h = (bytes, ([], refl, refl), h)
+BeginsInOrder-first limit (s ∷ ss) ts bytes rest h =
     let value = h.1 in
-    let more = BeginsInOrder-first ss ts (value.1 ++ rest) rest (value.1, value.4, refl) in
+    let more = BeginsInOrder-first limit ss ts (value.1 ++ rest) rest (value.1, value.4, refl) in
     let parts : value.1 ++ rest ≡ more.1.0 ++ more.0 = more.1.2 in
     let all : bytes ≡ (value.0 ++ more.1.0) ++ more.0 = h.2 ∙ ap (λ x. x ++ rest) value.2 ∙ append_assoc value.0 value.1 rest ∙ ap (λ x. value.0 ++ x) parts ∙ sym (append_assoc value.0 more.1.0 more.0) in
     (more.0, (value.0 ++ more.1.0, (value.0, more.1.0, refl, value.3, more.1.1), all), more.2)
 
 -- behind trees that are there, in one way
-pub BeginsInOrder-behind : (ss ts : List Tree) (bytes more rest : List ℕ) → SpelledInOrder 100 bytes ss → BeginsInOrder (ss ++ ts) (bytes ++ more) rest → BeginsInOrder ts more rest
-BeginsInOrder-behind [] ts bytes more rest p h = subst (λ x. BeginsInOrder ts (x ++ more) rest) p h
-BeginsInOrder-behind (s ∷ ss) ts bytes more rest p h =
+pub BeginsInOrder-behind : (limit : ℕ) (ss ts : List Tree) (bytes more rest : List ℕ) → SpelledInOrder limit bytes ss → BeginsInOrder limit (ss ++ ts) (bytes ++ more) rest → BeginsInOrder limit ts more rest
+BeginsInOrder-behind limit [] ts bytes more rest p h = subst (λ x. BeginsInOrder limit ts (x ++ more) rest) p h
+BeginsInOrder-behind limit (s ∷ ss) ts bytes more rest p h =
     let value = h.1 in
     let here : bytes ++ more ≡ p.0 ++ (p.1 ++ more) = ap (λ x. x ++ more) p.2 ∙ append_assoc p.0 p.1 more in
     let there : bytes ++ more ≡ value.0 ++ (value.1 ++ rest) = h.2 ∙ ap (λ x. x ++ rest) value.2 ∙ append_assoc value.0 value.1 rest in
-    let one = one_value 100 1 p.0 value.0 (p.1 ++ more) (value.1 ++ rest) s s p.3 value.3 (sym here ∙ there) in
+    let one = one_value limit 1 p.0 value.0 (p.1 ++ more) (value.1 ++ rest) s s p.3 value.3 (sym here ∙ there) in
     let behind : p.1 ++ more ≡ value.1 ++ rest = append_cancel_left p.0 (p.1 ++ more) (value.1 ++ rest) (sym here ∙ there ∙ ap (λ x. x ++ (value.1 ++ rest)) (sym one.0)) in
-    BeginsInOrder-behind ss ts p.1 more rest p.4 (value.1, value.4, behind)
+    BeginsInOrder-behind limit ss ts p.1 more rest p.4 (value.1, value.4, behind)
 
-pub Lacks-first : (ss ts : List Tree) (bytes : List ℕ) → Lacks ss bytes → Lacks (ss ++ ts) bytes
-Lacks-first ss ts bytes lacks rest h = let first = BeginsInOrder-first ss ts bytes rest h in lacks first.0 first.1
+pub Lacks-first : (limit : ℕ) (ss ts : List Tree) (bytes : List ℕ) → Lacks limit ss bytes → Lacks limit (ss ++ ts) bytes
+Lacks-first limit ss ts bytes lacks rest h = let first = BeginsInOrder-first limit ss ts bytes rest h in lacks first.0 first.1
 
-pub Lacks-behind : (ss ts : List Tree) (bytes more : List ℕ) → SpelledInOrder 100 bytes ss → Lacks ts more → Lacks (ss ++ ts) (bytes ++ more)
-Lacks-behind ss ts bytes more p lacks rest h = lacks rest (BeginsInOrder-behind ss ts bytes more rest p h)
+pub Lacks-behind : (limit : ℕ) (ss ts : List Tree) (bytes more : List ℕ) → SpelledInOrder limit bytes ss → Lacks limit ts more → Lacks limit (ss ++ ts) (bytes ++ more)
+Lacks-behind limit ss ts bytes more p lacks rest h = lacks rest (BeginsInOrder-behind limit ss ts bytes more rest p h)
 
-pub Awaits-behind : (ss ts : List Tree) (bytes more : List ℕ) → SpelledInOrder 100 bytes ss → Awaits ts more → Awaits (ss ++ ts) (bytes ++ more)
-Awaits-behind ss ts bytes more p awaits rest h = awaits rest (BeginsInOrder-behind ss ts bytes more rest p h)
+pub Awaits-behind : (limit : ℕ) (ss ts : List Tree) (bytes more : List ℕ) → SpelledInOrder limit bytes ss → Awaits limit ts more → Awaits limit (ss ++ ts) (bytes ++ more)
+Awaits-behind limit ss ts bytes more p awaits rest h = awaits rest (BeginsInOrder-behind limit ss ts bytes more rest p h)
 
 pub IsSound-none : (a : Counts) → IsSound a a
 IsSound-none a = record { refused = refl; empty = refl; kept = RefusesNone-none a.promise a.reads }
@@ -114,7 +115,8 @@ pub Reads-append : {a b c : Reading} {ss ts : List Tree} → Reads a b ss → Re
 Reads-append {a} {b} {c} {ss} {ts} p q = record {
   takes = Takes-append p.takes q.takes;
   sound = IsSound-append p.takes.promise p.sound q.sound;
-  needed = ReadsWhile-append (Lacks ss) (Lacks ts) (Lacks (ss ++ ts)) a b c p.takes q.takes.got (Lacks-first ss ts) (λ more. Lacks-behind ss ts p.takes.bytes (b.held ++ more) p.takes.spells) p.needed q.needed;
+  needed = ReadsWhile-append (Lacks a.limit ss) (Lacks b.limit ts) (Lacks a.limit (ss ++ ts)) a b c p.takes q.takes.got (Lacks-first a.limit ss ts)
+      (λ more lacks. Lacks-behind a.limit ss ts p.takes.bytes (b.held ++ more) p.takes.spells (subst (λ k. Lacks k ts (b.held ++ more)) p.takes.same_limit lacks)) p.needed q.needed;
 }
 
 abbrev pub Takes-none : (a : Reading) → Takes a a []
@@ -127,6 +129,7 @@ Takes-none a = record {
   room = subst (λ k. k ≤ 4096 * a.allowed) (sym (add_comm 0 (4096 * a.allowed) ∙ add-zero (4096 * a.allowed))) (le_refl (4096 * a.allowed));
   reads = λ _. refl;
   promise = refl;
+  same_limit = refl;
 }
 
 pub Reads-none : (a : Reading) → Reads a a []
@@ -147,8 +150,8 @@ pub Seeks-after : {a b c : Reading} {ss ts : List Tree} → Reads a b ss → See
 Seeks-after {a} {b} {c} {ss} {ts} p q = record {
   takes = Takes-append p.takes q.takes;
   sound = IsSound-append p.takes.promise p.sound q.sound;
-  needed = ReadsWhile-append (Lacks ss) (Awaits ts) (Awaits (ss ++ ts)) a b c p.takes q.takes.got (λ bytes lacks rest h. absurd (Lacks-first ss ts bytes lacks rest h))
-      (λ more. Awaits-behind ss ts p.takes.bytes (b.held ++ more) p.takes.spells) p.needed q.needed;
+  needed = ReadsWhile-append (Lacks a.limit ss) (Awaits b.limit ts) (Awaits a.limit (ss ++ ts)) a b c p.takes q.takes.got (λ bytes lacks rest h. absurd (Lacks-first a.limit ss ts bytes lacks rest h))
+      (λ more awaits. Awaits-behind a.limit ss ts p.takes.bytes (b.held ++ more) p.takes.spells (subst (λ k. Awaits k ts (b.held ++ more)) p.takes.same_limit awaits)) p.needed q.needed;
 }
 
 -- behind what was read before, whichever way further values are sought behind it

@@ -33,11 +33,12 @@ impl Parser {
 
     /// The next value, which may nest so many levels deep.
     pub(super) fn next_value(&mut self, levels: u16) -> Result<Value, Stop>
-        requires levels { levels ≤ 100 }
+        requires levels { levels ≤ self.old.limit }
         ensures reaches { Reaches levels result self.old self.new }
         ensures looks { Looks self.old self.new }
         ensures condition { self.new.condition ≡ self.old.condition }
         ensures no_more { KeepsNoMore self.old self.new }
+        ensures limit { self.new.limit ≡ self.old.limit }
     {
         loop {
             if let Some(value) = self.advance(levels)? {
@@ -48,11 +49,12 @@ impl Parser {
 
     // A type byte, a line, or counted bytes. It answers the value that is then whole, if one is.
     fn advance(&mut self, levels: u16) -> Result<Option<Value>, Stop>
-        requires levels { levels ≤ 100 }
+        requires levels { levels ≤ self.old.limit }
         ensures advances { Advances levels result self.old self.new }
         ensures looks { Looks self.old self.new }
         ensures condition { self.new.condition ≡ self.old.condition }
         ensures no_more { KeepsNoMore self.old self.new }
+        ensures limit { self.new.limit ≡ self.old.limit }
     {
         match self.head {
             Head::Fresh => self.begin(levels),
@@ -64,11 +66,12 @@ impl Parser {
     // The type byte; the outermost value may nest so many levels deep.
     fn begin(&mut self, levels: u16) -> Result<Option<Value>, Stop>
         requires fresh { self.old.head ≡ Fresh }
-        requires levels { levels ≤ 100 }
+        requires levels { levels ≤ self.old.limit }
         ensures advances { Advances levels result self.old self.new }
         ensures looks { Looks self.old self.new }
         ensures condition { self.new.condition ≡ self.old.condition }
         ensures no_more { KeepsNoMore self.old self.new }
+        ensures limit { self.new.limit ≡ self.old.limit }
     {
         let start = self.front;
         if start == self.buffer.len() {
@@ -96,6 +99,7 @@ impl Parser {
         ensures looks { Looks self.old self.new }
         ensures condition { self.new.condition ≡ self.old.condition }
         ensures no_more { KeepsNoMore self.old self.new }
+        ensures limit { self.new.limit ≡ self.old.limit }
     {
         let start = self.front;
         let searched = self.scanned - start;
@@ -132,6 +136,7 @@ impl Parser {
         ensures looks { Looks self.old self.new }
         ensures condition { self.new.condition ≡ self.old.condition }
         ensures no_more { KeepsNoMore self.old self.new }
+        ensures limit { self.new.limit ≡ self.old.limit }
     {
         let alloc = *self.buffer.allocator();
         let all = self.buffer.len();

@@ -14,7 +14,7 @@ impl Parser {
     ghost use Rattle.std.specs.Prelude.{◌≡◌, ◌+◌, ◌^◌, true, false, List, ℕ, [], ◌∷◌, ◌⊎◌, ◌↔◌, IfOk, IfErr, OnOk, OnErr, IsErrOf, ◌++◌};
     ghost use Rattle.resp_core.specs.View.{view};
     ghost use Rattle.resp_core.specs.Errors.{by_cause};
-    ghost use Rattle.resp_core.specs.Standing.{Stands, has_fault, is_starved, waiting, is_resting, BeginsUnfinished};
+    ghost use Rattle.resp_core.specs.Standing.{Stands, level_limit, has_fault, is_starved, waiting, is_resting, BeginsUnfinished};
     ghost use Rattle.resp_core.specs.Incoming.{reading, Reads, Seeks, Stops, Meets};
     ghost use Rattle.resp_core.specs.declared.errors.redis_error.Cause.TheVariants.{Io, Parse, Memory};
 
@@ -26,23 +26,24 @@ impl Parser {
     /// refuses so for good.
     pub fn parse_value<R: LinkRead>(&mut self, reader: &mut R) -> Result<Value, RedisError>
         ensures value { IfOk result (λ v. (held : List ℕ) → Stands self.old held → (allowed : ℕ)
-            × Reads (reading R.left R.counts reader.old held (2 ^ 32)) (reading R.left R.counts reader.new (waiting self.new) allowed) (view v ∷ [])
+            × Reads (reading R.left R.counts reader.old (level_limit self.old) held (2 ^ 32)) (reading R.left R.counts reader.new (level_limit self.new) (waiting self.new) allowed) (view v ∷ [])
             × Stands self.new (waiting self.new)) }
         ensures stops { IsErrOf result (by_cause Io) → (held : List ℕ) → Stands self.old held → (allowed : ℕ) × (rest : List ℕ)
-            × Stops (reading R.left R.counts reader.old held (2 ^ 32)) (reading R.left R.counts reader.new rest allowed) []
+            × Stops (reading R.left R.counts reader.old (level_limit self.old) held (2 ^ 32)) (reading R.left R.counts reader.new (level_limit self.new) rest allowed) []
             × Stands self.new rest }
         ensures meets { IsErrOf result (by_cause Parse) → (held : List ℕ) → Stands self.old held → (allowed : ℕ) × (rest : List ℕ)
-            × Meets (reading R.left R.counts reader.old held (2 ^ 32)) (reading R.left R.counts reader.new rest allowed) []
+            × Meets (reading R.left R.counts reader.old (level_limit self.old) held (2 ^ 32)) (reading R.left R.counts reader.new (level_limit self.new) rest allowed) []
             × Stands self.new rest }
         // Want of memory takes no value, and what was read is lost.
         ensures starves { IsErrOf result (by_cause Memory) → (held : List ℕ) → Stands self.old held → (allowed : ℕ) × (rest : List ℕ)
-            × Seeks (reading R.left R.counts reader.old held (2 ^ 32)) (reading R.left R.counts reader.new rest allowed) [] }
+            × Seeks (reading R.left R.counts reader.old (level_limit self.old) held (2 ^ 32)) (reading R.left R.counts reader.new (level_limit self.new) rest allowed) [] }
         ensures causes { IfErr result (λ e. (e ≡ by_cause Io) ⊎ (e ≡ by_cause Parse) ⊎ (e ≡ by_cause Memory)) }
         // A fault and a want of memory are told for good.
         ensures has_fault { IsErrOf result (by_cause Parse) ↔ (has_fault self.new ≡ true) }
         ensures is_starved { IsErrOf result (by_cause Memory) ↔ (is_starved self.new ≡ true) }
         ensures fault_stays { has_fault self.old ≡ true → IsErrOf result (by_cause Parse) }
         ensures starved_stays { is_starved self.old ≡ true → has_fault self.old ≡ false → IsErrOf result (by_cause Memory) }
+        ensures limit { level_limit self.new ≡ level_limit self.old }
     {
         let mut allowed = READS;
         self.parse_within(reader, &mut allowed)
@@ -57,16 +58,16 @@ impl Parser {
         allowed: &mut u64,
     ) -> Result<Value, RedisError>
         ensures value { IfOk result (λ v. (held : List ℕ) → Stands self.old held
-            → Reads (reading R.left R.counts reader.old held allowed.old) (reading R.left R.counts reader.new (waiting self.new) allowed.new) (view v ∷ [])
+            → Reads (reading R.left R.counts reader.old (level_limit self.old) held allowed.old) (reading R.left R.counts reader.new (level_limit self.new) (waiting self.new) allowed.new) (view v ∷ [])
             × Stands self.new (waiting self.new)) }
         ensures stops { IsErrOf result (by_cause Io) → (held : List ℕ) → Stands self.old held → (rest : List ℕ)
-            × Stops (reading R.left R.counts reader.old held allowed.old) (reading R.left R.counts reader.new rest allowed.new) []
+            × Stops (reading R.left R.counts reader.old (level_limit self.old) held allowed.old) (reading R.left R.counts reader.new (level_limit self.new) rest allowed.new) []
             × Stands self.new rest }
         ensures meets { IsErrOf result (by_cause Parse) → (held : List ℕ) → Stands self.old held → (rest : List ℕ)
-            × Meets (reading R.left R.counts reader.old held allowed.old) (reading R.left R.counts reader.new rest allowed.new) []
+            × Meets (reading R.left R.counts reader.old (level_limit self.old) held allowed.old) (reading R.left R.counts reader.new (level_limit self.new) rest allowed.new) []
             × Stands self.new rest }
         ensures starves { IsErrOf result (by_cause Memory) → (held : List ℕ) → Stands self.old held → (rest : List ℕ)
-            × Seeks (reading R.left R.counts reader.old held allowed.old) (reading R.left R.counts reader.new rest allowed.new) [] }
+            × Seeks (reading R.left R.counts reader.old (level_limit self.old) held allowed.old) (reading R.left R.counts reader.new (level_limit self.new) rest allowed.new) [] }
         ensures causes { IfErr result (λ e. (e ≡ by_cause Io) ⊎ (e ≡ by_cause Parse) ⊎ (e ≡ by_cause Memory)) }
         // After a value none is half read.
         ensures rests { IfOk result (λ _. is_resting self.new ≡ true) }
@@ -75,6 +76,7 @@ impl Parser {
         ensures is_starved { IsErrOf result (by_cause Memory) ↔ (is_starved self.new ≡ true) }
         ensures fault_stays { has_fault self.old ≡ true → IsErrOf result (by_cause Parse) }
         ensures starved_stays { is_starved self.old ≡ true → has_fault self.old ≡ false → IsErrOf result (by_cause Memory) }
+        ensures limit { level_limit self.new ≡ level_limit self.old }
     {
         loop {
             if let Some(value) = self.take_value()? {
@@ -92,17 +94,18 @@ impl Parser {
     ) -> Result<(), RedisError>
         requires whole { has_fault self.old ≡ false }
         requires fed { is_starved self.old ≡ false }
-        ensures more { OnOk result ((held : List ℕ) → BeginsUnfinished 100 held → Stands self.old held → (rest : List ℕ)
-            × Seeks (reading R.left R.counts reader.old held allowed.old) (reading R.left R.counts reader.new rest allowed.new) []
+        ensures more { OnOk result ((held : List ℕ) → BeginsUnfinished (level_limit self.old) held → Stands self.old held → (rest : List ℕ)
+            × Seeks (reading R.left R.counts reader.old (level_limit self.old) held allowed.old) (reading R.left R.counts reader.new (level_limit self.new) rest allowed.new) []
             × Stands self.new rest) }
-        ensures starves { IsErrOf result (by_cause Memory) → (held : List ℕ) → BeginsUnfinished 100 held → Stands self.old held → (rest : List ℕ)
-            × Seeks (reading R.left R.counts reader.old held allowed.old) (reading R.left R.counts reader.new rest allowed.new) [] }
-        ensures stops { IsErrOf result (by_cause Io) → (held : List ℕ) → BeginsUnfinished 100 held → Stands self.old held
-            → Stops (reading R.left R.counts reader.old held allowed.old) (reading R.left R.counts reader.new held allowed.new) []
+        ensures starves { IsErrOf result (by_cause Memory) → (held : List ℕ) → BeginsUnfinished (level_limit self.old) held → Stands self.old held → (rest : List ℕ)
+            × Seeks (reading R.left R.counts reader.old (level_limit self.old) held allowed.old) (reading R.left R.counts reader.new (level_limit self.new) rest allowed.new) [] }
+        ensures stops { IsErrOf result (by_cause Io) → (held : List ℕ) → BeginsUnfinished (level_limit self.old) held → Stands self.old held
+            → Stops (reading R.left R.counts reader.old (level_limit self.old) held allowed.old) (reading R.left R.counts reader.new (level_limit self.new) held allowed.new) []
             × Stands self.new held }
         ensures fewer { OnOk result (allowed.new + 1 ≡ allowed.old) }
         ensures causes { IfErr result (λ e. (e ≡ by_cause Io) ⊎ (e ≡ by_cause Memory)) }
         ensures has_fault { has_fault self.new ≡ false }
+        ensures limit { level_limit self.new ≡ level_limit self.old }
         ensures is_starved { IsErrOf result (by_cause Memory) ↔ (is_starved self.new ≡ true) }
     {
         if *allowed == 0 {
@@ -124,6 +127,7 @@ impl Parser {
         ensures ok { OnOk result ((bytes : List ℕ) → Stands self.old bytes → Stands self.new (bytes ++ piece.now)) }
         ensures causes { IfErr result (λ e. e ≡ by_cause Memory) }
         ensures has_fault { has_fault self.new ≡ false }
+        ensures limit { level_limit self.new ≡ level_limit self.old }
         ensures is_starved { OnErr result (is_starved self.new ≡ true) }
         ensures is_fed { OnOk result (is_starved self.new ≡ false) }
     {

@@ -11,7 +11,7 @@ returns-in-Ok-clause-more g c = on_ok_weaker c.feed_or_starve.result
     (λ fed held unfinished stands.
     let read = c.in-Ok.ensures in (
       held ++ take c.in-Ok.n c.read_some.new.buffer,
-      Seeks-once _ _ c.read_some.new.buffer c.in-Ok.n unfinished read.bytes read.counts refl c.in-Ok.n-test.1 read.bound c.read_some.auto.buffer (omega arith),
+      Seeks-once _ _ c.read_some.new.buffer c.in-Ok.n unfinished read.bytes read.counts refl c.in-Ok.n-test.1 read.bound c.read_some.auto.buffer (omega arith) c.feed_or_starve.ensures.limit,
       fed held stands,
     ))
     c.feed_or_starve.ensures.ok
@@ -20,5 +20,5 @@ pub returns-in-Ok-clause-starves : goal.returns-in-Ok-clause-starves
 returns-in-Ok-clause-starves g c is held unfinished stands =
     let read = c.in-Ok.ensures in (
       held ++ take c.in-Ok.n c.read_some.new.buffer,
-      Seeks-once _ _ c.read_some.new.buffer c.in-Ok.n unfinished read.bytes read.counts refl c.in-Ok.n-test.1 read.bound c.read_some.auto.buffer (omega arith),
+      Seeks-once _ _ c.read_some.new.buffer c.in-Ok.n unfinished read.bytes read.counts refl c.in-Ok.n-test.1 read.bound c.read_some.auto.buffer (omega arith) c.feed_or_starve.ensures.limit,
     )
