@@ -15,7 +15,7 @@ pub data WhyRefused (old new : Seen) (refusal : Refusal) : Type 0 where
   no_room_to_write : new.write_counts.no_room ≡ counted old.write_counts.no_room → refusal ≡ by_cause Io → WhyRefused old new refusal
   bytes_ended : IsAtEnd new.left → refusal ≡ by_cause Io → WhyRefused old new refusal
   reads_ran_out : (got : List ℕ) → Consumes old.left new.left got → 2 ^ 32 ≤ length got → refusal ≡ by_cause Io → WhyRefused old new refusal
-  bytes_faulty : (held : List ℕ) → BeginsFaulty 100 held → refusal ≡ by_cause Parse → WhyRefused old new refusal
+  bytes_faulty : (held : List ℕ) → BeginsFaulty old.limit held → refusal ≡ by_cause Parse → WhyRefused old new refusal
   no_memory : refusal ≡ by_cause Memory → WhyRefused old new refusal
 
 abbrev pub FaultsHaveACause : Type 0

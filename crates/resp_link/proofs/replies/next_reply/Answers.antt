@@ -9,13 +9,13 @@ use Rattle.resp_link.proofs.Taking.{refused, ReadsPushes-none, ReadsPushes-pushe
 use Rattle.resp_link.proofs.replies.next_reply.Goals as goal
 
 pub loop-value-init : goal.loop-value-init
-loop-value-init g c = record { reads = ReadsPushes-none _ _; rests = c.requires }
+loop-value-init g c = record { reads = ReadsPushes-none _ _; rests = c.requires; limit = refl }
 
 pub returns-in_err-value-clause-refused : goal.returns-in_err-value-clause-refused
 returns-in_err-value-clause-refused g c =
     let p = err_from_is_err_and c.from_residual.result c.from_residual.ensures.1 in
     let waits = resting_stands _ c.loop-value.invariant.rests in
-    rw (p.1, p.2) (refused g.R.LinkRead.left g.R.LinkRead.counts c.parse_within.new.reader c.parse_within.new.allowed (Stands c.parse_within.new.self) _
+    rw (p.1, p.2) (refused g.R.LinkRead.left g.R.LinkRead.counts c.parse_within.new.reader _ c.parse_within.new.allowed (Stands c.parse_within.new.self) _
     c.loop-value.invariant.reads
     (λ io. c.in_err-value.ensures.stops (ap Err io) _ waits)
     (λ parse. c.in_err-value.ensures.meets (ap Err parse) _ waits)
@@ -40,6 +40,7 @@ loop-value-preserved g c =
       reads = ReadsPushes-pushed (view c.in_ok-value.value) (push_view c.in-Ok.push) c.loop-value.invariant.reads taken.0 c.in-Ok.ensures refl
           (ap (map push_view) pushed ∙ map-append push_view c.loop-value.pushes.items (c.in-Ok.push ∷ []));
       rests = c.in_ok-value.ensures.rests;
+      limit = c.parse_within.ensures.limit ∙ c.loop-value.invariant.limit;
     }
 
 pub returns-in-Err-clause-reply : goal.returns-in-Err-clause-reply
