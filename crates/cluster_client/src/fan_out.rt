@@ -1,6 +1,6 @@
 //! A command to several nodes: each of them is asked once, ascending, and their replies become one.
 ghost use Rattle.std.specs.List.{AllByRecursion};
-ghost use Rattle.std.specs.Prelude.{◌≡◌, ◌≢◌, ◌||◌, Err, IfErr, IfOk, Option, [], ◌∷◌, map, option_map};
+ghost use Rattle.std.specs.Prelude.{◌≡◌, ◌≢◌, ◌<◌, ◌≤◌, ◌+◌, ◌||◌, Err, IfErr, IfOk, Option, [], ◌∷◌, map, option_map, vec_capacity, vec_len};
 ghost use Rattle.resp_core.specs.Errors.{by_cause};
 ghost use Rattle.resp_core.specs.View.{view};
 ghost use Rattle.resp_core.specs.declared.errors.redis_error.Cause.TheVariants.{Memory};
@@ -31,11 +31,11 @@ use crate::client::ClusterClient;
 use cluster_routing::{
     MultipleNodeRoutingInfo, NodeAddress, ResponsePolicy, RoutingInfo, SlotMap, combine_nodes,
 };
-use cluster_steps::asked::Asked;
 use cluster_steps::dispatch::Dispatch;
 use cluster_steps::exchange::exchange_one;
 use cluster_steps::links::Links;
 use cluster_steps::place::Place;
+use cluster_steps::ready::{Ready, make_all_ready};
 use cluster_steps::reply::needs_refresh;
 use resp_args::Cmd;
 use resp_core::{Cause, ErrorKind, RedisError, Value};
@@ -164,6 +164,27 @@ fn node_dispatches<L: ConnectionLike>(
     })
 }
 
+/// A request to a node, and the node's address once more, which its outcome is to have.
+#[derive(Drop)]
+struct Question {
+    node: NodeAddress,
+    request: Ready,
+    ghost same: { address node ≡ address request.dispatch.place.node },
+}
+
+/// The requests with the addresses of their nodes.
+fn questions(alloc: Global, requests: Vec<Ready>) -> Result<Vec<Question>, AllocError>
+    ensures len { IfOk result (λ v. vec_len v ≡ vec_len requests) }
+    ensures same { IfOk result (λ v. map (λ q. q.request.dispatch) v.items ≡ map (λ r. r.dispatch) requests.items) }
+{
+    let mut all = Vec::new(alloc);
+    'requests: for request in requests {
+        let node = request.dispatch.place.node.clone()?;
+        all.push(Question { node, request })?;
+    }
+    Ok(all)
+}
+
 /// Whether a refresh is needed after this reply of a node, if it gave one.
 fn needs_refresh_by(flag: bool, reply: &Result<Value, RedisError>) -> bool
     ensures { result ≡ (flag || is_moved_reply (tree_in (tree_result view reply.now))) }
@@ -264,37 +285,30 @@ impl<L: ConnectionLike + Drop> ClusterClient<L> {
         requires apart { IsDistinct same_address (map (λ d. address d.place.node) dispatches.items) }
         ensures { NodesAsked (whole L.seen self.old) (whole L.seen self.new) (map dispatch_of dispatches.items) (all_outcomes result) }
     {
-        let mut outcomes = Vec::with_capacity(alloc, dispatches.len())?;
-        'nodes: for dispatch in dispatches {
-            let outcome = self.ask(alloc, dispatch)?;
+        let requests = make_all_ready(alloc, &mut self.asked, dispatches)?;
+        let questions = questions(alloc, requests)?;
+        let mut outcomes = Vec::with_capacity(alloc, questions.len())?;
+        'nodes: for question in questions {
+            let outcome = self.ask(alloc, question)?;
             outcomes.push(outcome).unwrap();
         }
         Ok(outcomes)
     }
 
-    /// A node, and its outcome of one request.
+    /// A node, and its outcome of one request, for which the log has room.
     fn ask(
         &mut self,
         alloc: Global,
-        dispatch: Dispatch,
+        question: Question,
     ) -> Result<(NodeAddress, Result<Value, RedisError>), RedisError>
-        requires { IsPlaced (nodes L.seen self.old.links.nodes.items) dispatch }
-        ensures { NodesAsked (whole L.seen self.old) (whole L.seen self.new) (dispatch_of dispatch ∷ []) (one_outcome result) }
+        requires placed { IsPlaced (nodes L.seen self.old.links.nodes.items) question.request.dispatch }
+        requires room { vec_len self.old.asked < vec_capacity self.old.asked }
+        ensures asked { NodesAsked (whole L.seen self.old) (whole L.seen self.new) (dispatch_of question.request.dispatch ∷ []) (one_outcome result) }
+        ensures log_len { vec_len self.new.asked ≡ vec_len self.old.asked + 1 }
+        ensures log_capacity { vec_capacity self.old.asked ≤ vec_capacity self.new.asked }
     {
-        let Dispatch { place, args } = dispatch;
-        let node = place.node.clone()?;
-        let request = Asked {
-            node: place.node,
-            args,
-            asking: place.asking,
-        };
-        let reply = exchange_one(
-            &mut self.links,
-            alloc,
-            &mut self.asked,
-            place.which,
-            request,
-        );
+        let Question { node, request } = question;
+        let reply = exchange_one(&mut self.links, alloc, &mut self.asked, request);
         self.needs_refresh = needs_refresh_by(self.needs_refresh, &reply);
         let outcome = outcome_in(reply)?;
         Ok((node, outcome))

@@ -12,8 +12,9 @@ use Rattle.cluster_client.proofs.client.ClusterClient.ask_each.Given as goal
 
 abbrev pub invariant-nodes : goal.invariant-nodes
 invariant-nodes g l = record {
-  loop : AskLoop (whole g.L.ConnectionLike.seen l.fn.self) (whole g.L.ConnectionLike.seen l.self) (map dispatch_of l.fn.dispatches.items) (map dispatch_of (into_iter_items l.dispatch-iterator)) (outcomes_of l.outcomes.items);
-  placed : AllByRecursion (IsPlaced (nodes g.L.ConnectionLike.seen l.self.links.nodes.items)) (into_iter_items l.dispatch-iterator);
-  apart : IsDistinct same_address (map node_of (into_iter_items l.dispatch-iterator));
-  room : vec_len l.outcomes + length (into_iter_items l.dispatch-iterator) ≤ vec_capacity l.outcomes;
+  loop : AskLoop (whole g.L.ConnectionLike.seen l.fn.self) (whole g.L.ConnectionLike.seen l.self) (map dispatch_of l.fn.dispatches.items) (map dispatch_of (map (λ q. q.request.dispatch) (into_iter_items l.question-iterator))) (outcomes_of l.outcomes.items);
+  placed : AllByRecursion (IsPlaced (nodes g.L.ConnectionLike.seen l.self.links.nodes.items)) (map (λ q. q.request.dispatch) (into_iter_items l.question-iterator));
+  apart : IsDistinct same_address (map node_of (map (λ q. q.request.dispatch) (into_iter_items l.question-iterator)));
+  room : vec_len l.outcomes + length (into_iter_items l.question-iterator) ≤ vec_capacity l.outcomes;
+  log_room : vec_len l.self.asked + length (into_iter_items l.question-iterator) ≤ vec_capacity l.self.asked;
 }
