@@ -163,7 +163,9 @@ impl<L: ConnectionLike + Drop> ClusterClient<L> {
     /// a redirect names; the server's error where a part's last reply is or holds one, a redirect out
     /// of budget or without a readable node among them; `Io` and `Parse` where a link failed, which is
     /// closed then; `UnexpectedReturnType` where the replies have not the shape that becomes one, or
-    /// that is no `T`, which leaves the links in step; `Memory`.
+    /// that is no `T`, which leaves the links in step; `Memory`. What the parts take is there before the
+    /// first byte: behind it memory can lack in a link call, for a request that a redirect sends on, and
+    /// for the answer.
     pub fn query<T: FromRedisValue>(
         &mut self,
         alloc: Global,

@@ -23,7 +23,7 @@ ghost use Rattle.cluster_steps.specs.Dispatches.{AreDispatched, IsPlaced, IsPlan
 ghost use Rattle.cluster_steps.specs.FirstPlaces.{node_by, node_with_link};
 ghost use Rattle.cluster_calls.specs.Links.Happened.{CallMade};
 ghost use Rattle.cluster_calls.specs.Links.Log.{is_moved_reply};
-ghost use Rattle.cluster_client.specs.NodeRuns.{IsOutcomeOf, NodesAsked, all_outcomes, listed_by, nodes_named, one_outcome, parts_to_nodes};
+ghost use Rattle.cluster_client.specs.NodeRuns.{NodesAsked, all_outcomes, listed_by, nodes_named, one_outcome, outcome_in, outcome_of_reply, parts_to_nodes};
 ghost use Rattle.cluster_client.specs.Whole.{whole};
 ghost use Rattle.cluster_calls.specs.Links.World.{nodes, open_links, tree_result};
 
@@ -195,7 +195,7 @@ fn needs_refresh_by(flag: bool, reply: &Result<Value, RedisError>) -> bool
     }
 }
 
-/// A node's outcome; want of memory is none.
+/// A node's reply or outcome, but for want of memory, which is none.
 fn unless_memory(
     outcome: Result<Value, RedisError>,
 ) -> Result<Result<Value, RedisError>, RedisError>
@@ -215,13 +215,30 @@ fn unless_memory(
 /// A node's outcome by its reply, or by why it gave none: a reply that is or holds an error is a
 /// refusal.
 fn outcome_in(reply: Result<Value, RedisError>) -> Result<Result<Value, RedisError>, RedisError>
-    ensures outcome { IfOk result (λ o. IsOutcomeOf (tree_result view reply) (tree_or_refusal o)) }
+    ensures outcome { IfOk result (λ o. tree_or_refusal o ≡ outcome_in (tree_result view reply)) }
     ensures only { IfErr result (λ e. e ≡ by_cause Memory) }
 {
     match reply {
         Ok(value) => unless_memory(value.extract_error()),
-        Err(e) => unless_memory(Err(e)),
+        Err(e) => Ok(Err(e)),
     }
+}
+
+/// The outcomes of nodes by their replies.
+fn outcomes(
+    alloc: Global,
+    replies: Vec<(NodeAddress, Result<Value, RedisError>)>,
+) -> Result<Vec<(NodeAddress, Result<Value, RedisError>)>, RedisError>
+    ensures outcomes { IfOk result (λ v. outcomes_of v.items ≡ map outcome_of_reply replies.items) }
+    ensures only { IfErr result (λ e. e ≡ by_cause Memory) }
+{
+    let mut all = Vec::new(alloc);
+    'replies: for replied in replies {
+        let (node, reply) = replied;
+        let outcome = outcome_in(reply)?;
+        all.push((node, outcome))?;
+    }
+    Ok(all)
 }
 
 /// One reply from the outcomes of all nodes.
@@ -257,8 +274,8 @@ impl<L: ConnectionLike + Drop> ClusterClient<L> {
     /// that goes nowhere or to one node by the table; `NoNode` where the slot map has no node;
     /// `NoLink` where no usable link leads to one of the nodes. Until then nothing is sent. Then, by
     /// the policy, a node's refusal: the server's error, `Io` or `Parse`; `UnexpectedReturnType` where
-    /// there is no policy or the replies have not the shape that becomes one. `Memory`, which asks no
-    /// further node.
+    /// there is no policy or the replies have not the shape that becomes one. `Memory`, behind the first
+    /// byte only in a link call, which asks no further node, or for the answer.
     pub fn fan_out(&mut self, alloc: Global, cmd: &Cmd) -> Result<Value, RedisError>
         ensures { (strategy : Option Strategy) → CallMade strategy (whole L.seen self.old) (whole L.seen self.new) (FanOut cmd.now) (value_answer (tree_result view result)) }
     {
@@ -271,11 +288,12 @@ impl<L: ConnectionLike + Drop> ClusterClient<L> {
             &self.read_only,
             cmd,
         )?;
-        let outcomes = self.ask_each(alloc, list)?;
+        let replies = self.ask_each(alloc, list)?;
+        let outcomes = outcomes(alloc, replies)?;
         reply_of_nodes(alloc, policy, outcomes)
     }
 
-    /// The outcomes of nodes that are asked one after another.
+    /// The replies of nodes that are asked one after another, or why they gave none.
     fn ask_each(
         &mut self,
         alloc: Global,
@@ -287,15 +305,15 @@ impl<L: ConnectionLike + Drop> ClusterClient<L> {
     {
         let requests = make_all_ready(alloc, &mut self.asked, dispatches)?;
         let questions = questions(alloc, requests)?;
-        let mut outcomes = Vec::with_capacity(alloc, questions.len())?;
+        let mut replies = Vec::with_capacity(alloc, questions.len())?;
         'nodes: for question in questions {
-            let outcome = self.ask(alloc, question)?;
-            outcomes.push(outcome).unwrap();
+            let reply = self.ask(alloc, question)?;
+            replies.push(reply).unwrap();
         }
-        Ok(outcomes)
+        Ok(replies)
     }
 
-    /// A node, and its outcome of one request, for which the log has room.
+    /// A node, and its reply to one request, for which the log has room, or why it gave none.
     fn ask(
         &mut self,
         alloc: Global,
@@ -310,7 +328,7 @@ impl<L: ConnectionLike + Drop> ClusterClient<L> {
         let Question { node, request } = question;
         let reply = exchange_one(&mut self.links, alloc, &mut self.asked, request);
         self.needs_refresh = needs_refresh_by(self.needs_refresh, &reply);
-        let outcome = outcome_in(reply)?;
-        Ok((node, outcome))
+        let reply = unless_memory(reply)?;
+        Ok((node, reply))
     }
 }

@@ -122,7 +122,8 @@ impl ClusterPipeline {
     /// is sent. `Io` and `Parse` where a link failed, which is closed then; no later node is served.
     /// Where replies hold errors, also ignored ones, all of these, each the first of its reply, with the
     /// positions of their commands (`RedisError::into_server_errors`). `UnexpectedReturnType` where the
-    /// array is no `T`; `Memory`.
+    /// array is no `T`; `Memory`, behind the first byte only in a link call, which serves no further node,
+    /// or for the answer.
     ///
     /// Source: the documentation of the crate `redis`, `ClusterPipeline`.
     pub fn query<L: ConnectionLike + Drop, T: FromRedisValue>(

@@ -21,10 +21,10 @@ returns-in_err-questions g c =
     let p = err_from_is_err_and c.from_residual-in_err-questions.result c.from_residual-in_err-questions.ensures.1 in
     rw (p.1, p.2) (nodes_not_begun world _ c.in_ok-requests.ensures.log _)
 
-pub returns-in_err-outcomes : goal.returns-in_err-outcomes
-returns-in_err-outcomes g c =
+pub returns-in_err-replies : goal.returns-in_err-replies
+returns-in_err-replies g c =
     let world = whole g.L.ConnectionLike.seen c.args.self.now in
-    let p = err_from_is_err_and c.from_residual-in_err-outcomes.result c.from_residual-in_err-outcomes.ensures.1 in
+    let p = err_from_is_err_and c.from_residual-in_err-replies.result c.from_residual-in_err-replies.ensures.1 in
     rw (p.1, p.2) (nodes_not_begun world _ c.in_ok-requests.ensures.log _)
 
 pub nodes-init : goal.nodes-init
@@ -33,7 +33,7 @@ nodes-init g c =
     let all : into_iter_items c.into_iter-question-iterator.result ≡ c.in_ok-questions.questions.items = c.into_iter-question-iterator.ensures.into_iter_gives.0 in
     let same = ap (map (λ q. q.request.dispatch)) all ∙ c.in_ok-questions.ensures.same ∙ c.in_ok-requests.ensures.dispatches in
     record {
-      loop = rw (same, c.in_ok-outcomes.ensures.items) (nodes_with_room world _ c.in_ok-requests.ensures.log _);
+      loop = rw (same, c.in_ok-replies.ensures.items) (nodes_with_room world _ c.in_ok-requests.ensures.log _);
       placed = rw same c.requires.placed;
       apart = rw same c.requires.apart;
       room = rw all (grind (arith, common_steps));
@@ -46,12 +46,12 @@ ask-requires-clause-placed g c =
     let placed = rw steps at c.nodes.invariant.placed in
     placed.0
 
-pub returns-in_err-outcome : goal.returns-in_err-outcome
-returns-in_err-outcome g c =
-    let p = err_from_is_err_and c.from_residual-in_err-outcome.result c.from_residual-in_err-outcome.ensures.1 in
+pub returns-in_err-reply : goal.returns-in_err-reply
+returns-in_err-reply g c =
+    let p = err_from_is_err_and c.from_residual-in_err-reply.result c.from_residual-in_err-reply.ensures.1 in
     let steps : into_iter_items c.nodes.question-iterator ≡ c.in-Some.question ∷ into_iter_items c.next.new.self = c.in-Some.ensures.steps.0 in
     let loop = rw steps at c.nodes.invariant.loop in
-    rw (p.1, p.2) (asks_refused _ _ _ _ (dispatch_of c.in-Some.question.request.dispatch) _ _ loop _ c.in_err-outcome.ensures.asked)
+    rw (p.1, p.2) (asks_refused _ _ _ _ (dispatch_of c.in-Some.question.request.dispatch) _ _ loop _ c.in_err-reply.ensures.asked)
 
 pub returns : goal.returns
 returns g c =
@@ -66,8 +66,8 @@ nodes-preserved g c =
     let loop = rw steps at c.nodes.invariant.loop in
     let d = dispatch_of c.in-Some.question.request.dispatch in
     record {
-      loop = rw (c.push.ensures.items, c.unwrap.ensures, map-append) (asks_more _ _ _ _ d _ _ loop _ c.in_ok-outcome.ensures.asked);
-      placed = others_placed _ _ d _ c.in_ok-outcome.ensures.asked _ apart.0 placed.1;
+      loop = rw (c.push.ensures.items, c.unwrap.ensures, map-append) (asks_more _ _ _ _ d _ _ loop _ c.in_ok-reply.ensures.asked);
+      placed = others_placed _ _ d _ c.in_ok-reply.ensures.asked _ apart.0 placed.1;
       apart = apart.1;
       room = grind (arith, common_steps);
       log_room = grind (arith, common_steps);
