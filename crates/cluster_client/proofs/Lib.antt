@@ -1,4 +1,5 @@
 pub mod GroupLoop
+pub mod Logged
 pub mod PipeParts
 pub mod Piping
 pub mod NodeLoop

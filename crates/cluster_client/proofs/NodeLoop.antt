@@ -1,10 +1,12 @@
 -- A command sent to several nodes one after another.
-use Rattle.std.specs.Prelude.{◌||◌}
+use Rattle.std.specs.Prelude.{◌||◌, IfErr}
 use Rattle.std.specs.List.{AllByRecursion}
 use Rattle.std.proofs.Common.{◌≡◌, ◌≢◌, ℕ, ◌+◌, Bool, false, List, [], ◌∷◌, ◌++◌, map, length, inl, inr, refl, sym, ap, ◌∙◌, subst, append-nil, append_assoc, Result, Ok, Err}
 use Rattle.std.proofs.lemmas.List.{map-append}
 use Rattle.resp_core.specs.Trees.{Tree}
 use Rattle.resp_core.specs.Errors.{Refusal, by_cause}
+use Rattle.resp_core.specs.View.{view}
+use Rattle.resp_core.specs.declared.value.Value.{Value}
 use Rattle.resp_core.specs.declared.errors.redis_error.Cause.TheVariants.{Memory}
 use Rattle.cluster_routing.specs.Address.{Address, same_address}
 use Rattle.cluster_routing.specs.Lists.{among}
@@ -13,18 +15,18 @@ use Rattle.cluster_routing.specs.Seen.{address}
 use Rattle.cluster_steps.specs.declared.dispatch.Dispatch.{Dispatch as CodeDispatch}
 use Rattle.cluster_calls.specs.Links.Request.{Request, requests_to, skipped}
 use Rattle.cluster_calls.specs.Links.Log.{Exchange, is_moved_reply}
-use Rattle.cluster_calls.specs.Links.World.{World, Node, is_usable, one_reply}
+use Rattle.cluster_calls.specs.Links.World.{World, Node, is_usable, one_reply, tree_result}
 use Rattle.cluster_calls.specs.Links.Places.{IsOpenAt}
 use Rattle.cluster_calls.specs.Links.Faults.{LinkFault}
 use Rattle.cluster_calls.specs.Links.Events.{Event, Runs, log_of, exchanges_of, Agrees, lack_memory, answered_moved, faults_of}
 use Rattle.cluster_calls.specs.Links.Exchanges.{Exchanges}
 use Rattle.cluster_calls.specs.Links.Chains.{IsSingle}
 use Rattle.cluster_steps.specs.Dispatches.{IsPlaced}
-use Rattle.cluster_client.specs.NodeRuns.{IsOutcomeOf, NodesAnswered, NodesAsked}
+use Rattle.cluster_client.specs.NodeRuns.{NodesAnswered, NodesAsked, outcome_in}
 use Rattle.cluster_calls.specs.Calls.Answer.{tree_in}
 use Rattle.cluster_calls.specs.Calls.Plan.{Dispatch}
 use Rattle.cluster_calls.specs.Calls.Legal.{direct}
-use Rattle.cluster_calls.specs.Calls.Replies.{outcome_by, outcomes}
+use Rattle.cluster_calls.specs.Calls.Replies.{outcome_by, outcomes, reply_error, unless_error}
 use Rattle.cluster_calls.proofs.LinkLaws.LinkPlaces.{linked}
 use Rattle.cluster_calls.proofs.LinkLaws.LinkRuns.{Runs-append, or_parts}
 use Rattle.cluster_calls.proofs.LinkLaws.LinkCalls.{leaves}
@@ -65,6 +67,15 @@ by_asking d asking e = λ i. record { node = d.node; args = d.args; asking = e i
 same_reply : (r : Result Tree Refusal) → reply_in r ≡ tree_in r
 same_reply (Ok tree) = refl
 same_reply (Err refusal) = refl
+
+-- What a reply is as a node's outcome. Want of memory is no outcome.
+abbrev pub IsOutcomeOf : Result Tree Refusal → Result Tree Refusal → Type 0
+IsOutcomeOf (Ok tree) outcome = outcome ≡ unless_error tree (reply_error tree)
+IsOutcomeOf (Err refusal) outcome = (outcome ≡ Err refusal) × (refusal ≢ by_cause Memory)
+
+pub own_outcome : (reply : Result Value Refusal) → IfErr reply (λ e. e ≢ by_cause Memory) → IsOutcomeOf (tree_result view reply) (outcome_in (tree_result view reply))
+own_outcome (Ok value) had = refl
+own_outcome (Err refusal) had = (refl, had)
 
 -- want of memory is no outcome
 had_memory : (reply outcome : Result Tree Refusal) → IsOutcomeOf reply outcome → reply ≢ Err (by_cause Memory)

@@ -4,20 +4,21 @@ use Rattle.std.specs.List.{AllByRecursion}
 use Rattle.std.specs.declared.alloc.Global.{Global}
 use Rattle.resp_core.specs.Trees.{Tree}
 use Rattle.resp_core.specs.Errors.{Refusal, by_cause}
+use Rattle.resp_core.specs.View.{view}
 use Rattle.resp_core.specs.declared.value.Value.{Value}
 use Rattle.resp_core.specs.declared.errors.redis_error.Cause.TheVariants.{Memory}
 use Rattle.resp_args.specs.Command.{Command}
 use Rattle.cluster_routing.specs.Address.{Address}
 use Rattle.cluster_routing.specs.AllNodes.{all_nodes, all_primaries}
-use Rattle.cluster_routing.specs.Outcomes.{outcome_of, outcomes_of}
 use Rattle.cluster_routing.specs.Policies.{Outcome}
 use Rattle.cluster_routing.specs.Routing.{Destination, to_all_nodes, to_all_primaries, destination}
+use Rattle.cluster_routing.specs.Seen.{address}
 use Rattle.cluster_routing.specs.SlotMap.{SlotEntries}
 use Rattle.cluster_routing.specs.declared.address.NodeAddress.{NodeAddress}
 use Rattle.cluster_client.specs.declared.fan_out.NodeDispatches.{NodeDispatches}
 use Rattle.cluster_steps.specs.Dispatches.{dispatch_of}
 use Rattle.cluster_calls.specs.Links.Request.{Request}
-use Rattle.cluster_calls.specs.Links.World.{World}
+use Rattle.cluster_calls.specs.Links.World.{World, tree_result}
 use Rattle.cluster_calls.specs.Links.Faults.{LinkFault}
 use Rattle.cluster_calls.specs.Links.Events.{Event, Runs, log_of, exchanges_of, Agrees, lack_memory, StopsAtMemory, answered_moved}
 use Rattle.cluster_calls.specs.Links.Chains.{IsSingle}
@@ -45,18 +46,22 @@ listed_by (Err refusal) = Err refusal
 
 -- ---- one node
 
--- What a reply is as a node's outcome: a tree without an error, or a refusal. Want of memory is no outcome.
-abbrev pub IsOutcomeOf : Result Tree Refusal → Result Tree Refusal → Type 0
-IsOutcomeOf (Ok tree) outcome = outcome ≡ unless_error tree (reply_error tree)
-IsOutcomeOf (Err refusal) outcome = (outcome ≡ Err refusal) × (refusal ≢ by_cause Memory)
+-- what a reply is as a node's outcome: a tree without an error, or a refusal
+abbrev pub outcome_in : Result Tree Refusal → Result Tree Refusal
+outcome_in (Ok tree) = unless_error tree (reply_error tree)
+outcome_in (Err refusal) = Err refusal
+
+-- a node's outcome, by its reply as the code has it
+abbrev pub outcome_of_reply : NodeAddress × Result Value Refusal → Outcome
+outcome_of_reply r = (address r.0, outcome_in (tree_result view r.1))
 
 -- what the code has of one node, and of all
 abbrev pub one_outcome : Result (NodeAddress × Result Value Refusal) Refusal → Result (List Outcome) Refusal
-one_outcome (Ok o) = Ok (outcome_of o ∷ [])
+one_outcome (Ok r) = Ok (outcome_of_reply r ∷ [])
 one_outcome (Err refusal) = Err refusal
 
 abbrev pub all_outcomes : Result (Vec (NodeAddress × Result Value Refusal) Global) Refusal → Result (List Outcome) Refusal
-all_outcomes (Ok os) = Ok (outcomes_of os.items)
+all_outcomes (Ok rs) = Ok (map outcome_of_reply rs.items)
 all_outcomes (Err refusal) = Err refusal
 
 -- ---- the run of the nodes

@@ -1,6 +1,6 @@
 //! The client: it refreshes its slot map, and sends commands to the nodes that serve them.
 ghost use Rattle.std.specs.List.{AllByRecursion};
-ghost use Rattle.std.specs.Prelude.{◌≡◌, ◌≢◌, ◌↔◌, ◌<◌, ◌||◌, Err, None, [], true, false, vec_len, map, IfOk, IfErr, OnErr, if◌then◌else◌, option_map};
+ghost use Rattle.std.specs.Prelude.{◌≡◌, ◌≢◌, ◌↔◌, ◌<◌, ◌≤◌, ◌+◌, ◌||◌, Err, None, [], true, false, vec_capacity, vec_len, map, IfOk, IfErr, OnErr, OnOk, if◌then◌else◌, option_map};
 ghost use Rattle.resp_core.specs.Errors.{by_cause};
 ghost use Rattle.resp_core.specs.View.{push_view, view};
 ghost use Rattle.resp_core.specs.declared.errors.redis_error.Cause.TheVariants.{Memory, RepeatedAddress};
@@ -35,10 +35,10 @@ use cluster_steps::dispatch::{Dispatch, Prepared, dispatches};
 use cluster_steps::exchange::exchange_one;
 use cluster_steps::links::Links;
 use cluster_steps::order::{fits_order, prepared_in_order};
-use cluster_steps::place::Place;
+use cluster_steps::ready::{Ready, make_all_ready, make_ready};
 use cluster_steps::reply::{needs_refresh, reply_of_parts};
 use cluster_steps::route::{Parts, parts_of};
-use cluster_steps::slots::{slot_map_in, slots_request};
+use cluster_steps::slots::{slot_map_in, slots_dispatch};
 use cluster_steps::turn::{Turn, turn_by};
 use resp_args::{Cmd, FromRedisValue, from_redis_value};
 use resp_core::{Cause, ErrorKind, PushInfo, RedisError, Value};
@@ -121,8 +121,9 @@ impl<L: ConnectionLike + Drop> ClusterClient<L> {
         let Some(which) = self.links.open_place(node) else {
             return Err(RedisError::from(Cause::NoLink));
         };
-        let request = slots_request(alloc, node)?;
-        let reply = exchange_one(&mut self.links, alloc, &mut self.asked, which, request)?;
+        let dispatch = slots_dispatch(alloc, node, which)?;
+        let request = make_ready(alloc, &mut self.asked, dispatch, 1)?;
+        let reply = exchange_one(&mut self.links, alloc, &mut self.asked, request)?;
         self.slots = slot_map_in(alloc, reply, node)?;
         self.needs_refresh = false;
         Ok(())
@@ -162,7 +163,9 @@ impl<L: ConnectionLike + Drop> ClusterClient<L> {
     /// a redirect names; the server's error where a part's last reply is or holds one, a redirect out
     /// of budget or without a readable node among them; `Io` and `Parse` where a link failed, which is
     /// closed then; `UnexpectedReturnType` where the replies have not the shape that becomes one, or
-    /// that is no `T`, which leaves the links in step; `Memory`.
+    /// that is no `T`, which leaves the links in step; `Memory`. What the parts take is there before the
+    /// first byte: behind it memory can lack in a link call, for a request that a redirect sends on, and
+    /// for the answer.
     pub fn query<T: FromRedisValue>(
         &mut self,
         alloc: Global,
@@ -277,42 +280,38 @@ impl<L: ConnectionLike + Drop> ClusterClient<L> {
         requires { AllByRecursion (IsPlaced (nodes L.seen self.old.links.nodes.items)) parts.items }
         ensures { PartsMade (whole L.seen self.old) (whole L.seen self.new) (map dispatch_of parts.items) (tree_results view result) }
     {
-        let mut replies = Vec::with_capacity(alloc, parts.len())?;
-        'parts: for part in parts {
-            let Dispatch { place, args } = part;
-            let reply = self.follow(alloc, args, place)?;
+        let requests = make_all_ready(alloc, &mut self.asked, parts)?;
+        let mut unanswered = requests.len();
+        let mut replies = Vec::with_capacity(alloc, unanswered)?;
+        'parts: for request in requests {
+            let reply = self.follow(alloc, request, unanswered)?;
+            unanswered -= 1;
             replies.push(reply).unwrap();
         }
         Ok(replies)
     }
 
-    /// The reply to one part that goes to this place first, behind its redirects.
-    fn follow(
-        &mut self,
-        alloc: Global,
-        args: Vec<Vec<u8>>,
-        first: Place,
-    ) -> Result<Value, RedisError>
-        requires place { IsOpenAt (nodes L.seen self.old.links.nodes.items) (address first.node) first.which }
-        requires within { first.which < vec_len self.old.links.nodes }
-        ensures { ChainMade (whole L.seen self.old) (whole L.seen self.new) (hop_to first) (texts args.items) (tree_result view result) }
+    /// The reply to one part that goes to its place first, behind its redirects. The log has room for so
+    /// many parts, of which this is one, and then for those behind it.
+    fn follow(&mut self, alloc: Global, first: Ready, parts: usize) -> Result<Value, RedisError>
+        requires place { IsOpenAt (nodes L.seen self.old.links.nodes.items) (address first.dispatch.place.node) first.dispatch.place.which }
+        requires within { first.dispatch.place.which < vec_len self.old.links.nodes }
+        requires some { 0 < parts }
+        requires room { vec_len self.old.asked + parts ≤ vec_capacity self.old.asked }
+        ensures made { ChainMade (whole L.seen self.old) (whole L.seen self.new) (hop_to first.dispatch.place) (texts first.dispatch.args.items) (tree_result view result) }
+        ensures room { OnOk result (vec_len self.new.asked + parts ≤ vec_capacity self.new.asked + 1) }
     {
-        let mut which = first.which;
-        let mut request = Asked {
-            node: first.node,
-            args,
-            asking: first.asking,
-        };
+        let mut request = first;
         let mut left = self.budget;
         'requests: loop {
-            let reply = exchange_one(&mut self.links, alloc, &mut self.asked, which, request)?;
+            let reply = exchange_one(&mut self.links, alloc, &mut self.asked, request)?;
             self.needs_refresh = needs_refresh(self.needs_refresh, &reply);
             match turn_by(alloc, &self.links, left, reply)? {
                 Turn::Answered(value) => return Ok(value),
                 Turn::On(next) => {
                     left -= 1;
-                    which = next.which;
-                    request = sent_again(alloc, &self.asked, next)?;
+                    let again = sent_again(alloc, &self.asked, next)?;
+                    request = make_ready(alloc, &mut self.asked, again, parts)?;
                 }
             }
         }

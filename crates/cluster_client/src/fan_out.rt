@@ -1,6 +1,6 @@
 //! A command to several nodes: each of them is asked once, ascending, and their replies become one.
 ghost use Rattle.std.specs.List.{AllByRecursion};
-ghost use Rattle.std.specs.Prelude.{◌≡◌, ◌≢◌, ◌||◌, Err, IfErr, IfOk, Option, [], ◌∷◌, map, option_map};
+ghost use Rattle.std.specs.Prelude.{◌≡◌, ◌≢◌, ◌<◌, ◌≤◌, ◌+◌, ◌||◌, Err, IfErr, IfOk, Option, [], ◌∷◌, map, option_map, vec_capacity, vec_len};
 ghost use Rattle.resp_core.specs.Errors.{by_cause};
 ghost use Rattle.resp_core.specs.View.{view};
 ghost use Rattle.resp_core.specs.declared.errors.redis_error.Cause.TheVariants.{Memory};
@@ -23,7 +23,7 @@ ghost use Rattle.cluster_steps.specs.Dispatches.{AreDispatched, IsPlaced, IsPlan
 ghost use Rattle.cluster_steps.specs.FirstPlaces.{node_by, node_with_link};
 ghost use Rattle.cluster_calls.specs.Links.Happened.{CallMade};
 ghost use Rattle.cluster_calls.specs.Links.Log.{is_moved_reply};
-ghost use Rattle.cluster_client.specs.NodeRuns.{IsOutcomeOf, NodesAsked, all_outcomes, listed_by, nodes_named, one_outcome, parts_to_nodes};
+ghost use Rattle.cluster_client.specs.NodeRuns.{NodesAsked, all_outcomes, listed_by, nodes_named, one_outcome, outcome_in, outcome_of_reply, parts_to_nodes};
 ghost use Rattle.cluster_client.specs.Whole.{whole};
 ghost use Rattle.cluster_calls.specs.Links.World.{nodes, open_links, tree_result};
 
@@ -31,11 +31,11 @@ use crate::client::ClusterClient;
 use cluster_routing::{
     MultipleNodeRoutingInfo, NodeAddress, ResponsePolicy, RoutingInfo, SlotMap, combine_nodes,
 };
-use cluster_steps::asked::Asked;
 use cluster_steps::dispatch::Dispatch;
 use cluster_steps::exchange::exchange_one;
 use cluster_steps::links::Links;
 use cluster_steps::place::Place;
+use cluster_steps::ready::{Ready, make_all_ready};
 use cluster_steps::reply::needs_refresh;
 use resp_args::Cmd;
 use resp_core::{Cause, ErrorKind, RedisError, Value};
@@ -164,6 +164,27 @@ fn node_dispatches<L: ConnectionLike>(
     })
 }
 
+/// A request to a node, and the node's address once more, which its outcome is to have.
+#[derive(Drop)]
+struct Question {
+    node: NodeAddress,
+    request: Ready,
+    ghost same: { address node ≡ address request.dispatch.place.node },
+}
+
+/// The requests with the addresses of their nodes.
+fn questions(alloc: Global, requests: Vec<Ready>) -> Result<Vec<Question>, AllocError>
+    ensures len { IfOk result (λ v. vec_len v ≡ vec_len requests) }
+    ensures same { IfOk result (λ v. map (λ q. q.request.dispatch) v.items ≡ map (λ r. r.dispatch) requests.items) }
+{
+    let mut all = Vec::new(alloc);
+    'requests: for request in requests {
+        let node = request.dispatch.place.node.clone()?;
+        all.push(Question { node, request })?;
+    }
+    Ok(all)
+}
+
 /// Whether a refresh is needed after this reply of a node, if it gave one.
 fn needs_refresh_by(flag: bool, reply: &Result<Value, RedisError>) -> bool
     ensures { result ≡ (flag || is_moved_reply (tree_in (tree_result view reply.now))) }
@@ -174,7 +195,7 @@ fn needs_refresh_by(flag: bool, reply: &Result<Value, RedisError>) -> bool
     }
 }
 
-/// A node's outcome; want of memory is none.
+/// A node's reply or outcome, but for want of memory, which is none.
 fn unless_memory(
     outcome: Result<Value, RedisError>,
 ) -> Result<Result<Value, RedisError>, RedisError>
@@ -194,13 +215,30 @@ fn unless_memory(
 /// A node's outcome by its reply, or by why it gave none: a reply that is or holds an error is a
 /// refusal.
 fn outcome_in(reply: Result<Value, RedisError>) -> Result<Result<Value, RedisError>, RedisError>
-    ensures outcome { IfOk result (λ o. IsOutcomeOf (tree_result view reply) (tree_or_refusal o)) }
+    ensures outcome { IfOk result (λ o. tree_or_refusal o ≡ outcome_in (tree_result view reply)) }
     ensures only { IfErr result (λ e. e ≡ by_cause Memory) }
 {
     match reply {
         Ok(value) => unless_memory(value.extract_error()),
-        Err(e) => unless_memory(Err(e)),
+        Err(e) => Ok(Err(e)),
     }
+}
+
+/// The outcomes of nodes by their replies.
+fn outcomes(
+    alloc: Global,
+    replies: Vec<(NodeAddress, Result<Value, RedisError>)>,
+) -> Result<Vec<(NodeAddress, Result<Value, RedisError>)>, RedisError>
+    ensures outcomes { IfOk result (λ v. outcomes_of v.items ≡ map outcome_of_reply replies.items) }
+    ensures only { IfErr result (λ e. e ≡ by_cause Memory) }
+{
+    let mut all = Vec::new(alloc);
+    'replies: for replied in replies {
+        let (node, reply) = replied;
+        let outcome = outcome_in(reply)?;
+        all.push((node, outcome))?;
+    }
+    Ok(all)
 }
 
 /// One reply from the outcomes of all nodes.
@@ -236,8 +274,8 @@ impl<L: ConnectionLike + Drop> ClusterClient<L> {
     /// that goes nowhere or to one node by the table; `NoNode` where the slot map has no node;
     /// `NoLink` where no usable link leads to one of the nodes. Until then nothing is sent. Then, by
     /// the policy, a node's refusal: the server's error, `Io` or `Parse`; `UnexpectedReturnType` where
-    /// there is no policy or the replies have not the shape that becomes one. `Memory`, which asks no
-    /// further node.
+    /// there is no policy or the replies have not the shape that becomes one. `Memory`, behind the first
+    /// byte only in a link call, which asks no further node, or for the answer.
     pub fn fan_out(&mut self, alloc: Global, cmd: &Cmd) -> Result<Value, RedisError>
         ensures { (strategy : Option Strategy) → CallMade strategy (whole L.seen self.old) (whole L.seen self.new) (FanOut cmd.now) (value_answer (tree_result view result)) }
     {
@@ -250,11 +288,12 @@ impl<L: ConnectionLike + Drop> ClusterClient<L> {
             &self.read_only,
             cmd,
         )?;
-        let outcomes = self.ask_each(alloc, list)?;
+        let replies = self.ask_each(alloc, list)?;
+        let outcomes = outcomes(alloc, replies)?;
         reply_of_nodes(alloc, policy, outcomes)
     }
 
-    /// The outcomes of nodes that are asked one after another.
+    /// The replies of nodes that are asked one after another, or why they gave none.
     fn ask_each(
         &mut self,
         alloc: Global,
@@ -264,39 +303,32 @@ impl<L: ConnectionLike + Drop> ClusterClient<L> {
         requires apart { IsDistinct same_address (map (λ d. address d.place.node) dispatches.items) }
         ensures { NodesAsked (whole L.seen self.old) (whole L.seen self.new) (map dispatch_of dispatches.items) (all_outcomes result) }
     {
-        let mut outcomes = Vec::with_capacity(alloc, dispatches.len())?;
-        'nodes: for dispatch in dispatches {
-            let outcome = self.ask(alloc, dispatch)?;
-            outcomes.push(outcome).unwrap();
+        let requests = make_all_ready(alloc, &mut self.asked, dispatches)?;
+        let questions = questions(alloc, requests)?;
+        let mut replies = Vec::with_capacity(alloc, questions.len())?;
+        'nodes: for question in questions {
+            let reply = self.ask(alloc, question)?;
+            replies.push(reply).unwrap();
         }
-        Ok(outcomes)
+        Ok(replies)
     }
 
-    /// A node, and its outcome of one request.
+    /// A node, and its reply to one request, for which the log has room, or why it gave none.
     fn ask(
         &mut self,
         alloc: Global,
-        dispatch: Dispatch,
+        question: Question,
     ) -> Result<(NodeAddress, Result<Value, RedisError>), RedisError>
-        requires { IsPlaced (nodes L.seen self.old.links.nodes.items) dispatch }
-        ensures { NodesAsked (whole L.seen self.old) (whole L.seen self.new) (dispatch_of dispatch ∷ []) (one_outcome result) }
+        requires placed { IsPlaced (nodes L.seen self.old.links.nodes.items) question.request.dispatch }
+        requires room { vec_len self.old.asked < vec_capacity self.old.asked }
+        ensures asked { NodesAsked (whole L.seen self.old) (whole L.seen self.new) (dispatch_of question.request.dispatch ∷ []) (one_outcome result) }
+        ensures log_len { vec_len self.new.asked ≡ vec_len self.old.asked + 1 }
+        ensures log_capacity { vec_capacity self.old.asked ≤ vec_capacity self.new.asked }
     {
-        let Dispatch { place, args } = dispatch;
-        let node = place.node.clone()?;
-        let request = Asked {
-            node: place.node,
-            args,
-            asking: place.asking,
-        };
-        let reply = exchange_one(
-            &mut self.links,
-            alloc,
-            &mut self.asked,
-            place.which,
-            request,
-        );
+        let Question { node, request } = question;
+        let reply = exchange_one(&mut self.links, alloc, &mut self.asked, request);
         self.needs_refresh = needs_refresh_by(self.needs_refresh, &reply);
-        let outcome = outcome_in(reply)?;
-        Ok((node, outcome))
+        let reply = unless_memory(reply)?;
+        Ok((node, reply))
     }
 }

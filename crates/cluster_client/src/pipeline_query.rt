@@ -1,5 +1,5 @@
 //! Pipelines are sent: to each node its commands in one write.
-ghost use Rattle.std.specs.Prelude.{◌≡◌, ◌≢◌, ◌<◌, [], Err, Option, map, vec_len, IfOk};
+ghost use Rattle.std.specs.Prelude.{◌≡◌, ◌≢◌, ◌<◌, ◌≤◌, ◌+◌, [], Err, Option, map, vec_capacity, vec_len, IfOk};
 ghost use Rattle.std.specs.List.{AllByRecursion};
 ghost use Rattle.resp_core.specs.Errors.{by_cause};
 ghost use Rattle.resp_core.specs.View.{view};
@@ -10,7 +10,7 @@ ghost use Rattle.cluster_calls.specs.Links.Converted.{ValueMade, value_answer};
 ghost use Rattle.cluster_steps.specs.Dispatches.{IsPlaced, IsPlanned, dispatches_of};
 ghost use Rattle.cluster_calls.specs.Links.Happened.{CallMade, Happened, client_of};
 ghost use Rattle.cluster_steps.specs.GroupRuns.{GroupExchanged, GroupsMade, IsGroupPlaced, answers_of};
-ghost use Rattle.cluster_steps.specs.Groups.{group_of};
+ghost use Rattle.cluster_steps.specs.Groups.{group_of, request_count};
 ghost use Rattle.cluster_calls.specs.Links.Run.{with_log};
 ghost use Rattle.cluster_client.specs.Whole.{whole};
 ghost use Rattle.cluster_calls.specs.Links.World.{nodes, tree_result, tree_results};
@@ -19,18 +19,19 @@ use crate::client::ClusterClient;
 use crate::pipeline::{ClusterPipeline, PipelineCommand};
 use crate::pipeline_parts::pipeline_parts;
 use crate::pipeline_reply::{refresh_needed, reply_of_pipeline};
-use cluster_steps::asked::Asked;
 use cluster_steps::dispatch::{Dispatch, dispatches};
 use cluster_steps::drawn::{Answered, drawn};
 use cluster_steps::exchange::exchange;
-use cluster_steps::grouped::{Group, grouped, places_of};
+use cluster_steps::grouped::{grouped, places_of};
+use cluster_steps::ready::Group;
 use resp_args::{FromRedisValue, from_redis_value};
 use resp_core::{RedisError, Value};
 use resp_link::ConnectionLike;
 use std::alloc::Global;
 
 impl<L: ConnectionLike + Drop> ClusterClient<L> {
-    /// What is done for a pipeline before its first byte: where each command goes.
+    /// What is done for a pipeline before its first byte: where each command goes, and room for all of
+    /// them in the log.
     fn pipeline_dispatches(
         &mut self,
         alloc: Global,
@@ -39,35 +40,27 @@ impl<L: ConnectionLike + Drop> ClusterClient<L> {
         ensures stays { whole L.seen self.new ≡ with_log (whole L.seen self.old) [] [] }
         ensures planned { result ≢ Err (by_cause Memory) → (strategy : Option Strategy) → IsPlanned strategy (client_of (whole L.seen self.old)) (Pipeline commands.now) [] (dispatches_of result) }
         ensures placed { IfOk result (λ v. AllByRecursion (IsPlaced (nodes L.seen self.new.links.nodes.items)) v.items) }
+        ensures room { IfOk result (λ v. vec_len self.new.asked + vec_len v ≤ vec_capacity self.new.asked) }
     {
         self.asked = Vec::new(alloc);
         self.picked = Vec::new(alloc);
         let parts = pipeline_parts(alloc, commands)?;
         let mut picked = Vec::new(alloc);
-        dispatches(&self.links, alloc, &self.slots, parts, None, &mut picked)
+        let all = dispatches(&self.links, alloc, &self.slots, parts, None, &mut picked)?;
+        self.asked.reserve(all.len())?;
+        Ok(all)
     }
 
-    /// The replies to requests that go out over one link in one write.
-    fn exchange_group(
-        &mut self,
-        alloc: Global,
-        which: usize,
-        requests: Vec<Asked>,
-    ) -> Result<Vec<Value>, RedisError>
-        requires { which < vec_len self.old.links.nodes }
+    /// The replies to requests that go out over one link in one write. The log has room for them.
+    fn exchange_group(&mut self, alloc: Global, group: Group) -> Result<Vec<Value>, RedisError>
+        requires within { group.which < vec_len self.old.links.nodes }
+        requires room { vec_len self.old.asked + vec_len group.requests ≤ vec_capacity self.old.asked }
         ensures len { vec_len self.new.links.nodes ≡ vec_len self.old.links.nodes }
-        ensures exchanged { GroupExchanged (whole L.seen self.old) (whole L.seen self.new) which requests.items (tree_results view result) }
+        ensures exchanged { GroupExchanged (whole L.seen self.old) (whole L.seen self.new) group.which group.requests.items (tree_results view result) }
+        ensures log_len { vec_len self.new.asked ≡ vec_len self.old.asked + vec_len group.requests }
+        ensures log_capacity { vec_capacity self.old.asked ≤ vec_capacity self.new.asked }
     {
-        let count = requests.len();
-        let replies = exchange(
-            &mut self.links,
-            alloc,
-            &mut self.asked,
-            which,
-            requests,
-            0,
-            count,
-        )?;
+        let replies = exchange(&mut self.links, alloc, &mut self.asked, group)?;
         self.needs_refresh = refresh_needed(self.needs_refresh, &replies);
         Ok(replies)
     }
@@ -78,13 +71,14 @@ impl<L: ConnectionLike + Drop> ClusterClient<L> {
         alloc: Global,
         groups: Vec<Group>,
     ) -> Result<Vec<Answered<Value>>, RedisError>
-        requires { AllByRecursion (λ g. IsGroupPlaced (nodes L.seen self.old.links.nodes.items) (group_of g)) groups.items }
+        requires placed { AllByRecursion (λ g. IsGroupPlaced (nodes L.seen self.old.links.nodes.items) (group_of g)) groups.items }
+        requires room { vec_len self.old.asked + request_count (map group_of groups.items) ≤ vec_capacity self.old.asked }
         ensures { GroupsMade (whole L.seen self.old) (whole L.seen self.new) (map group_of groups.items) (answers_of view result) }
     {
         let mut answered = Vec::with_capacity(alloc, groups.len())?;
         'groups: for group in groups {
-            let Group { which, requests } = group;
-            let items = self.exchange_group(alloc, which, requests)?;
+            let which = group.which;
+            let items = self.exchange_group(alloc, group)?;
             answered.push(Answered { which, items }).unwrap();
         }
         Ok(answered)
@@ -128,7 +122,8 @@ impl ClusterPipeline {
     /// is sent. `Io` and `Parse` where a link failed, which is closed then; no later node is served.
     /// Where replies hold errors, also ignored ones, all of these, each the first of its reply, with the
     /// positions of their commands (`RedisError::into_server_errors`). `UnexpectedReturnType` where the
-    /// array is no `T`; `Memory`.
+    /// array is no `T`; `Memory`, behind the first byte only in a link call, which serves no further node,
+    /// or for the answer.
     ///
     /// Source: the documentation of the crate `redis`, `ClusterPipeline`.
     pub fn query<L: ConnectionLike + Drop, T: FromRedisValue>(

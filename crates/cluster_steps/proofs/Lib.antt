@@ -3,6 +3,7 @@ pub mod Queueing
 pub mod PipeGroups
 pub mod PipeOrder
 pub mod PipeGrouping
+pub mod RequestCounts
 pub mod Dispatching
 pub mod Dispatched
 pub mod SplitCommands

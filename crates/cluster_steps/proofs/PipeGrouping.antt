@@ -10,9 +10,9 @@ use Rattle.cluster_routing.specs.Lists.{among, firsts, is_distinct, IsDistinct, 
 use Rattle.cluster_routing.proofs.Marks.{below_front}
 use Rattle.cluster_routing.proofs.Placed.{set_below}
 use Rattle.cluster_steps.specs.declared.dispatch.Dispatch.{Dispatch as CodeDispatch}
-use Rattle.cluster_steps.specs.declared.grouped.Group.{Group as CodeGroup}
+use Rattle.cluster_steps.specs.declared.grouped.Gathered.{Gathered}
 use Rattle.cluster_calls.specs.Links.Request.{Request}
-use Rattle.cluster_steps.specs.Groups.{Group, group_at, group_of, place_in, request_in, with_request}
+use Rattle.cluster_steps.specs.Groups.{Group, group_at, gathered_of, place_in, request_in, with_request}
 use Rattle.cluster_steps.proofs.PipeGroups.{map_twice, all-firsts}
 use Rattle.cluster_steps.proofs.PipeOrder.{eq_swap}
 
@@ -120,26 +120,26 @@ distinct_tested [] d = refl
 distinct_tested (n ∷ ns) d = rw d.0 (distinct_tested ns d.1)
 
 -- groups at places that are all there
-pub taken_groups : (groups : List CodeGroup) (g : ℕ → Group) (count : ℕ) (order : List ℕ) → map group_of groups ≡ map g (numbers_below count) → AllByRecursion (λ n. n < count) order
-    → map group_of (filter_map (slice_get groups) order) ≡ map g order
+pub taken_groups : (groups : List Gathered) (g : ℕ → Group) (count : ℕ) (order : List ℕ) → map gathered_of groups ≡ map g (numbers_below count) → AllByRecursion (λ n. n < count) order
+    → map gathered_of (filter_map (slice_get groups) order) ≡ map g order
 taken_groups groups g count [] e h = refl
 taken_groups groups g count (n ∷ ns) e h = by (slice_get groups n) refl (taken_groups groups g count ns e h.1)
   where
-    there : option_map group_of (slice_get groups n) ≡ Some (g n)
-    there = sym (slice_get-map group_of groups n) ∙ ap (λ gs. slice_get gs n) e ∙ get_below g count n h.0
+    there : option_map gathered_of (slice_get groups n) ≡ Some (g n)
+    there = sym (slice_get-map gathered_of groups n) ∙ ap (λ gs. slice_get gs n) e ∙ get_below g count n h.0
 
-    by : (o : Option CodeGroup) → slice_get groups n ≡ o → map group_of (filter_map (slice_get groups) ns) ≡ map g ns → map group_of (cons_option o (filter_map (slice_get groups) ns)) ≡ g n ∷ map g ns
-    by None f r = let none : None ≡ Some (g n) = sym (ap (option_map group_of) f) ∙ there in cc
+    by : (o : Option Gathered) → slice_get groups n ≡ o → map gathered_of (filter_map (slice_get groups) ns) ≡ map g ns → map gathered_of (cons_option o (filter_map (slice_get groups) ns)) ≡ g n ∷ map g ns
+    by None f r = let none : None ≡ Some (g n) = sym (ap (option_map gathered_of) f) ∙ there in cc
     by (Some c) f r =
-        let same : Some (group_of c) ≡ Some (g n) = sym (ap (option_map group_of) f) ∙ there in
-        let first : group_of c ≡ g n = cc in
-        ap (λ x. x ∷ map group_of (filter_map (slice_get groups) ns)) first ∙ ap (λ r. g n ∷ r) r
+        let same : Some (gathered_of c) ≡ Some (g n) = sym (ap (option_map gathered_of) f) ∙ there in
+        let first : gathered_of c ≡ g n = cc in
+        ap (λ x. x ∷ map gathered_of (filter_map (slice_get groups) ns)) first ∙ ap (λ r. g n ∷ r) r
 
 -- ---- one group
 
-pub put_is : (items : List CodeGroup) (which : ℕ) (old : CodeGroup) (group : Group) (requests : List Request) (q : Request) → slice_get items which ≡ Some old → slice_get (map group_of items) which ≡ Some group → requests ≡ old.requests.items ++ q ∷ []
+pub put_is : (items : List Gathered) (which : ℕ) (old : Gathered) (group : Group) (requests : List Request) (q : Request) → slice_get items which ≡ Some old → slice_get (map gathered_of items) which ≡ Some group → requests ≡ old.requests.items ++ q ∷ []
     → record { which = old.which; requests = requests } ≡ with_request group q
 put_is items which old group requests q at found is =
-    let there : slice_get (map group_of items) which ≡ Some (group_of old) = slice_get-map group_of items which ∙ ap (option_map group_of) at in
-    let same : group_of old ≡ group = cc in
+    let there : slice_get (map gathered_of items) which ≡ Some (gathered_of old) = slice_get-map gathered_of items which ∙ ap (option_map gathered_of) at in
+    let same : gathered_of old ≡ group = cc in
     ap (λ qs. record { which = old.which; requests = qs }) is ∙ ap (λ g. with_request g q) same

@@ -1,9 +1,10 @@
 -- The requests of a pipeline, grouped by the places of the links that they go to.
-use Rattle.std.specs.Prelude.{◌≡◌, ℕ, Bool, ◌==◌, List, [], ◌∷◌, ◌++◌, map, filter, length, Some, slice_get, slice_set}
+use Rattle.std.specs.Prelude.{◌≡◌, ℕ, ◌+◌, Bool, ◌==◌, List, [], ◌∷◌, ◌++◌, map, filter, length, Some, slice_get, slice_set}
 use Rattle.cluster_routing.specs.Seen.{address}
 use Rattle.cluster_routing.specs.Info.{texts}
 use Rattle.cluster_steps.specs.declared.dispatch.Dispatch.{Dispatch as CodeDispatch}
-use Rattle.cluster_steps.specs.declared.grouped.Group.{Group as CodeGroup}
+use Rattle.cluster_steps.specs.declared.grouped.Gathered.{Gathered}
+use Rattle.cluster_steps.specs.declared.ready.Group.{Group as CodeGroup}
 use Rattle.cluster_calls.specs.Links.Request.{Request}
 
 -- the requests to the node whose link stands at a place
@@ -14,6 +15,9 @@ pub record Group : Type 0 where
 -- what the code's groups and dispatches are
 abbrev pub group_of : CodeGroup → Group
 group_of g = record { which = g.which; requests = g.requests.items }
+
+abbrev pub gathered_of : Gathered → Group
+gathered_of g = record { which = g.which; requests = g.requests.items }
 
 abbrev pub place_in : CodeDispatch → ℕ
 place_in d = d.place.which
@@ -31,6 +35,11 @@ group_at ds which = record { which = which; requests = map request_in (filter (�
 -- a group with one more request
 abbrev pub with_request : Group → Request → Group
 with_request g q = record { which = g.which; requests = g.requests ++ q ∷ [] }
+
+-- how many requests groups have
+abbrev pub request_count : List Group → ℕ
+request_count [] = 0
+request_count (g ∷ groups) = length g.requests + request_count groups
 
 -- whether nothing goes to a place yet
 abbrev pub TellsUnused : List Group → ℕ → Bool → Type 0

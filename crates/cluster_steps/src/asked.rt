@@ -1,9 +1,10 @@
 //! The log of requests.
 ghost use Rattle.std.specs.Prelude.{◌≡◌, ◌<◌, length, map, IfOk, Some};
-ghost use Rattle.cluster_routing.specs.Seen.{address};
+ghost use Rattle.cluster_routing.specs.Info.{texts};
 ghost use Rattle.cluster_calls.specs.Links.Log.{last_of};
 ghost use Rattle.cluster_calls.specs.Links.Request.{Request};
 
+use crate::dispatch::Dispatch;
 use crate::place::Place;
 use cluster_routing::NodeAddress;
 use std::alloc::{AllocError, Global};
@@ -31,16 +32,15 @@ impl Model for Asked {
 }
 
 /// The last request of the log once more, to this place; its arguments are copied.
-pub fn sent_again(alloc: Global, log: &[Asked], place: Place) -> Result<Asked, AllocError>
+pub fn sent_again(alloc: Global, log: &[Asked], place: Place) -> Result<Dispatch, AllocError>
     requires { 0 < length log.now }
-    ensures { IfOk result (λ a. (q : Request) → last_of log.now ≡ Some q → a ≡ record { node = address place.node; args = q.args; asking = place.asking }) }
+    ensures place { IfOk result (λ d. d.place ≡ place) }
+    ensures args { IfOk result (λ d. (q : Request) → last_of log.now ≡ Some q → texts d.args.items ≡ q.args) }
 {
     let last = &log[log.len() - 1];
-    let args = copied(alloc, &last.args)?;
-    Ok(Asked {
-        node: place.node,
-        args,
-        asking: place.asking,
+    Ok(Dispatch {
+        place,
+        args: copied(alloc, &last.args)?,
     })
 }
 

@@ -7,7 +7,9 @@ ghost use Rattle.cluster_routing.specs.Seen.{addresses};
 ghost use Rattle.cluster_calls.specs.Links.World.{Settings, nodes};
 ghost use Rattle.cluster_steps.specs.Dispatches.{AreDispatched, IsPlaced, client_with, dispatches_of};
 ghost use Rattle.cluster_steps.specs.FirstPlaces.{part_of};
+ghost use Rattle.cluster_steps.specs.Groups.{request_in};
 
+use crate::asked::Asked;
 use crate::links::Links;
 use crate::place::{Place, first_place};
 use crate::route::Part;
@@ -21,6 +23,18 @@ use std::alloc::Global;
 pub struct Dispatch {
     pub place: Place,
     pub args: Vec<Vec<u8>>,
+}
+
+/// The request that a dispatch is sent as.
+pub(crate) fn request_of(dispatch: Dispatch) -> Asked
+    ensures { result ≡ request_in dispatch }
+{
+    let Dispatch { place, args } = dispatch;
+    Asked {
+        node: place.node,
+        args,
+        asking: place.asking,
+    }
 }
 
 /// What is there of a command before its first byte: where each of its parts goes first, and how the

@@ -2,18 +2,19 @@
 ghost use Rattle.std.specs.Prelude.{◌≡◌, ◌<◌, ◌∷◌, ◌++◌, [], length, map, nat_eq, vec_len, IfOk, OnOk, if◌then◌else◌};
 ghost use Rattle.std.specs.List.{AllByRecursion};
 ghost use Rattle.cluster_routing.specs.Lists.{firsts, numbers_below};
-ghost use Rattle.cluster_steps.specs.Groups.{Puts, TellsUnused, empty_group, group_at, group_of, place_in, request_in};
+ghost use Rattle.cluster_steps.specs.Groups.{Puts, TellsUnused, empty_group, gathered_of, group_at, group_of, place_in};
 
 use crate::asked::Asked;
-use crate::dispatch::Dispatch;
+use crate::dispatch::{Dispatch, request_of};
 use crate::order::{takeable, taken};
+use crate::ready::{Group, bytes_of};
 use std::alloc::{AllocError, Global};
 
-/// The requests that go out over the link at one place.
+/// The requests to one place, before they are packed.
 #[derive(Drop)]
-pub struct Group {
-    pub which: usize,
-    pub requests: Vec<Asked>,
+struct Gathered {
+    which: usize,
+    requests: Vec<Asked>,
 }
 
 /// The places of the links that the commands go to.
@@ -28,13 +29,13 @@ pub fn places_of(alloc: Global, dispatches: &[Dispatch]) -> Result<Vec<usize>, A
 }
 
 /// A group without requests for each of so many places.
-fn empty_groups(alloc: Global, count: usize) -> Result<Vec<Group>, AllocError>
+fn empty_groups(alloc: Global, count: usize) -> Result<Vec<Gathered>, AllocError>
     ensures len { IfOk result (λ v. vec_len v ≡ count) }
-    ensures groups { IfOk result (λ v. map group_of v.items ≡ map empty_group (numbers_below count)) }
+    ensures groups { IfOk result (λ v. map gathered_of v.items ≡ map empty_group (numbers_below count)) }
 {
     let mut groups = Vec::new(alloc);
     'places: for which in 0..count {
-        groups.push(Group {
+        groups.push(Gathered {
             which,
             requests: Vec::new(alloc),
         })?;
@@ -42,22 +43,10 @@ fn empty_groups(alloc: Global, count: usize) -> Result<Vec<Group>, AllocError>
     Ok(groups)
 }
 
-/// The request that a dispatch is sent as.
-fn request_of(dispatch: Dispatch) -> Asked
-    ensures { result ≡ request_in dispatch }
-{
-    let Dispatch { place, args } = dispatch;
-    Asked {
-        node: place.node,
-        args,
-        asking: place.asking,
-    }
-}
-
 /// Whether nothing goes to a place yet.
-fn is_unused(groups: &[Group], which: usize) -> bool
+fn is_unused(groups: &[Gathered], which: usize) -> bool
     requires { which < length groups.now }
-    ensures { TellsUnused (map group_of groups.now) which result }
+    ensures { TellsUnused (map gathered_of groups.now) which result }
 {
     groups[which].requests.is_empty()
 }
@@ -73,16 +62,33 @@ fn mark(order: &mut Vec<usize>, which: usize, is_first: bool) -> Result<(), Allo
 }
 
 /// Puts a request behind those to its place.
-fn put(groups: &mut Vec<Group>, which: usize, request: Asked) -> Result<(), AllocError>
+fn put(groups: &mut Vec<Gathered>, which: usize, request: Asked) -> Result<(), AllocError>
     requires { which < vec_len groups.old }
     ensures len { vec_len groups.new ≡ vec_len groups.old }
-    ensures put { OnOk result (Puts (map group_of groups.old.items) (map group_of groups.new.items) which request) }
+    ensures put { OnOk result (Puts (map gathered_of groups.old.items) (map gathered_of groups.new.items) which request) }
 {
     groups[which].requests.push(request)?;
     Ok(())
 }
 
-/// The requests to each place in use, in the order in which the places are first used; `count` is how
+/// The groups with the bytes of each.
+fn packed(alloc: Global, all: Vec<Gathered>) -> Result<Vec<Group>, AllocError>
+    ensures { IfOk result (λ v. map group_of v.items ≡ map gathered_of all.items) }
+{
+    let mut groups = Vec::new(alloc);
+    'gathered: for gathered in all {
+        let Gathered { which, requests } = gathered;
+        let bytes = bytes_of(alloc, &requests)?;
+        groups.push(Group {
+            which,
+            requests,
+            bytes,
+        })?;
+    }
+    Ok(groups)
+}
+
+/// The requests to each place in use, packed, in the order in which the places are first used; `count` is how
 /// many places there are.
 pub fn grouped(
     alloc: Global,
@@ -100,5 +106,5 @@ pub fn grouped(
         put(&mut groups, which, request_of(dispatch))?;
     }
     let all = takeable(alloc, groups)?;
-    taken(alloc, all, &order)
+    packed(alloc, taken(alloc, all, &order)?)
 }

@@ -11,6 +11,7 @@ pub mod links;
 pub mod order;
 pub mod place;
 pub mod read_checks;
+pub mod ready;
 pub mod reply;
 pub mod route;
 pub mod slots;

@@ -8,20 +8,31 @@ ghost use Rattle.cluster_routing.specs.SlotMap.{put_all};
 ghost use Rattle.cluster_routing.specs.SlotsReply.{ranges};
 ghost use Rattle.cluster_calls.specs.Links.Accepted.{IsAccepted};
 ghost use Rattle.cluster_calls.specs.Links.Request.{slots_command};
+ghost use Rattle.cluster_steps.specs.Groups.{request_in};
 
-use crate::asked::Asked;
+use crate::dispatch::Dispatch;
+use crate::place::Place;
 use cluster_routing::{NodeAddress, SlotMap, parse_slots, slot_cmd};
 use resp_core::{RedisError, Value};
 use std::alloc::{AllocError, Global};
 
-/// The request for the slot map, by `CLUSTER SLOTS`.
-pub fn slots_request(alloc: Global, node: &NodeAddress) -> Result<Asked, AllocError>
-    ensures { IfOk result (λ q. q ≡ record { node = address node.now; args = slots_command; asking = false }) }
+/// The request for the slot map, by `CLUSTER SLOTS`, to a node whose link stands at this place.
+pub fn slots_dispatch(
+    alloc: Global,
+    node: &NodeAddress,
+    which: usize,
+) -> Result<Dispatch, AllocError>
+    ensures request { IfOk result (λ d. request_in d ≡ record { node = address node.now; args = slots_command; asking = false }) }
+    ensures place { IfOk result (λ d. d.place.which ≡ which) }
 {
-    Ok(Asked {
+    let place = Place {
         node: node.clone()?,
-        args: slot_cmd(alloc)?.wire_args()?,
+        which,
         asking: false,
+    };
+    Ok(Dispatch {
+        place,
+        args: slot_cmd(alloc)?.wire_args()?,
     })
 }
 

@@ -4,7 +4,7 @@ use Rattle.std.proofs.Common.{◌≡◌, ◌<◌, ◌∙◌, ◌∷◌, ◌++◌
 use Rattle.std.proofs.lemmas.List.{length-map, nil_from_length}
 use Rattle.std.proofs.lemmas.Result.{IfOk-weaker}
 use Rattle.cluster_routing.specs.Lists.{firsts, is_distinct, numbers_below}
-use Rattle.cluster_steps.specs.Groups.{group_at, group_of, place_in, with_request}
+use Rattle.cluster_steps.specs.Groups.{group_at, gathered_of, place_in, with_request}
 use Rattle.cluster_calls.specs.Links.Taken.{there_at}
 use Rattle.cluster_calls.proofs.LinkLaws.Ordering.{all_there}
 use Rattle.cluster_steps.proofs.PipeGrouping.{distinct_tested, grouping_found, grouping_more, grouping_start, order_tested, order_within, taken_groups}
@@ -38,8 +38,8 @@ dispatches-preserved c =
       split = c.dispatches.invariant.split ∙ ap (λ rs. c.dispatches.yielded ++ rs) c.in-Some.ensures.steps.0 ∙ sym (append_assoc c.dispatches.yielded (c.in-Some.dispatch ∷ []) _);
       len = c.in_ok-put.ensures.len ∙ c.dispatches.invariant.len;
       within = within.1;
-      grouping = grouping_more grouping c.in-Some.dispatch within.0 _ _ (c.is_unused.ensures _ (ap (λ gs. slice_get (map group_of gs) c.in-Some.dispatch.place.which) c.deref.ensures.value ∙ found)) c.in_ok-mark.ensures _
-          (c.in_ok-put.ensures.put _ found ∙ ap (λ q. slice_set (map group_of c.dispatches.groups.items) c.in-Some.dispatch.place.which (with_request (group_at c.dispatches.yielded c.in-Some.dispatch.place.which) q)) c.request_of.ensures);
+      grouping = grouping_more grouping c.in-Some.dispatch within.0 _ _ (c.is_unused.ensures _ (ap (λ gs. slice_get (map gathered_of gs) c.in-Some.dispatch.place.which) c.deref.ensures.value ∙ found)) c.in_ok-mark.ensures _
+          (c.in_ok-put.ensures.put _ found ∙ ap (λ q. slice_set (map gathered_of c.dispatches.groups.items) c.in-Some.dispatch.place.which (with_request (group_at c.dispatches.yielded c.in-Some.dispatch.place.which) q)) c.request_of.ensures);
     }
 
 pub taken-requires-clause-within : goal.taken-requires-clause-within
@@ -63,7 +63,8 @@ returns c =
     let used : List ℕ = firsts nat_eq (map place_in c.args.dispatches.items) in
     let order : c.deref-2.result.now ≡ used = c.deref-2.ensures.value ∙ c.dispatches.invariant.grouping.used ∙ ap (λ ds. firsts nat_eq (map place_in ds)) (sym whole) in
     let groups = c.dispatches.groups.items in
-    let are : map group_of groups ≡ map (group_at c.args.dispatches.items) (numbers_below c.args.count) = c.dispatches.invariant.grouping.are ∙ ap (λ ds. map (group_at ds) (numbers_below c.args.count)) (sym whole) in
+    let are : map gathered_of groups ≡ map (group_at c.args.dispatches.items) (numbers_below c.args.count) = c.dispatches.invariant.grouping.are ∙ ap (λ ds. map (group_at ds) (numbers_below c.args.count)) (sym whole) in
     let there : filter_map (there_at c.in_ok-all.all.items) c.deref-2.result.now ≡ filter_map (slice_get groups) used =
     ap (λ items. filter_map (there_at items) c.deref-2.result.now) c.in_ok-all.ensures ∙ all_there groups c.deref-2.result.now ∙ ap (filter_map (slice_get groups)) order in
-    IfOk-weaker c.taken.result _ _ (λ v e. ap (map group_of) (e ∙ there) ∙ taken_groups groups (group_at c.args.dispatches.items) c.args.count used are (order_within c.args.count c.args.dispatches.items c.requires)) c.taken.ensures
+    let made = ap (map gathered_of) (c.in_ok-taken.ensures ∙ there) ∙ taken_groups groups (group_at c.args.dispatches.items) c.args.count used are (order_within c.args.count c.args.dispatches.items c.requires) in
+    IfOk-weaker c.packed.result _ _ (λ v e. e ∙ made) c.packed.ensures

@@ -2,7 +2,7 @@ use Rattle.std.specs.List.{AllByRecursion}
 use Rattle.std.specs.Vec.Iter.{into_iter_items}
 use Rattle.std.proofs.Common.{◌+◌, ◌≤◌, length, map, vec_capacity, vec_len}
 use Rattle.resp_core.specs.View.{view}
-use Rattle.cluster_steps.specs.Groups.{group_of}
+use Rattle.cluster_steps.specs.Groups.{group_of, request_count}
 use Rattle.cluster_steps.specs.GroupRuns.{IsGroupPlaced, answered_at}
 use Rattle.cluster_client.specs.Whole.{whole}
 use Rattle.cluster_calls.specs.Links.World.{nodes}
@@ -14,4 +14,5 @@ invariant-groups g l = record {
   loop : GroupLoop (whole g.L.ConnectionLike.seen l.fn.self) (whole g.L.ConnectionLike.seen l.self) (map group_of l.fn.groups.items) (map group_of (into_iter_items l.group-iterator)) (map (answered_at view) l.answered.items);
   placed : AllByRecursion (λ h. IsGroupPlaced (nodes g.L.ConnectionLike.seen l.fn.self.links.nodes.items) (group_of h)) (into_iter_items l.group-iterator);
   room : vec_len l.answered + length (into_iter_items l.group-iterator) ≤ vec_capacity l.answered;
+  log_room : vec_len l.self.asked + request_count (map group_of (into_iter_items l.group-iterator)) ≤ vec_capacity l.self.asked;
 }

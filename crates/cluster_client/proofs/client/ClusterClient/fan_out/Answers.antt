@@ -1,5 +1,7 @@
-use Rattle.std.proofs.Common.{None, refl, sym, ap}
+use Rattle.std.proofs.Common.{◌≡◌, None, refl, sym, ap}
 use Rattle.std.proofs.lemmas.Result.{err_from_is_err_and}
+use Rattle.resp_core.specs.Errors.{by_cause}
+use Rattle.resp_core.specs.declared.errors.redis_error.Cause.TheVariants.{Memory}
 use Rattle.cluster_routing.specs.Info.{texts}
 use Rattle.cluster_routing.specs.Seen.{addresses}
 use Rattle.cluster_calls.specs.Links.Happened.{client_of}
@@ -20,17 +22,27 @@ ask_each-requires-clause-apart g c =
     let planned = c.in_ok-list.ensures.planned (λ k. cc k) None client refl refl (ap texts (sym c.deref.ensures.value)) in
     list_apart client c.args.cmd.now _ planned.planned
 
-pub returns-in_err-outcomes : goal.returns-in_err-outcomes
-returns-in_err-outcomes g c =
-    let p = err_from_is_err_and c.from_residual-in_err-outcomes.result c.from_residual-in_err-outcomes.ensures.1 in
+pub returns-in_err-replies : goal.returns-in_err-replies
+returns-in_err-replies g c =
+    let p = err_from_is_err_and c.from_residual-in_err-replies.result c.from_residual-in_err-replies.ensures.1 in
     let world = whole g.L.ConnectionLike.seen c.args.self.now in
     rw (p.1, p.2) (λ strategy.
     let planned = c.in_ok-list.ensures.planned (λ k. cc k) strategy (client_of world) refl refl (ap texts (sym c.deref.ensures.value)) in
-    fan_made strategy world _ _ _ c.args.cmd.now _ _ _ c.new.ensures.items (ap addresses c.new-2.ensures.items) planned c.in_err-outcomes.ensures refl)
+    fan_made strategy world _ _ _ c.args.cmd.now _ _ _ c.new.ensures.items (ap addresses c.new-2.ensures.items) planned c.in_err-replies.ensures refl)
+
+pub returns-in_err-outcomes : goal.returns-in_err-outcomes
+returns-in_err-outcomes g c =
+    let p = err_from_is_err_and c.from_residual-in_err-outcomes.result c.from_residual-in_err-outcomes.ensures.1 in
+    let memory : c.in_err-outcomes.field-0.0 ≡ by_cause Memory = c.in_err-outcomes.ensures.only in
+    let world = whole g.L.ConnectionLike.seen c.args.self.now in
+    rw (p.1, p.2, memory) (λ strategy.
+    let planned = c.in_ok-list.ensures.planned (λ k. cc k) strategy (client_of world) refl refl (ap texts (sym c.deref.ensures.value)) in
+    fan_made strategy world _ _ _ c.args.cmd.now _ _ _ c.new.ensures.items (ap addresses c.new-2.ensures.items) planned c.in_ok-replies.ensures (λ had. absurd (had refl)))
 
 pub returns : goal.returns
 returns g c = λ strategy.
     let world = whole g.L.ConnectionLike.seen c.args.self.now in
     let planned = c.in_ok-list.ensures.planned (λ k. cc k) strategy (client_of world) refl refl (ap texts (sym c.deref.ensures.value)) in
-    fan_made strategy world _ _ _ c.args.cmd.now _ _ _ c.new.ensures.items (ap addresses c.new-2.ensures.items) planned c.in_ok-outcomes.ensures
-    (made_of c.args.cmd.now _ _ _ c.in_ok-list.ensures.policy c.reply_of_nodes.ensures)
+    let made = rw c.in_ok-outcomes.ensures.outcomes at c.reply_of_nodes.ensures in
+    fan_made strategy world _ _ _ c.args.cmd.now _ _ _ c.new.ensures.items (ap addresses c.new-2.ensures.items) planned c.in_ok-replies.ensures
+    (made_of c.args.cmd.now _ _ _ c.in_ok-list.ensures.policy made)

@@ -11,7 +11,13 @@ returns-in_err-parts-clause-planned g c =
     let p = err_from_is_err_and c.from_residual.result c.from_residual.ensures.1 in
     rw (p.1, p.2) (λ m strategy. pipeline_unplanned strategy _ _ _ _ (sym (c.in_err-parts.ensures (λ k. m (cc k)))) refl)
 
+pub returns-in_err-all-clause-planned : goal.returns-in_err-all-clause-planned
+returns-in_err-all-clause-planned g c =
+    let world = whole g.L.ConnectionLike.seen c.args.self.now in
+    let p = err_from_is_err_and c.from_residual-in_err-all.result c.from_residual-in_err-all.ensures.1 in
+    rw (p.1, p.2) (λ m strategy. planned_unpicked strategy (client_of world) c.args.commands.now _ _ _ (sym (c.in_ok-parts.ensures (λ k. cc k))) (c.in_err-all.ensures.dispatched (λ k. m (cc k)) world.settings))
+
 pub returns-clause-planned : goal.returns-clause-planned
 returns-clause-planned g c m strategy =
     let world = whole g.L.ConnectionLike.seen c.args.self.now in
-    planned_unpicked strategy (client_of world) c.args.commands.now _ _ _ (sym (c.in_ok-parts.ensures (λ k. cc k))) (c.dispatches.ensures.dispatched m world.settings)
+    planned_unpicked strategy (client_of world) c.args.commands.now _ _ _ (sym (c.in_ok-parts.ensures (λ k. cc k))) (c.in_ok-all.ensures.dispatched (λ k. cc k) world.settings)

@@ -4,7 +4,7 @@ use Rattle.std.proofs.lemmas.List.{length-map}
 use Rattle.std.proofs.lemmas.Result.{err_from_is_err_and}
 use Rattle.resp_core.specs.View.{view}
 use Rattle.cluster_steps.specs.Dispatches.{IsPlaced}
-use Rattle.cluster_steps.specs.Groups.{group_of, place_in}
+use Rattle.cluster_steps.specs.Groups.{group_of, place_in, request_count}
 use Rattle.cluster_steps.specs.GroupRuns.{IsGroupPlaced, answered_at}
 use Rattle.cluster_calls.specs.Links.PipeReplies.{pipeline_result}
 use Rattle.cluster_steps.specs.Queues.{no_queues, queued}
@@ -13,7 +13,9 @@ use Rattle.cluster_routing.specs.Lists.{draw}
 use Rattle.cluster_calls.proofs.LinkLaws.OneCommand.{not_begun, not_sent, relogged_untouched}
 use Rattle.cluster_steps.proofs.PipeGroups.{all_unmapped, groups_placed}
 use Rattle.cluster_steps.proofs.PipeOrder.{replies_are}
+use Rattle.cluster_steps.proofs.RequestCounts.{requests_within}
 use Rattle.cluster_client.proofs.Ending.{planned_with}
+use Rattle.cluster_client.proofs.Logged.{room_for_fewer}
 use Rattle.cluster_client.proofs.Piping.{answers_within, dispatches_within, places_within, reply_made}
 use Rattle.cluster_client.proofs.client.ClusterClient.reply_to_pipeline.Goals as goal
 
@@ -39,8 +41,14 @@ returns-in_err-groups g c strategy =
     let p = err_from_is_err_and c.from_residual-in_err-groups.result c.from_residual-in_err-groups.ensures.1 in
     rw (p.1, p.2) (not_begun strategy _ _ _ (relogged_untouched _ _ _ c.in_ok-dispatches.ensures.stays) (ap (λ (w : World). w.picked) c.in_ok-dispatches.ensures.stays))
 
-pub exchange_all-requires : goal.exchange_all-requires
-exchange_all-requires g c =
+pub exchange_all-requires-clause-room : goal.exchange_all-requires-clause-room
+exchange_all-requires-clause-room g c =
+    let dispatches = c.in_ok-dispatches.dispatches in
+    room_for_fewer _ _ _ _ _ _ c.in_ok-dispatches.ensures.room
+    (ap request_count c.in_ok-groups.ensures) (requests_within dispatches.items) dispatches.ok.0
+
+pub exchange_all-requires-clause-placed : goal.exchange_all-requires-clause-placed
+exchange_all-requires-clause-placed g c =
     let all : List Node = nodes g.L.ConnectionLike.seen c.pipeline_dispatches.new.self.links.nodes.items in
     all_unmapped (IsGroupPlaced all) group_of _
     (subst (AllByRecursion (IsGroupPlaced all)) (sym c.in_ok-groups.ensures) (groups_placed all _ c.in_ok-dispatches.ensures.placed))

@@ -1,0 +1,115 @@
+//! Requests are made ready before they go out: they are packed, and have room in the log.
+ghost use Rattle.std.specs.Prelude.{◌≡◌, ◌+◌, ◌≤◌, map, vec_capacity, vec_len, IfOk, OnOk};
+ghost use Rattle.resp_args.specs.Packed.{packed};
+ghost use Rattle.cluster_routing.specs.Info.{texts};
+ghost use Rattle.cluster_calls.specs.Links.Request.{asking_command, bytes_of, outgoing, outgoing_for};
+
+use crate::asked::Asked;
+use crate::dispatch::Dispatch;
+use resp_args::{command, pack_command};
+use std::alloc::{AllocError, Global};
+
+/// A dispatch, and the bytes that go out for it.
+#[derive(Drop)]
+pub struct Ready {
+    pub dispatch: Dispatch,
+    pub bytes: Vec<u8>,
+    ghost packed: { bytes.items ≡ outgoing_for dispatch.place.asking (texts dispatch.args.items) },
+}
+
+/// The requests that go out over the link at one place, and their bytes.
+#[derive(Drop)]
+pub struct Group {
+    pub which: usize,
+    pub requests: Vec<Asked>,
+    pub bytes: Vec<u8>,
+    ghost packed: { bytes.items ≡ bytes_of requests.items },
+}
+
+/// The bytes of the command ASKING.
+fn asking_command(alloc: Global) -> Result<Vec<u8>, AllocError>
+    ensures { IfOk result (λ v. v.items ≡ packed asking_command) }
+{
+    command::cmd(alloc, "ASKING")?.get_packed_command()
+}
+
+/// The bytes of arguments, behind those of ASKING where that is wanted.
+fn outgoing_for(
+    alloc: Global,
+    args: &[Vec<u8>],
+    asking: bool,
+) -> Result<Vec<u8>, AllocError>
+    ensures { IfOk result (λ v. v.items ≡ outgoing_for asking (texts args.now)) }
+{
+    let command = pack_command(alloc, args)?;
+    if !asking {
+        return Ok(command);
+    }
+    let mut bytes = asking_command(alloc)?;
+    bytes.extend_from_slice(&command)?;
+    Ok(bytes)
+}
+
+/// The bytes of a request.
+fn outgoing(alloc: Global, request: &Asked) -> Result<Vec<u8>, AllocError>
+    ensures { IfOk result (λ v. v.items ≡ outgoing request.now) }
+{
+    outgoing_for(alloc, &request.args, request.asking)
+}
+
+/// The bytes of requests, one after another.
+pub(crate) fn bytes_of(alloc: Global, requests: &[Asked]) -> Result<Vec<u8>, AllocError>
+    ensures { IfOk result (λ v. v.items ≡ bytes_of requests.now) }
+{
+    let mut bytes = Vec::new(alloc);
+    for request in requests {
+        bytes.extend_from_slice(&outgoing(alloc, request)?)?;
+    }
+    Ok(bytes)
+}
+
+fn packed(alloc: Global, dispatch: Dispatch) -> Result<Ready, AllocError>
+    ensures { IfOk result (λ r. r.dispatch ≡ dispatch) }
+{
+    let bytes = outgoing_for(alloc, &dispatch.args, dispatch.place.asking)?;
+    Ok(Ready { dispatch, bytes })
+}
+
+/// Makes one dispatch ready, with room in the log for so many requests.
+///
+/// # Errors
+/// `AllocError` where memory is refused; the log has the same requests as before.
+pub fn make_ready(
+    alloc: Global,
+    log: &mut Vec<Asked>,
+    dispatch: Dispatch,
+    room: usize,
+) -> Result<Ready, AllocError>
+    ensures log { log.new.items ≡ log.old.items }
+    ensures room { OnOk result (vec_len log.new + room ≤ vec_capacity log.new) }
+    ensures dispatch { IfOk result (λ r. r.dispatch ≡ dispatch) }
+{
+    log.reserve(room)?;
+    packed(alloc, dispatch)
+}
+
+/// Makes all of these ready, with room in the log for a request of each.
+///
+/// # Errors
+/// `AllocError` where memory is refused; the log has the same requests as before.
+pub fn make_all_ready(
+    alloc: Global,
+    log: &mut Vec<Asked>,
+    dispatches: Vec<Dispatch>,
+) -> Result<Vec<Ready>, AllocError>
+    ensures log { log.new.items ≡ log.old.items }
+    ensures room { IfOk result (λ v. vec_len log.new + vec_len v ≤ vec_capacity log.new) }
+    ensures dispatches { IfOk result (λ v. map (λ r. r.dispatch) v.items ≡ dispatches.items) }
+{
+    log.reserve(dispatches.len())?;
+    let mut all = Vec::new(alloc);
+    'dispatches: for dispatch in dispatches {
+        all.push(packed(alloc, dispatch)?)?;
+    }
+    Ok(all)
+}
