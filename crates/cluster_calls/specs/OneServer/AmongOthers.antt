@@ -71,7 +71,7 @@ TurnsLead keys turns keys' = History keys (map step_of turns) keys'
 
 -- a call's own lists are the steps of its requests, one list each
 abbrev pub AreItsRequests : Meaning → (ℕ → Bool) → RepliedCall → CallTurns → Type 0
-AreItsRequests meaning done t c = Pairwise (Accounts meaning done) (task_log (task_of t.call) t.log) c.own
+AreItsRequests meaning done t c = Pairwise (Accounts meaning done t.call) (task_log (task_of t.call) t.log) c.own
 
 -- The nodes did what they answered, in the order of the log, and in between what others asked for. That is all that is supposed of others.
 -- A request without an answer that was done late, behind its place in the log, may be taken for one of theirs, and `done` is false for it.
