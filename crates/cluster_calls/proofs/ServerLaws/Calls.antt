@@ -20,7 +20,7 @@ use Rattle.cluster_calls.specs.Calls.Legal.{PartByPart, AreMade, IsLegalCall}
 use Rattle.cluster_calls.specs.Links.Faults.{LinkFault}
 use Rattle.cluster_calls.specs.Calls.Replies.{part_replies, reply_of_parts}
 use Rattle.cluster_calls.specs.Calls.Refusals.{part_refusal, sent_refusal}
-use Rattle.cluster_calls.specs.Calls.Answer.{Answer, answer_in, reply_of, unless, answer_of}
+use Rattle.cluster_calls.specs.Calls.Answer.{Answer, answer_in, task_answer, unless, answer_of}
 use Rattle.cluster_calls.specs.OneServer.Keyspace.{Step}
 use Rattle.cluster_calls.specs.OneServer.Meaning.{Meaning}
 use Rattle.cluster_calls.specs.OneServer.Honest.{is_counted}
@@ -157,7 +157,7 @@ module _ (client : Client) (faults : Address → LinkFault) (meaning : Meaning) 
     by_refusal (Some r) fine = refused r kept_here
 
   abbrev answer_at : Task → Result Answer Refusal
-  answer_at task = unless (sent_refusal client faults task xs) (or_bad_reply (option_and_then (answer_in call) (reply_of faults task xs)))
+  answer_at task = unless (sent_refusal client faults task xs) (or_bad_reply (task_answer faults call task xs))
 
   pub command_served : IsLegalCall client picks call xs → CallServed meaning done call (answer_of client picks faults call xs) xs moves
   command_served legal = by (plan client picks call) refl legal

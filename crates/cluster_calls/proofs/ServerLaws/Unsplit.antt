@@ -22,7 +22,7 @@ use Rattle.cluster_calls.specs.OneServer.Headline.{RepliedCall, task_log, IsPlay
 use Rattle.cluster_calls.specs.OneServer.Honest.{Accounts, is_counted}
 use Rattle.cluster_calls.specs.OneServer.Keyspace.{Step, on_slot}
 use Rattle.cluster_calls.specs.OneServer.Meaning.{Meaning, DoesTuple, IsWholeStep, DoCommand, tree_of_steps, step_trees}
-use Rattle.cluster_calls.specs.OneServer.Operations.{RunCommand}
+use Rattle.cluster_calls.specs.OneServer.Operations.{RunCommand, task_operation}
 use Rattle.cluster_calls.specs.OneServer.AmongOthers.{Other, in_turn, CallTurns, call_turns, AreItsRequests, are_on_one_slot, is_unsplit, ServedCall, IsServed}
 use Rattle.cluster_calls.proofs.ServerLaws.Calls.{plan_sends}
 use Rattle.cluster_calls.proofs.ServerLaws.Counted.{counted_steps, parts_begun}
@@ -103,7 +103,7 @@ command_alone client meaning done picks call command number order xs own is_comm
     by (Ok ds) p l =
         let s = subst (λ o. Sends (sent command) ds o) whole (plan_sends client picks call command number order ds is_command p) in
         let b = parts_begun client done ds xs (subst (λ t. AreMade client t ds xs) is_command l) in
-        let c = counted_steps meaning done RunCommand xs own accounts in
+        let c = counted_steps meaning done RunCommand xs own (subst (λ t. Pairwise (AccountsAs meaning done (task_operation t)) xs own) is_command accounts) in
         let one = first_alone meaning (sent command) whole s.0 s.2 b.begun b.later (sym s.1 ∙ b.all) (filter (is_counted done) xs) b.args c.0 c.1 in
         subst AtMostOne (sym (same_alone (concat c.0) (concat own) one (λ k. sym (same_on_slot c.0 own c.2 k)))) one
 
