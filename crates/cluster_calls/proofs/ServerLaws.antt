@@ -13,6 +13,9 @@ pub mod Grouping
 pub mod Orders
 pub mod PartCall
 pub mod Pipes
+pub mod ReadParts
+pub mod ReadRows
+pub mod ReadCall
 pub mod Turns
 pub mod InPlace
 pub mod Runs

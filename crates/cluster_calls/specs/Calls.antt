@@ -8,6 +8,7 @@ pub mod Picks
 pub mod Redirects
 pub mod Legal
 pub mod Replies
+pub mod Reads
 pub mod Refusals
 pub mod Answer
 pub mod After

@@ -11,7 +11,7 @@ use Rattle.cluster_routing.specs.Routing.{destination}
 use Rattle.cluster_calls.specs.Links.Request.{Request, skipped}
 use Rattle.cluster_calls.specs.Links.Log.{Exchange, exchanges, left_after, left_after_all, reply_at, is_unanswered, is_answered, last_of, has_lost, behind_answers}
 use Rattle.cluster_calls.specs.Calls.Call.{Call}
-use Rattle.cluster_calls.specs.Calls.Task.{Task, slot_map_of, one_command, pipeline_of, several_nodes, task_of}
+use Rattle.cluster_calls.specs.Calls.Task.{Task, slot_map_of, one_command, pipeline_of, several_nodes, read_of, task_of}
 use Rattle.cluster_calls.specs.Calls.Parts.{result_then}
 use Rattle.cluster_calls.specs.Calls.Plan.{Client, plan}
 use Rattle.cluster_calls.specs.Calls.Legal.{IsLegalCall}
@@ -20,7 +20,7 @@ use Rattle.cluster_calls.specs.Links.Play.{shown_of}
 use Rattle.cluster_calls.specs.Links.Run.{whole_log}
 use Rattle.cluster_calls.specs.Calls.Replies.{outcome_by, outcomes, policy_in, reply_by_outcomes, in_pipeline_order, several_reply}
 use Rattle.cluster_calls.specs.Calls.Refusals.{refusal_in, refresh_refusal, last_refusal, part_refusal, pipeline_refusal, errors_from, sent_refusal}
-use Rattle.cluster_calls.specs.Calls.Answer.{answer_in, reply_of, tree_in, unless, answer_of}
+use Rattle.cluster_calls.specs.Calls.Answer.{answer_in, task_answer, tree_in, unless, answer_of}
 use Rattle.cluster_calls.specs.Calls.After.{client_after}
 use Rattle.cluster_calls.specs.OneServer.Headline.{PlayedCall, RepliedCall, with_replies_from, IsPlayedFrom}
 use Rattle.cluster_calls.proofs.LinkLaws.Addresses.{same_refl, same_true}
@@ -129,20 +129,22 @@ module _ (faults faults' : Address → LinkFault) where
 
   answer_same : (client : Client) (picks : List Address) (call : Call) (xs : List Exchange) → SameFaults xs → answer_of client picks faults call xs ≡ answer_of client picks faults' call xs
   answer_same client picks call xs h =
-      ap (λ o. result_then (plan client picks call) (λ ds. unless o (or_bad_reply (option_and_then (answer_in call) (reply_of faults (task_of call) xs))))) (refused (task_of call))
-      ∙ ap (λ a. result_then (plan client picks call) (λ ds. unless (sent_refusal client faults' (task_of call) xs) (or_bad_reply (option_and_then (answer_in call) a)))) (replied (task_of call))
+      ap (λ o. result_then (plan client picks call) (λ ds. unless o (or_bad_reply (task_answer faults call (task_of call) xs)))) (refused (task_of call))
+      ∙ ap (λ a. result_then (plan client picks call) (λ ds. unless (sent_refusal client faults' (task_of call) xs) (or_bad_reply a))) (told (task_of call))
     where
       refused : (task : Task) → sent_refusal client faults task xs ≡ sent_refusal client faults' task xs
       refused (slot_map_of node) = refresh_same xs h
       refused (one_command command number order) = part_last client (length (behind_answers xs)) (behind_answers xs) (behind_same xs h)
       refused (pipeline_of entries) = pipeline_same xs (errors_from 0 (in_pipeline_order entries xs)) h
       refused (several_nodes command) = ap refusal_in (several_same command xs h)
+      refused (read_of options streams) = part_last client (length (behind_answers xs)) (behind_answers xs) (behind_same xs h)
 
-      replied : (task : Task) → reply_of faults task xs ≡ reply_of faults' task xs
-      replied (slot_map_of node) = refl
-      replied (one_command command number order) = refl
-      replied (pipeline_of entries) = refl
-      replied (several_nodes command) = ap tree_in (several_same command xs h)
+      told : (task : Task) → task_answer faults call task xs ≡ task_answer faults' call task xs
+      told (slot_map_of node) = refl
+      told (one_command command number order) = refl
+      told (pipeline_of entries) = refl
+      told (several_nodes command) = ap (λ r. option_and_then (answer_in call) (tree_in r)) (several_same command xs h)
+      told (read_of options streams) = refl
 
   lost_first : (a : Address) (t : PlayedCall) (ts : List PlayedCall) (queues : Address → List Tree) (place : ℕ)
       → has_lost a (exchanges queues place (t.log ++ whole_log ts)) ≡ (has_lost a (exchanges queues place t.log) || has_lost a (exchanges (left_after_all queues t.log) (place + length t.log) (whole_log ts)))

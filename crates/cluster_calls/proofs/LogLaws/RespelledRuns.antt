@@ -21,14 +21,14 @@ use Rattle.cluster_calls.specs.Links.Request.{Request, requests_to}
 use Rattle.cluster_calls.specs.Links.Log.{Exchange, exchanges, left_after, left_after_all, reply_at, is_unanswered, last_of, has_lost}
 use Rattle.cluster_calls.specs.Calls.Call.{Xadd, Xtrim, Xread, Xrange, Xclaim, Xautoclaim, Xpending, XinfoStream, XinfoGroups, XinfoConsumers, XdelEx, Call, Refresh, Query, Ordered, Pipeline, FanOut, OnStreams}
 use Rattle.stream_commands.specs.Commands.{plain_command}
-use Rattle.cluster_calls.specs.Calls.Task.{Task, slot_map_of, one_command, pipeline_of, several_nodes, task_of, sentence}
+use Rattle.cluster_calls.specs.Calls.Task.{Task, slot_map_of, one_command, pipeline_of, several_nodes, read_of, task_of, sentence}
 use Rattle.cluster_calls.specs.Calls.Parts.{result_then}
 use Rattle.cluster_calls.specs.Calls.Plan.{Client, plan}
 use Rattle.cluster_calls.specs.Calls.Legal.{IsLegalCall}
 use Rattle.cluster_calls.specs.Links.Faults.{LinkFault, refusal_by_fault}
 use Rattle.cluster_calls.specs.Calls.Replies.{outcome_by, outcomes, policy_in, reply_by_outcomes, in_pipeline_order, several_reply}
 use Rattle.cluster_calls.specs.Calls.Refusals.{refusal_in, refresh_refusal, pipeline_refusal, errors_from, sent_refusal}
-use Rattle.cluster_calls.specs.Calls.Answer.{Answer, Read, Range, Claim, answer_in, reply_of, tree_in, unless, answer_of}
+use Rattle.cluster_calls.specs.Calls.Answer.{Answer, Read, Range, Claim, answer_in, task_answer, tree_in, unless, answer_of}
 use Rattle.cluster_calls.specs.Calls.After.{map_after, links_after, client_after}
 use Rattle.cluster_calls.specs.OneServer.Headline.{PlayedCall, with_replies_from, IsPlayedFrom}
 use Rattle.cluster_calls.specs.OneServer.Respelling.{respelling, request_respellings, respellings, SayTheSame}
@@ -111,14 +111,14 @@ several_same faults faults' command xs h = ap (reply_by_outcomes (policy_in (des
 
 -- the same refusal and the same reply are the same answer
 by_both : (client : Client) (picks : List Address) (faults faults' : Address → LinkFault) (call : Call) (xs ys : List Exchange) → sent_refusal client faults (task_of call) xs ≡ sent_refusal client faults' (task_of call) ys
-    → option_and_then (answer_in call) (reply_of faults (task_of call) xs) ≡ option_and_then (answer_in call) (reply_of faults' (task_of call) ys) → answer_of client picks faults call xs ≡ answer_of client picks faults' call ys
+    → task_answer faults call (task_of call) xs ≡ task_answer faults' call (task_of call) ys → answer_of client picks faults call xs ≡ answer_of client picks faults' call ys
 by_both client picks faults faults' call xs ys e f =
-    ap (λ o. result_then (plan client picks call) (λ ds. unless o (or_bad_reply (option_and_then (answer_in call) (reply_of faults (task_of call) xs))))) e
+    ap (λ o. result_then (plan client picks call) (λ ds. unless o (or_bad_reply (task_answer faults call (task_of call) xs)))) e
     ∙ ap (λ a. result_then (plan client picks call) (λ ds. unless (sent_refusal client faults' (task_of call) ys) (or_bad_reply a))) f
 
 exact_answers : (client : Client) (picks : List Address) (faults faults' : Address → LinkFault) (call : Call) (xs ys : List Exchange) → Pairwise (AlikeExchange None) xs ys → answer_of client picks faults call xs ≡ answer_of client picks faults' call ys
 exact_answers client picks faults faults' call xs ys h =
-    by_both client picks faults faults' call xs xs (refused (task_of call)) (ap (option_and_then (answer_in call)) (replied_same (task_of call))) ∙ ap (answer_of client picks faults' call) same
+    by_both client picks faults faults' call xs xs (refused (task_of call)) (told_same (task_of call)) ∙ ap (answer_of client picks faults' call) same
   where
     same : xs ≡ ys
     same = exchanges_equal xs ys h
@@ -134,12 +134,14 @@ exact_answers client picks faults faults' call xs ys h =
     refused (one_command command number order) = part_refusal_alike None client faults faults' xs xs itself
     refused (pipeline_of entries) = pipeline_same faults faults' xs (errors_from 0 (in_pipeline_order entries xs)) fine
     refused (several_nodes command) = ap refusal_in (several_same faults faults' command xs fine)
+    refused (read_of options streams) = part_refusal_alike None client faults faults' xs xs itself
 
-    replied_same : (task : Task) → reply_of faults task xs ≡ reply_of faults' task xs
-    replied_same (slot_map_of node) = refl
-    replied_same (one_command command number order) = refl
-    replied_same (pipeline_of entries) = refl
-    replied_same (several_nodes command) = ap tree_in (several_same faults faults' command xs fine)
+    told_same : (task : Task) → task_answer faults call task xs ≡ task_answer faults' call task xs
+    told_same (slot_map_of node) = refl
+    told_same (one_command command number order) = refl
+    told_same (pipeline_of entries) = refl
+    told_same (several_nodes command) = ap (λ r. option_and_then (answer_in call) (tree_in r)) (several_same faults faults' command xs fine)
+    told_same (read_of options streams) = refl
 
 -- ---- the calls whose replies may be respelled
 

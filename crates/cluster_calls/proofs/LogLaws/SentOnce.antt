@@ -19,7 +19,7 @@ use Rattle.cluster_calls.specs.Links.Log.{Exchange, requests, is_unanswered}
 use Rattle.cluster_calls.specs.Links.Request.{Request, slots_command}
 use Rattle.cluster_calls.specs.Links.World.{is_linked}
 use Rattle.cluster_calls.specs.Calls.Call.{Call, Entry}
-use Rattle.cluster_calls.specs.Calls.Task.{Task, slot_map_of, one_command, pipeline_of, several_nodes, task_of}
+use Rattle.cluster_calls.specs.Calls.Task.{Task, slot_map_of, one_command, pipeline_of, several_nodes, read_of, task_of}
 use Rattle.cluster_calls.specs.Calls.Parts.{Part, part_to, at_node, to_nodes, node_parts, with_whole, whole_part, parts_of, pipeline_parts}
 use Rattle.cluster_calls.specs.Calls.Plan.{Client, Dispatch, with_first, dispatches, plan}
 use Rattle.cluster_calls.specs.Calls.Legal.{direct, nodes_in_use, node_groups, NodeByNode, AreMade, IsLegalCall}
@@ -144,6 +144,7 @@ requests_are_bounded client picks call ds xs e legal = by (task_of call) refl (s
     by (one_command command number order) t m = parts_bound client ds xs m
     by (pipeline_of entries) t m = pipeline_bound client picks call entries ds xs t e m
     by (several_nodes command) t m = let s = sent_length xs ds m in omega (arith, s)
+    by (read_of options streams) t m = parts_bound client ds xs m
 
 -- ---- several nodes
 

@@ -20,14 +20,14 @@ use Rattle.cluster_calls.specs.Calls.Legal.{PartByPart, AreMade, IsLegalCall}
 use Rattle.cluster_calls.specs.Links.Faults.{LinkFault}
 use Rattle.cluster_calls.specs.Calls.Replies.{part_replies, reply_of_parts}
 use Rattle.cluster_calls.specs.Calls.Refusals.{part_refusal, sent_refusal}
-use Rattle.cluster_calls.specs.Calls.Answer.{Answer, answer_in, reply_of, unless, answer_of}
+use Rattle.cluster_calls.specs.Calls.Answer.{Answer, answer_in, task_answer, unless, answer_of}
 use Rattle.cluster_calls.specs.OneServer.Keyspace.{Step}
 use Rattle.cluster_calls.specs.OneServer.Meaning.{Meaning}
-use Rattle.cluster_calls.specs.OneServer.Honest.{Accounts, is_counted}
+use Rattle.cluster_calls.specs.OneServer.Honest.{is_counted}
 use Rattle.cluster_calls.specs.OneServer.Commands.{task_operations, kept_of, kept_by, split_with, task_kept, counting, IsAnswerBy, IsTaskAnswer}
-use Rattle.cluster_calls.specs.OneServer.Operations.{Response, Reply, run_each}
+use Rattle.cluster_calls.specs.OneServer.Operations.{Operation, RunCommand, Response, Reply, run_each}
 use Rattle.cluster_calls.proofs.ServerLaws.Draw.{pairwise-nil}
-use Rattle.cluster_calls.proofs.ServerLaws.Pieces.{SamePieces, HonestIn, ServedIn}
+use Rattle.cluster_calls.proofs.ServerLaws.Pieces.{SamePieces, AccountsAs, HonestIn, ServedIn}
 use Rattle.cluster_calls.proofs.LogLaws.Plans.{IsFor, dispatches_for, sends_parts, role, split_parts_are, whole_part_is}
 use Rattle.cluster_calls.proofs.ServerLaws.Orders.{sends_ordered}
 use Rattle.cluster_calls.proofs.ServerLaws.PartCall.{Sends, command_kept, command_told}
@@ -39,8 +39,8 @@ pub record CallServed (meaning : Meaning) (done : ℕ → Bool) (call : Call) (a
   pub answer_is : IsAnswerBy call answer responses
 
 -- no exchange, no change
-pub nothing_done : (meaning : Meaning) (moves : List (List Step)) (done : ℕ → Bool) → HonestIn meaning done [] moves → SamePieces [] moves
-nothing_done meaning moves done h = subst (λ q. SamePieces q moves) (pairwise-nil (Accounts meaning done) h.0 h.1) h.2
+pub nothing_done : (meaning : Meaning) (moves : List (List Step)) (done : ℕ → Bool) (operation : List (List ℕ) → Operation) → HonestIn meaning done operation [] moves → SamePieces [] moves
+nothing_done meaning moves done operation h = subst (λ q. SamePieces q moves) (pairwise-nil (AccountsAs meaning done operation) h.0 h.1) h.2
 
 filter_none : (split : Split) → filter (λ t. among nat_eq (tuple_slot t) []) split.tuples ≡ []
 filter_none split = by split.tuples
@@ -122,15 +122,15 @@ plan_sends client picks call command number order ds t e = at_early (early_refus
 -- ---- served
 
 module _ (client : Client) (faults : Address → LinkFault) (meaning : Meaning) (moves : List (List Step)) (done : ℕ → Bool) (picks : List Address) (call : Call) (command : Command) (number : ℕ) (order : Option (List ℕ))
-    (is_command : task_of call ≡ one_command command number order) (xs : List Exchange) (honest : HonestIn meaning done xs moves) where
+    (is_command : task_of call ≡ one_command command number order) (xs : List Exchange) (honest : HonestIn meaning done RunCommand xs moves) where
   -- a refused call keeps what was counted
   refused : (r : Refusal) → (responses : List Response) × ServedIn meaning (run_each (kept_of (sent command) (filter (is_counted done) xs))) responses moves → CallServed meaning done call (Err r) xs moves
   refused r k = record { responses = k.0; served = subst (λ t. ServedIn meaning (task_kept done t xs) k.0 moves) (sym is_command) k.1; answer_is = tt }
 
   unsent : xs ≡ [] → (responses : List Response) × ServedIn meaning (run_each (kept_of (sent command) (filter (is_counted done) xs))) responses moves
   unsent e =
-      let h = subst (λ q. HonestIn meaning done q moves) e honest in
-      ([], subst (λ q. ServedIn meaning q [] moves) (ap run_each (sym (kept_none (sent command)) ∙ ap (λ q. kept_of (sent command) (filter (is_counted done) q)) (sym e))) ([], tt, nothing_done meaning moves done h))
+      let h = subst (λ q. HonestIn meaning done RunCommand q moves) e honest in
+      ([], subst (λ q. ServedIn meaning q [] moves) (ap run_each (sym (kept_none (sent command)) ∙ ap (λ q. kept_of (sent command) (filter (is_counted done) q)) (sym e))) ([], tt, nothing_done meaning moves done RunCommand h))
 
   module _ (ds : List Dispatch) (sends : Sends (sent command) ds (split_of (sent command))) (legal : PartByPart client ds xs) where
     kept_here : (responses : List Response) × ServedIn meaning (run_each (kept_of (sent command) (filter (is_counted done) xs))) responses moves
@@ -157,7 +157,7 @@ module _ (client : Client) (faults : Address → LinkFault) (meaning : Meaning) 
     by_refusal (Some r) fine = refused r kept_here
 
   abbrev answer_at : Task → Result Answer Refusal
-  answer_at task = unless (sent_refusal client faults task xs) (or_bad_reply (option_and_then (answer_in call) (reply_of faults task xs)))
+  answer_at task = unless (sent_refusal client faults task xs) (or_bad_reply (task_answer faults call task xs))
 
   pub command_served : IsLegalCall client picks call xs → CallServed meaning done call (answer_of client picks faults call xs) xs moves
   command_served legal = by (plan client picks call) refl legal

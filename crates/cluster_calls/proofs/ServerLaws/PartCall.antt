@@ -16,9 +16,9 @@ use Rattle.cluster_calls.specs.Links.Log.{Exchange, is_answered, is_data_reply, 
 use Rattle.cluster_calls.specs.Calls.Plan.{Client, Dispatch}
 use Rattle.cluster_calls.specs.Calls.Legal.{PartByPart}
 use Rattle.cluster_calls.specs.Calls.Replies.{args_slot, exchange_slot, reply_or_nil, part_replies, reply_of_parts, reply_by_split}
-use Rattle.cluster_calls.specs.OneServer.Honest.{is_counted, IsDoneBy}
+use Rattle.cluster_calls.specs.OneServer.Honest.{is_counted}
 use Rattle.cluster_calls.specs.OneServer.Commands.{kept_by, kept_of}
-use Rattle.cluster_calls.proofs.ServerLaws.Pieces.{SamePieces, HonestIn, ServedIn}
+use Rattle.cluster_calls.proofs.ServerLaws.Pieces.{SamePieces, IsDoneAs, HonestIn, ServedIn}
 use Rattle.cluster_calls.proofs.ServerLaws.Counted.{counted_steps, Begun, parts_begun, AllDone, parts_done}
 use Rattle.cluster_calls.proofs.ServerLaws.Splits.{part_on_slot}
 use Rattle.cluster_calls.proofs.ServerLaws.SplitCall.{IsDispatchOf, part_done, parts_done_steps, Regrouped, regrouped, kept_served}
@@ -52,7 +52,7 @@ pub filter_all : {X : Type 0} (q : X → Bool) (xs : List X) → AllByRecursion 
 filter_all q [] h = refl
 filter_all q (x ∷ xs) h = ap (λ b. cond b (x ∷ filter q xs) (filter q xs)) h.0 ∙ ap (λ zs. x ∷ zs) (filter_all q xs h.1)
 
-pub reply_is : (meaning : Meaning) (x : Exchange) (steps : List Step) → is_answered x ≡ true → (h : IsDoneBy meaning x steps) → reply_or_nil x ≡ h.done.0
+pub reply_is : (meaning : Meaning) (x : Exchange) (steps : List Step) → is_answered x ≡ true → (h : IsDoneAs meaning RunCommand x steps) → reply_or_nil x ≡ h.done.0
 reply_is meaning x steps a h = by x.reply a h.reply
   where
     same : (t : Tree) → Reply t ≡ Reply h.done.0 → t ≡ h.done.0
@@ -66,7 +66,7 @@ module _ (meaning : Meaning) (done : ℕ → Bool) (args : List (List ℕ)) (mov
   -- ---- what is kept
 
   whole_kept : (d : Dispatch) → d.args ≡ args → (begun later : List Dispatch) → d ∷ [] ≡ begun ++ later → (xs : List Exchange) → Pairwise (λ (d : Dispatch) (x : Exchange). x.request.args ≡ d.args) begun xs
-      → (sts : List (List Step)) → Pairwise (IsDoneBy meaning) xs sts → SamePieces sts moves → (responses : List Response) × ServedIn meaning (run_each (kept_by args None xs)) responses moves
+      → (sts : List (List Step)) → Pairwise (IsDoneAs meaning RunCommand) xs sts → SamePieces sts moves → (responses : List Response) × ServedIn meaning (run_each (kept_by args None xs)) responses moves
   whole_kept d e begun later all [] p [] h c = ([], ([], tt, c))
   whole_kept d e begun later all [] p (st ∷ sts) h c = absurd h
   whole_kept d e begun later all (x ∷ xs) p [] h c = absurd h
@@ -79,15 +79,15 @@ module _ (meaning : Meaning) (done : ℕ → Bool) (args : List (List ℕ)) (mov
       let is_args : x.request.args ≡ args = p.0 ∙ ap (λ (b : Dispatch). b.args) (sym same) ∙ e in
       (h.0.response ∷ [], (st ∷ [], (((h.0.done.0, h.0.done.1, subst (λ a. DoCommand a st h.0.done.0) is_args h.0.done.2), h.0.allowed), tt), c))
 
-  pub command_kept : (client : Client) (ds : List Dispatch) (xs : List Exchange) → Sends args ds (split_of args) → PartByPart client ds xs → HonestIn meaning done xs moves
+  pub command_kept : (client : Client) (ds : List Dispatch) (xs : List Exchange) → Sends args ds (split_of args) → PartByPart client ds xs → HonestIn meaning done RunCommand xs moves
       → (responses : List Response) × ServedIn meaning (run_each (kept_of args (filter (is_counted done) xs))) responses moves
   command_kept client ds xs sends legal honest = by (split_of args) refl sends
     where
       begun : Begun done ds xs
       begun = parts_begun client done ds xs legal
 
-      steps : (ts : List (List Step)) × Pairwise (IsDoneBy meaning) (filter (is_counted done) xs) ts × SamePieces ts honest.0
-      steps = counted_steps meaning done xs honest.0 honest.1
+      steps : (ts : List (List Step)) × Pairwise (IsDoneAs meaning RunCommand) (filter (is_counted done) xs) ts × SamePieces ts honest.0
+      steps = counted_steps meaning done RunCommand xs honest.0 honest.1
 
       same : SamePieces steps.0 moves
       same slot = steps.2 slot ∙ honest.2 slot
@@ -105,7 +105,7 @@ module _ (meaning : Meaning) (done : ℕ → Bool) (args : List (List ℕ)) (mov
 
   -- each answered part tells what its steps tell
   tells : (split : Split) (e : split_of args ≡ Some split) (ds : List Dispatch) → AllByRecursion (IsDispatchOf split) ds → (xs : List Exchange) → Pairwise (λ (d : Dispatch) (x : Exchange). x.request.args ≡ d.args) ds xs
-      → AllByRecursion (λ x. is_answered x ≡ true) xs → (sts : List (List Step)) → Pairwise (IsDoneBy meaning) xs sts → Pairwise (Tells (split.splitting.policy)) (map (λ x. record { slot = exchange_slot x; tree = reply_or_nil x }) xs) sts
+      → AllByRecursion (λ x. is_answered x ≡ true) xs → (sts : List (List Step)) → Pairwise (IsDoneAs meaning RunCommand) xs sts → Pairwise (Tells (split.splitting.policy)) (map (λ x. record { slot = exchange_slot x; tree = reply_or_nil x }) xs) sts
   tells split e [] w [] p a [] h = tt
   tells split e [] w [] p a (st ∷ sts) h = absurd h
   tells split e [] w (x ∷ xs) p a sts h = absurd p
@@ -120,7 +120,7 @@ module _ (meaning : Meaning) (done : ℕ → Bool) (args : List (List ℕ)) (mov
         tells split e ds w.1 xs p.1 a.1 sts h.1,
       )
 
-  split_told : (split : Split) (e : split_of args ≡ Some split) (ds : List Dispatch) → SendsParts split ds → (xs : List Exchange) → AllDone done ds xs → (sts : List (List Step)) → Pairwise (IsDoneBy meaning) (filter (is_counted done) xs) sts
+  split_told : (split : Split) (e : split_of args ≡ Some split) (ds : List Dispatch) → SendsParts split ds → (xs : List Exchange) → AllDone done ds xs → (sts : List (List Step)) → Pairwise (IsDoneAs meaning RunCommand) (filter (is_counted done) xs) sts
       → SamePieces sts moves → (tree : Tree) → reply_by_split (Some split) (part_replies xs) ≡ Some tree → ServedIn meaning (run_each (args ∷ [])) (Reply tree ∷ []) moves
   split_told split e ds s xs all sts h c tree told =
       let counted = filter (is_counted done) xs in
@@ -144,12 +144,12 @@ module _ (meaning : Meaning) (done : ℕ → Bool) (args : List (List ℕ)) (mov
         g.pieces_are,
       )
 
-  whole_told : (d : Dispatch) → d.args ≡ args → (xs : List Exchange) → AllDone done (d ∷ []) xs → (sts : List (List Step)) → Pairwise (IsDoneBy meaning) (filter (is_counted done) xs) sts
+  whole_told : (d : Dispatch) → d.args ≡ args → (xs : List Exchange) → AllDone done (d ∷ []) xs → (sts : List (List Step)) → Pairwise (IsDoneAs meaning RunCommand) (filter (is_counted done) xs) sts
       → SamePieces sts moves → (tree : Tree) → reply_by_split None (part_replies xs) ≡ Some tree → ServedIn meaning (run_each (args ∷ [])) (Reply tree ∷ []) moves
   whole_told d e xs all sts h c tree told =
       by (filter (is_counted done) xs) all.args all.answered sts h c (subst (λ q. reply_by_split None (map (λ x. record { slot = exchange_slot x; tree = reply_or_nil x }) q) ≡ Some tree) all.answers told)
     where
-      by : (ys : List Exchange) → Pairwise (λ (d : Dispatch) (x : Exchange). x.request.args ≡ d.args) (d ∷ []) ys → AllByRecursion (λ x. is_answered x ≡ true) ys → (sts : List (List Step)) → Pairwise (IsDoneBy meaning) ys sts → SamePieces sts moves
+      by : (ys : List Exchange) → Pairwise (λ (d : Dispatch) (x : Exchange). x.request.args ≡ d.args) (d ∷ []) ys → AllByRecursion (λ x. is_answered x ≡ true) ys → (sts : List (List Step)) → Pairwise (IsDoneAs meaning RunCommand) ys sts → SamePieces sts moves
           → reply_by_split None (map (λ x. record { slot = exchange_slot x; tree = reply_or_nil x }) ys) ≡ Some tree → ServedIn meaning (run_each (args ∷ [])) (Reply tree ∷ []) moves
       by [] p a sts h c t = absurd p
       by (y ∷ z ∷ ys) p a sts h c t = absurd p.1
@@ -160,15 +160,15 @@ module _ (meaning : Meaning) (done : ℕ → Bool) (args : List (List ℕ)) (mov
           let same : h.0.done.0 ≡ tree = sym (reply_is meaning y st a.0 h.0) ∙ told_is in
           (st ∷ [], (((tree, refl, subst (λ a. DoCommand a st tree) (p.0 ∙ e) (subst (λ t. DoCommand y.request.args st t) same h.0.done.2)), h.0.allowed), tt), c)
 
-  pub command_told : (client : Client) (faults : Address → LinkFault) (ds : List Dispatch) (xs : List Exchange) → Sends args ds (split_of args) → PartByPart client ds xs → HonestIn meaning done xs moves
+  pub command_told : (client : Client) (faults : Address → LinkFault) (ds : List Dispatch) (xs : List Exchange) → Sends args ds (split_of args) → PartByPart client ds xs → HonestIn meaning done RunCommand xs moves
       → part_refusal client faults (behind_answers xs) ≡ None → (tree : Tree) → reply_of_parts args (part_replies xs) ≡ Some tree → ServedIn meaning (run_each (args ∷ [])) (Reply tree ∷ []) moves
   command_told client faults ds xs sends legal honest fine tree told = by (split_of args) refl sends told
     where
       all : AllDone done ds xs
       all = parts_done client faults done ds xs legal fine
 
-      steps : (ts : List (List Step)) × Pairwise (IsDoneBy meaning) (filter (is_counted done) xs) ts × SamePieces ts honest.0
-      steps = counted_steps meaning done xs honest.0 honest.1
+      steps : (ts : List (List Step)) × Pairwise (IsDoneAs meaning RunCommand) (filter (is_counted done) xs) ts × SamePieces ts honest.0
+      steps = counted_steps meaning done RunCommand xs honest.0 honest.1
 
       same : SamePieces steps.0 moves
       same slot = steps.2 slot ∙ honest.2 slot

@@ -1,11 +1,12 @@
 -- Lists of steps slot by slot, each list's steps together: what a request does on one slot stays unparted.
 use Rattle.std.proofs.Common.{◌≡◌, ℕ, Bool, true, false, cond, ◌||◌, ◌==◌, nat_eq, List, [], ◌∷◌, ◌++◌, map, filter, refl, sym, ap, ◌∙◌, append-nil, eqb-true}
+use Rattle.std.specs.Prelude.{MatchBool}
 use Rattle.std.specs.List.{AllByRecursion}
 use Rattle.std.proofs.lemmas.Bool.{false≢true}
 use Rattle.std.proofs.lemmas.List.Elements.{filter-append}
 use Rattle.cluster_routing.specs.Lists.{concat, among, IsDistinct, Pairwise}
 use Rattle.cluster_calls.specs.Links.Log.{Exchange}
-use Rattle.cluster_calls.specs.OneServer.Honest.{Accounts}
+use Rattle.cluster_calls.specs.OneServer.Honest.{is_counted, IsDoneBy}
 use Rattle.cluster_calls.specs.OneServer.Keyspace.{Step, on_slot}
 use Rattle.cluster_calls.specs.OneServer.Meaning.{Meaning, DoAll}
 use Rattle.cluster_calls.specs.OneServer.Operations.{Operation, Response}
@@ -24,9 +25,18 @@ pieces slot (xs ∷ xss) = with_some (on_slot slot xs) (pieces slot xss)
 abbrev pub SamePieces : List (List Step) → List (List Step) → Type 0
 SamePieces xss yss = (slot : ℕ) → pieces slot xss ≡ pieces slot yss
 
+-- the steps do what a request with these arguments asks for
+abbrev pub IsDoneAs : Meaning → (List (List ℕ) → Operation) → Exchange → List Step → Type 0
+IsDoneAs meaning operation x steps = IsDoneBy meaning (operation x.request.args) x steps
+
+-- `Accounts`, by what the arguments ask for
+abbrev pub AccountsAs : Meaning → (ℕ → Bool) → (List (List ℕ) → Operation) → Exchange → List Step → Type 0
+AccountsAs meaning done operation x steps = MatchBool (is_counted done x) (IsDoneAs meaning operation x steps) (steps ≡ [])
+
 -- steps that account for a log, with these pieces
-abbrev pub HonestIn : Meaning → (ℕ → Bool) → List Exchange → List (List Step) → Type 0
-HonestIn meaning done xs moves = (steps : List (List Step)) × Pairwise (Accounts meaning done) xs steps × SamePieces steps moves
+abbrev pub HonestIn : Meaning → (ℕ → Bool) → (List (List ℕ) → Operation) → List Exchange → List (List Step) → Type 0
+HonestIn meaning done operation xs moves =
+    (steps : List (List Step)) × Pairwise (AccountsAs meaning done operation) xs steps × SamePieces steps moves
 
 -- one server that is given the operations may respond so, by steps with these pieces
 abbrev pub ServedIn : Meaning → List Operation → List Response → List (List Step) → Type 0

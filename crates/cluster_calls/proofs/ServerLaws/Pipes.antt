@@ -24,9 +24,9 @@ use Rattle.cluster_calls.specs.Calls.Answer.{Value, unless, answer_of}
 use Rattle.cluster_calls.specs.Calls.Replies.{args_slot, pipeline_reply, not_ignored, exchange_slot, with_slot, in_pipeline_order, reply_or_nil}
 use Rattle.cluster_calls.specs.Calls.Refusals.{pipeline_refusal, errors_from, with_error}
 use Rattle.resp_core.specs.Parts.{first_error}
-use Rattle.cluster_calls.specs.OneServer.Honest.{Accounts, IsDoneBy, is_counted}
-use Rattle.cluster_calls.specs.OneServer.Operations.{Reply, run_each}
-use Rattle.cluster_calls.proofs.ServerLaws.Pieces.{pieces, SamePieces, HonestIn, ServedIn, pieces_at}
+use Rattle.cluster_calls.specs.OneServer.Honest.{is_counted}
+use Rattle.cluster_calls.specs.OneServer.Operations.{RunCommand, Reply, run_each}
+use Rattle.cluster_calls.proofs.ServerLaws.Pieces.{pieces, SamePieces, IsDoneAs, AccountsAs, HonestIn, ServedIn, pieces_at}
 use Rattle.cluster_calls.proofs.ServerLaws.Regroup.{filter-group_by_group}
 use Rattle.cluster_calls.proofs.ServerLaws.Distinct.{firsts_distinct, among-firsts}
 use Rattle.cluster_calls.proofs.ServerLaws.Draw.{draw_each, drawn_same, draw-map, pairwise-nil}
@@ -124,11 +124,11 @@ record Matches (meaning : Meaning) (done : ℕ → Bool) (Q : Exchange → Type 
   args : z.0.request.args ≡ d.args
   slot : exchange_slot z.0 ≡ (args_slot d.args)
   one : IsOneSlot d.args
-  accounts : Accounts meaning done z.0 z.1
+  accounts : AccountsAs meaning done RunCommand z.0 z.1
   fact : Q z.0
 
 matched : (client : Client) (meaning : Meaning) (done : ℕ → Bool) (Q : Exchange → Type 0) (ds : List Dispatch) (zs : List (Exchange × List Step)) → AllByRecursion (IsPipeDispatch client) ds
-    → Pairwise IsSent ds (map (λ (z : Exchange × List Step). z.0) zs) → AllByRecursion (λ (z : Exchange × List Step). Accounts meaning done z.0 z.1) zs → AllByRecursion Q (map (λ (z : Exchange × List Step). z.0) zs) → Pairwise (Matches meaning done Q) ds zs
+    → Pairwise IsSent ds (map (λ (z : Exchange × List Step). z.0) zs) → AllByRecursion (λ (z : Exchange × List Step). AccountsAs meaning done RunCommand z.0 z.1) zs → AllByRecursion Q (map (λ (z : Exchange × List Step). z.0) zs) → Pairwise (Matches meaning done Q) ds zs
 matched client meaning done Q [] [] f p a q = tt
 matched client meaning done Q [] (z ∷ zs) f p a q = absurd p
 matched client meaning done Q (d ∷ ds) [] f p a q = absurd p
@@ -145,12 +145,12 @@ steps_on meaning done Q [] (z ∷ zs) h = absurd h
 steps_on meaning done Q (d ∷ ds) [] h = absurd h
 steps_on meaning done Q (d ∷ ds) (z ∷ zs) h = (by (is_counted done z.0) h.0.accounts, steps_on meaning done Q ds zs h.1)
   where
-    by : (b : Bool) → MatchBool b (IsDoneBy meaning z.0 z.1) (z.1 ≡ []) → AllByRecursion (λ (x : Step). x.slot ≡ exchange_slot z.0) z.1
+    by : (b : Bool) → MatchBool b (IsDoneAs meaning RunCommand z.0 z.1) (z.1 ≡ []) → AllByRecursion (λ (x : Step). x.slot ≡ exchange_slot z.0) z.1
     by true a = subst (λ q. AllByRecursion (λ (x : Step). x.slot ≡ args_slot q) z.1) (sym h.0.args) (h.0.one z.1 a.done.0 (subst (λ q. DoCommand q z.1 a.done.0) h.0.args a.done.2))
     by false a = subst (AllByRecursion (λ (x : Step). x.slot ≡ exchange_slot z.0)) (sym a) tt
 
 accounts_of : (meaning : Meaning) (done : ℕ → Bool) (Q : Exchange → Type 0) (ds : List Dispatch) (zs : List (Exchange × List Step)) → Pairwise (Matches meaning done Q) ds zs
-    → Pairwise (Accounts meaning done) (map (λ (z : Exchange × List Step). z.0) zs) (map (λ (z : Exchange × List Step). z.1) zs)
+    → Pairwise (AccountsAs meaning done RunCommand) (map (λ (z : Exchange × List Step). z.0) zs) (map (λ (z : Exchange × List Step). z.1) zs)
 accounts_of meaning done Q [] [] h = tt
 accounts_of meaning done Q [] (z ∷ zs) h = absurd h
 accounts_of meaning done Q (d ∷ ds) [] h = absurd h
@@ -244,7 +244,7 @@ module _ (client : Client) (meaning : Meaning) (done : ℕ → Bool) (Q : Exchan
       none d e = pairwise-nil (Matches meaning done Q) (queue (args_slot d.args)) (subst (λ q. Pairwise (Matches meaning done Q) q (queue (args_slot d.args))) (sent_at (args_slot d.args) ∙ ap (λ b. cond b (filter (λ (u : Dispatch). (args_slot d.args) == (args_slot u.args)) ds) []) e) (slotwise (args_slot d.args)))
 
   -- and account for the same pieces
-  honest_order : (moves : List (List Step)) → SamePieces (map (λ (z : Exchange × List Step). z.1) zs) moves → HonestIn meaning done (map (λ (z : Exchange × List Step). z.0) ws) moves
+  honest_order : (moves : List (List Step)) → SamePieces (map (λ (z : Exchange × List Step). z.1) zs) moves → HonestIn meaning done RunCommand (map (λ (z : Exchange × List Step). z.0) ws) moves
   unfolding queue
   honest_order moves c = (
     map (λ (z : Exchange × List Step). z.1) ws,
@@ -256,7 +256,7 @@ module _ (client : Client) (meaning : Meaning) (done : ℕ → Bool) (Q : Exchan
 
 -- ---- the call
 
-counted_trees : (meaning : Meaning) (cs : List Exchange) (ts : List (List Step)) → Pairwise (IsDoneBy meaning) cs ts
+counted_trees : (meaning : Meaning) (cs : List Exchange) (ts : List (List Step)) → Pairwise (IsDoneAs meaning RunCommand) cs ts
     → (trees : List Tree) × DoAll meaning (run_each (map (λ (x : Exchange). x.request.args) cs)) ts (map Reply trees) × (AllByRecursion (λ x. is_answered x ≡ true) cs → map reply_or_nil cs ≡ trees)
 counted_trees meaning [] [] h = ([], tt, λ a. refl)
 counted_trees meaning [] (t ∷ ts) h = absurd h
@@ -287,17 +287,17 @@ dispatch_facts client (e ∷ es) (p ∷ ps) (d ∷ ds) w f n =
 
 -- the log in pipeline order
 record InOrder (meaning : Meaning) (done : ℕ → Bool) (Q : Exchange → Type 0) (entries : List Entry) (going : List Dispatch) (moves : List (List Step)) (xs : List Exchange) : Type 0 where
-  honest : HonestIn meaning done (in_pipeline_order entries xs) moves
+  honest : HonestIn meaning done RunCommand (in_pipeline_order entries xs) moves
   args : map (λ (x : Exchange). x.request.args) (in_pipeline_order entries xs) ≡ map (λ (d : Dispatch). d.args) going
   facts : AllByRecursion Q (in_pipeline_order entries xs)
 
 log_in_order : (client : Client) (meaning : Meaning) (done : ℕ → Bool) (Q : Exchange → Type 0) (entries : List Entry) (ds : List Dispatch) → AllByRecursion (IsPipeDispatch client) ds → Pairwise IsEntryDispatch entries ds
     → (first : List Address) → IsDistinct same_address first → (xs : List Exchange) → Pairwise IsSent (group_by_group same_address (λ (d : Dispatch). d.node) first ds) xs → AllByRecursion Q xs
-    → (moves : List (List Step)) → HonestIn meaning done xs moves
+    → (moves : List (List Step)) → HonestIn meaning done RunCommand xs moves
     → InOrder meaning done Q entries (filter (λ (d : Dispatch). among same_address (primary_of client (args_slot d.args)) first) ds) moves xs
 unfolding going
 log_in_order client meaning done Q entries ds facts for_each first distinct xs pairs all moves honest =
-    let z = zipped (Accounts meaning done) xs honest.0 honest.1 in
+    let z = zipped (AccountsAs meaning done RunCommand) xs honest.0 honest.1 in
     let grouped_facts = all_grouped first in
     let m = matched client meaning done Q (group_by_group same_address (λ (d : Dispatch). d.node) first ds) z.0 grouped_facts (subst (Pairwise IsSent (group_by_group same_address (λ (d : Dispatch). d.node) first ds)) (sym z.1) pairs) z.3 (subst (AllByRecursion Q) (sym z.1) all) in
     let w = ws client meaning done Q entries ds facts for_each first distinct z.0 m in
@@ -306,7 +306,7 @@ log_in_order client meaning done Q entries ds facts for_each first distinct xs p
     let f = facts_of meaning done Q s w (in_order client meaning done Q entries ds facts for_each first distinct z.0 m).0 in
     let h = honest_order client meaning done Q entries ds facts for_each first distinct z.0 m moves (subst (λ q. SamePieces q moves) (sym z.2) honest.2) in
     record {
-      honest = subst (λ q. HonestIn meaning done q moves) order h;
+      honest = subst (λ q. HonestIn meaning done RunCommand q moves) order h;
       args = subst (λ q. map (λ (x : Exchange). x.request.args) q ≡ map (λ (d : Dispatch). d.args) s) order f.0;
       facts = subst (AllByRecursion Q) order f.1;
     }
@@ -361,7 +361,7 @@ all_counted done [] h = tt
 all_counted done (x ∷ xs) h = (counted_answer done x h.0, all_counted done xs h.1)
 
 pub pipeline_served : (client : Client) (faults : Address → LinkFault) (meaning : Meaning) (moves : List (List Step)) (done : ℕ → Bool) (picks : List Address) (entries : List Entry) (xs : List Exchange) → GapsNameNoKey
-    → IsLegalCall client picks (Pipeline entries) xs → HonestIn meaning done xs moves → CallServed meaning done (Pipeline entries) (answer_of client picks faults (Pipeline entries) xs) xs moves
+    → IsLegalCall client picks (Pipeline entries) xs → HonestIn meaning done RunCommand xs moves → CallServed meaning done (Pipeline entries) (answer_of client picks faults (Pipeline entries) xs) xs moves
 pipeline_served client faults meaning moves done picks entries xs gaps legal honest = at_parts (pipeline_parts 0 entries) refl legal
   where
     Served : Result (List Dispatch) Refusal → Option Refusal → Type 0
@@ -372,7 +372,7 @@ pipeline_served client faults meaning moves done picks entries xs gaps legal hon
         let nothing : in_pipeline_order entries xs ≡ [] = ap (in_pipeline_order entries) e ∙ drawn_none (map (λ (x : Entry). args_slot (sent x.command)) entries) (λ slot. with_slot slot []) (λ n. refl) in
         record {
           responses = [];
-          served = subst (λ q. ServedIn meaning (run_each (map (λ (x : Exchange). x.request.args) (filter (is_counted done) q))) [] moves) (sym nothing) ([], tt, nothing_done meaning moves done (subst (λ q. HonestIn meaning done q moves) e honest));
+          served = subst (λ q. ServedIn meaning (run_each (map (λ (x : Exchange). x.request.args) (filter (is_counted done) q))) [] moves) (sym nothing) ([], tt, nothing_done meaning moves done RunCommand (subst (λ q. HonestIn meaning done RunCommand q moves) e honest));
           answer_is = tt;
         }
 
@@ -380,7 +380,7 @@ pipeline_served client faults meaning moves done picks entries xs gaps legal hon
     at_refusal ds f r (Some refusal) e =
         let distinct = distinct-front same_address r.first r.later (subst (IsDistinct same_address) r.all (firsts_distinct same_address (map (λ (d : Dispatch). d.node) ds))) in
         let o = log_in_order client meaning done (λ x. Unit {0}) entries ds f.0 f.1 r.first distinct xs r.pairs (all_true xs) moves honest in
-        let c = counted_steps meaning done (in_pipeline_order entries xs) o.honest.0 o.honest.1 in
+        let c = counted_steps meaning done RunCommand (in_pipeline_order entries xs) o.honest.0 o.honest.1 in
         let t = counted_trees meaning (filter (is_counted done) (in_pipeline_order entries xs)) c.0 c.1 in
         record { responses = map Reply t.0; served = (c.0, t.1, λ slot. c.2 slot ∙ o.honest.2 slot); answer_is = tt }
     at_refusal ds f r None e =
@@ -390,8 +390,8 @@ pipeline_served client faults meaning moves done picks entries xs gaps legal hon
         let ys = in_pipeline_order entries xs in
         let answered = no_errors_answered 0 ys fine.1 o.facts in
         let whole : filter (is_counted done) ys ≡ ys = filter_all (is_counted done) ys (all_counted done ys answered) in
-        let c = counted_steps meaning done ys o.honest.0 o.honest.1 in
-        let t = counted_trees meaning ys c.0 (subst (λ q. Pairwise (IsDoneBy meaning) q c.0) whole c.1) in
+        let c = counted_steps meaning done RunCommand ys o.honest.0 o.honest.1 in
+        let t = counted_trees meaning ys c.0 (subst (λ q. Pairwise (IsDoneAs meaning RunCommand) q c.0) whole c.1) in
         let first_is : nodes_in_use ds ≡ r.first = r.all ∙ ap (λ q. r.first ++ q) (r.whole fine.0) ∙ append-nil r.first in
         let sent_all : filter (λ (d : Dispatch). among same_address (primary_of client (args_slot d.args)) r.first) ds ≡ ds =
         ap (λ q. filter (λ (d : Dispatch). among same_address (primary_of client (args_slot d.args)) q) ds) (sym first_is)

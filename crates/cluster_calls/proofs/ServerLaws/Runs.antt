@@ -22,6 +22,7 @@ use Rattle.cluster_calls.specs.OneServer.Keyspace.{Step}
 use Rattle.cluster_calls.specs.OneServer.Meaning.{Meaning}
 use Rattle.cluster_calls.specs.OneServer.Honest.{Accounts, AccountsFor}
 use Rattle.cluster_calls.specs.OneServer.Commands.{is_on_slots}
+use Rattle.cluster_calls.specs.OneServer.Operations.{task_operation}
 use Rattle.cluster_calls.specs.OneServer.Headline.{RepliedCall, task_log, command_log, command_logs, IsPlayedFrom, AreOnSlots, RefusedByKind}
 use Rattle.cluster_calls.specs.OneServer.Laws.{GapsNameNoKey}
 use Rattle.cluster_calls.proofs.ServerLaws.Pieces.{HonestIn}
@@ -39,10 +40,10 @@ pairwise-split R (a ∷ as') bs (x ∷ xs) h = let r = pairwise-split R as' bs x
 
 -- steps that account for a call's requests
 abbrev pub AreOfCall : Meaning → (ℕ → Bool) → RepliedCall → List (List Step) → Type 0
-AreOfCall meaning done t own = Pairwise (Accounts meaning done) (task_log (task_of t.call) t.log) own
+AreOfCall meaning done t own = Pairwise (Accounts meaning done t.call) (task_log (task_of t.call) t.log) own
 
--- of one call's requests the call may be left out
-of_one_call : (meaning : Meaning) (done : ℕ → Bool) (call : Call) (xs : List Exchange) (ss : List (List Step)) → Pairwise (AccountsFor meaning done) (map (λ x. (call, x)) xs) ss → Pairwise (Accounts meaning done) xs ss
+-- one call's requests by the call
+of_one_call : (meaning : Meaning) (done : ℕ → Bool) (call : Call) (xs : List Exchange) (ss : List (List Step)) → Pairwise (AccountsFor meaning done) (map (λ x. (call, x)) xs) ss → Pairwise (Accounts meaning done call) xs ss
 of_one_call meaning done call [] [] h = tt
 of_one_call meaning done call [] (s ∷ ss) h = absurd h
 of_one_call meaning done call (x ∷ xs) [] h = absurd h
@@ -60,7 +61,7 @@ by_call meaning done (t ∷ ts) ss h =
 
 -- each call
 pub call_served : (client : Client) (faults : Address → LinkFault) (meaning : Meaning) (moves : List (List Step)) (done : ℕ → Bool) (picks : List Address) (call : Call) (xs : List Exchange) → GapsNameNoKey
-    → is_on_slots call ≡ true → IsLegalCall client picks call xs → HonestIn meaning done (task_log (task_of call) xs) moves → CallServed meaning done call (answer_of client picks faults call xs) xs moves
+    → is_on_slots call ≡ true → IsLegalCall client picks call xs → HonestIn meaning done (task_operation (task_of call)) (task_log (task_of call) xs) moves → CallServed meaning done call (answer_of client picks faults call xs) xs moves
 call_served client faults meaning moves done picks (Query command number) xs gaps s legal honest = command_served client faults meaning moves done picks (Query command number) command number None refl xs honest legal
 call_served client faults meaning moves done picks (Ordered command order number) xs gaps s legal honest = command_served client faults meaning moves done picks (Ordered command order number) command number (Some order) refl xs honest legal
 call_served client faults meaning moves done picks (OnStreams call) xs gaps s legal honest = command_served client faults meaning moves done picks (OnStreams call) (plain_command (sentence call)) 0 None refl xs honest legal
@@ -69,9 +70,9 @@ call_served client faults meaning moves done picks (FanOut command) xs gaps s le
 call_served client faults meaning moves done picks (Refresh node) xs gaps s legal honest = by (plan client picks (Refresh node)) (sent_refusal client faults (task_of (Refresh node)) xs)
   where
     by : (o : Result (List Dispatch) Refusal) (r : Option Refusal) → CallServed meaning done (Refresh node) (result_then o (λ ds. unless r (Ok Refreshed))) xs moves
-    by (Err e) r = record { responses = []; served = ([], tt, nothing_done meaning moves done honest); answer_is = tt }
-    by (Ok ds) (Some e) = record { responses = []; served = ([], tt, nothing_done meaning moves done honest); answer_is = tt }
-    by (Ok ds) None = record { responses = []; served = ([], tt, nothing_done meaning moves done honest); answer_is = (refl, refl) }
+    by (Err e) r = record { responses = []; served = ([], tt, nothing_done meaning moves done (task_operation (task_of (Refresh node))) honest); answer_is = tt }
+    by (Ok ds) (Some e) = record { responses = []; served = ([], tt, nothing_done meaning moves done (task_operation (task_of (Refresh node))) honest); answer_is = tt }
+    by (Ok ds) None = record { responses = []; served = ([], tt, nothing_done meaning moves done (task_operation (task_of (Refresh node))) honest); answer_is = (refl, refl) }
 
 -- each call of a run
 pub calls_served : (strategy : Option Strategy) (faults : Address → LinkFault) (meaning : Meaning) (done : ℕ → Bool) (ts : List RepliedCall) (client : Client) (moves : List (List (List Step))) → GapsNameNoKey

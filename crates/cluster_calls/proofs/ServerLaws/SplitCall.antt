@@ -8,13 +8,12 @@ use Rattle.cluster_routing.specs.Split.{Split, split_of, part_tuples, sub, join_
 use Rattle.cluster_calls.specs.Calls.Replies.{slot_by, args_slot, exchange_slot}
 use Rattle.cluster_calls.specs.OneServer.Keyspace.{Step, on_slot}
 use Rattle.cluster_calls.specs.OneServer.Meaning.{Meaning, DoesTuple, IsWholeStep, AreAllowed, DoCommand, tree_of_steps, step_trees}
-use Rattle.cluster_calls.specs.OneServer.Operations.{Response, Reply, run_each}
+use Rattle.cluster_calls.specs.OneServer.Operations.{RunCommand, Response, Reply, run_each}
 use Rattle.cluster_calls.specs.Links.Log.{Exchange}
 use Rattle.cluster_calls.specs.Calls.Plan.{Dispatch}
-use Rattle.cluster_calls.specs.OneServer.Honest.{IsDoneBy}
 use Rattle.cluster_calls.specs.OneServer.Commands.{split_with}
 use Rattle.cluster_routing.proofs.Recut.{split_of_some}
-use Rattle.cluster_calls.proofs.ServerLaws.Pieces.{with_some, SamePieces, ServedIn, one_piece}
+use Rattle.cluster_calls.proofs.ServerLaws.Pieces.{with_some, SamePieces, IsDoneAs, ServedIn, one_piece}
 use Rattle.cluster_calls.proofs.ServerLaws.Splits.{DoesAllowed, pairwise-zip, pairwise-left, filter-head, part_on_slot, in_argument_order}
 
 -- the dispatch sends a part of the split command
@@ -38,7 +37,7 @@ module _ (meaning : Meaning) (args : List (List ℕ)) (split : Split) (is_split 
     pub tree_is : tree ≡ tree_of_steps (split.splitting.policy) (step_trees st)
     pub slot_is : exchange_slot x ≡ (args_slot d.args)
 
-  pub part_done : (d : Dispatch) → IsDispatchOf split d → (x : Exchange) → x.request.args ≡ d.args → (st : List Step) → (h : IsDoneBy meaning x st) → PartDone d x st h.done.0
+  pub part_done : (d : Dispatch) → IsDispatchOf split d → (x : Exchange) → x.request.args ≡ d.args → (st : List Step) → (h : IsDoneAs meaning RunCommand x st) → PartDone d x st h.done.0
   part_done d w x e st h =
       let p = reparsed d w x e in
       let does = subst (λ o. MatchOption o ((s : Step) × (st ≡ s ∷ []) × IsWholeStep x.request.args s h.done.0) (λ sp. Pairwise (DoesTuple sp.splitting.policy sp.word sp.shared) sp.tuples st × (h.done.0 ≡ tree_of_steps (sp.splitting.policy) (step_trees st)))) p h.done.2 in
@@ -55,7 +54,7 @@ module _ (meaning : Meaning) (args : List (List ℕ)) (split : Split) (is_split 
     pub slots : map exchange_slot xs ≡ map (λ (d : Dispatch). (args_slot d.args)) ds
 
   pub parts_done_steps : (ds : List Dispatch) → AllByRecursion (IsDispatchOf split) ds → (xs : List Exchange) → Pairwise (λ (d : Dispatch) (x : Exchange). x.request.args ≡ d.args) ds xs
-      → (sts : List (List Step)) → Pairwise (IsDoneBy meaning) xs sts → PartsDone ds xs sts
+      → (sts : List (List Step)) → Pairwise (IsDoneAs meaning RunCommand) xs sts → PartsDone ds xs sts
   parts_done_steps [] w [] p [] h = record { steps = tt; slots = refl }
   parts_done_steps [] w [] p (st ∷ sts) h = absurd h
   parts_done_steps [] w (x ∷ xs) p sts h = absurd p

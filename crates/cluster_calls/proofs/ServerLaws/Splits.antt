@@ -49,28 +49,32 @@ filter-head q (x ∷ xs) t ts e = by (q x) refl e (λ f. filter-head q xs t ts f
     by true h f ih = let n : x ≡ t = cc in ap q (sym n) ∙ h
     by false h f ih = ih f
 
-module _ (meaning : Meaning) (policy : ResponsePolicy) (word : List ℕ) (shared : List (List ℕ)) where
+-- items with a slot each, and what does an item on that slot
+module _ {T : Type 0} (slot_of : T → ℕ) (D : T → Step → Type 0) (on : (t : T) (x : Step) → D t x → x.slot ≡ slot_of t) where
+  abbrev items_at : ℕ → List T → List T
+  items_at k ts = filter (λ t. k == slot_of t) ts
+
   -- the steps of a part are on its slot
-  pub part_on_slot : (k : ℕ) (ts : List Tuple) (st : List Step) → Pairwise (DoesAllowed meaning policy word shared) (part_tuples k ts) st → AllByRecursion (λ (x : Step). x.slot ≡ k) st
-  part_on_slot k ts st h = walk (part_tuples k ts) st (passes ts) h
+  pub group_on_slot : (k : ℕ) (ts : List T) (st : List Step) → Pairwise D (items_at k ts) st → AllByRecursion (λ (x : Step). x.slot ≡ k) st
+  group_on_slot k ts st h = walk (items_at k ts) st (passes ts) h
     where
-      passes : (us : List Tuple) → AllByRecursion (λ t. tuple_slot t ≡ k) (part_tuples k us)
+      passes : (us : List T) → AllByRecursion (λ t. slot_of t ≡ k) (items_at k us)
       passes [] = tt
-      passes (u ∷ us) = by (k == tuple_slot u) refl (passes us)
+      passes (u ∷ us) = by (k == slot_of u) refl (passes us)
         where
-          by : (b : Bool) → k == tuple_slot u ≡ b → AllByRecursion (λ t. tuple_slot t ≡ k) (part_tuples k us) → AllByRecursion (λ t. tuple_slot t ≡ k) (cond b (u ∷ part_tuples k us) (part_tuples k us))
-          by true e r = (sym (eqb-true k (tuple_slot u) e), r)
+          by : (b : Bool) → k == slot_of u ≡ b → AllByRecursion (λ t. slot_of t ≡ k) (items_at k us) → AllByRecursion (λ t. slot_of t ≡ k) (cond b (u ∷ items_at k us) (items_at k us))
+          by true e r = (sym (eqb-true k (slot_of u) e), r)
           by false e r = r
 
-      walk : (us : List Tuple) (xs : List Step) → AllByRecursion (λ t. tuple_slot t ≡ k) us → Pairwise (DoesAllowed meaning policy word shared) us xs → AllByRecursion (λ (x : Step). x.slot ≡ k) xs
+      walk : (us : List T) (xs : List Step) → AllByRecursion (λ t. slot_of t ≡ k) us → Pairwise D us xs → AllByRecursion (λ (x : Step). x.slot ≡ k) xs
       walk [] [] a h = tt
       walk [] (x ∷ xs) a h = absurd h
       walk (u ∷ us) [] a h = absurd h
-      walk (u ∷ us) (x ∷ xs) a h = (h.0.0.slot ∙ a.0, walk us xs a.1 h.1)
+      walk (u ∷ us) (x ∷ xs) a h = (on u x h.0 ∙ a.0, walk us xs a.1 h.1)
 
   -- concat, the steps of a slot are those of its part, and none where that was not sent
-  parts_on_slot : (tuples : List Tuple) (slots : List ℕ) (sts : List (List Step)) → IsDistinct nat_eq slots → Pairwise (λ k st. Pairwise (DoesAllowed meaning policy word shared) (part_tuples k tuples) st) slots sts
-      → (s : ℕ) → MatchBool (among nat_eq s slots) (Pairwise (DoesAllowed meaning policy word shared) (part_tuples s tuples) (on_slot s (concat sts))) (on_slot s (concat sts) ≡ [])
+  parts_on_slot : (tuples : List T) (slots : List ℕ) (sts : List (List Step)) → IsDistinct nat_eq slots → Pairwise (λ k st. Pairwise D (items_at k tuples) st) slots sts
+      → (s : ℕ) → MatchBool (among nat_eq s slots) (Pairwise D (items_at s tuples) (on_slot s (concat sts))) (on_slot s (concat sts) ≡ [])
   parts_on_slot tuples [] [] d h s = refl
   parts_on_slot tuples [] (st ∷ sts) d h s = absurd h
   parts_on_slot tuples (k ∷ ks) [] d h s = absurd h
@@ -78,51 +82,63 @@ module _ (meaning : Meaning) (policy : ResponsePolicy) (word : List ℕ) (shared
       by (nat_eq s k) refl (among nat_eq s ks) refl (parts_on_slot tuples ks sts d.1 h.1 s)
     where
       own : on_slot s (st ++ concat sts) ≡ cond (s == k) st [] ++ on_slot s (concat sts)
-      own = filter-append (λ (x : Step). s == x.slot) st (concat sts) ∙ ap (λ q. q ++ on_slot s (concat sts)) (on_one_slot s k st (part_on_slot k tuples st h.0))
+      own = filter-append (λ (x : Step). s == x.slot) st (concat sts) ∙ ap (λ q. q ++ on_slot s (concat sts)) (on_one_slot s k st (group_on_slot k tuples st h.0))
 
       by : (b : Bool) → nat_eq s k ≡ b → (c : Bool) → among nat_eq s ks ≡ c
-          → MatchBool c (Pairwise (DoesAllowed meaning policy word shared) (part_tuples s tuples) (on_slot s (concat sts))) (on_slot s (concat sts) ≡ [])
-          → MatchBool (b || c) (Pairwise (DoesAllowed meaning policy word shared) (part_tuples s tuples) (on_slot s (st ++ concat sts))) (on_slot s (st ++ concat sts) ≡ [])
+          → MatchBool c (Pairwise D (items_at s tuples) (on_slot s (concat sts))) (on_slot s (concat sts) ≡ [])
+          → MatchBool (b || c) (Pairwise D (items_at s tuples) (on_slot s (st ++ concat sts))) (on_slot s (st ++ concat sts) ≡ [])
       by true e true f r = absurd (false≢true (sym d.0 ∙ ap (λ n. among nat_eq n ks) (sym (eqb-true s k e)) ∙ f))
       by true e false f r =
           let here : on_slot s (st ++ concat sts) ≡ st = own ∙ ap (λ b. cond b st [] ++ on_slot s (concat sts)) e ∙ ap (λ q. st ++ q) r ∙ append-nil st in
-          subst (λ q. Pairwise (DoesAllowed meaning policy word shared) (part_tuples s tuples) q) (sym here)
-          (subst (λ n. Pairwise (DoesAllowed meaning policy word shared) (part_tuples n tuples) st) (sym (eqb-true s k e)) h.0)
-      by false e true f r = subst (λ q. Pairwise (DoesAllowed meaning policy word shared) (part_tuples s tuples) q) (sym (own ∙ ap (λ b. cond b st [] ++ on_slot s (concat sts)) e)) r
+          subst (λ q. Pairwise D (items_at s tuples) q) (sym here)
+          (subst (λ n. Pairwise D (items_at n tuples) st) (sym (eqb-true s k e)) h.0)
+      by false e true f r = subst (λ q. Pairwise D (items_at s tuples) q) (sym (own ∙ ap (λ b. cond b st [] ++ on_slot s (concat sts)) e)) r
       by false e false f r = own ∙ ap (λ b. cond b st [] ++ on_slot s (concat sts)) e ∙ r
 
   -- the tuples with these slots, at one slot
-  kept_at : (slots : List ℕ) (tuples : List Tuple) (s : ℕ) → part_tuples s (filter (λ t. among nat_eq (tuple_slot t) slots) tuples) ≡ cond (among nat_eq s slots) (part_tuples s tuples) []
+  kept_at : (slots : List ℕ) (tuples : List T) (s : ℕ) → items_at s (filter (λ t. among nat_eq (slot_of t) slots) tuples) ≡ cond (among nat_eq s slots) (items_at s tuples) []
   kept_at slots [] s = by (among nat_eq s slots)
     where
-      by : (b : Bool) → part_tuples s [] ≡ cond b [] []
+      by : (b : Bool) → items_at s [] ≡ cond b [] []
       by true = refl
       by false = refl
-  kept_at slots (t ∷ tuples) s = by (s == tuple_slot t) refl (among nat_eq (tuple_slot t) slots) refl (among nat_eq s slots) refl (kept_at slots tuples s)
+  kept_at slots (t ∷ tuples) s = by (s == slot_of t) refl (among nat_eq (slot_of t) slots) refl (among nat_eq s slots) refl (kept_at slots tuples s)
     where
-      us : List Tuple
-      us = filter (λ t. among nat_eq (tuple_slot t) slots) tuples
+      us : List T
+      us = filter (λ t. among nat_eq (slot_of t) slots) tuples
 
-      by : (b : Bool) → s == tuple_slot t ≡ b → (c : Bool) → among nat_eq (tuple_slot t) slots ≡ c → (e : Bool) → among nat_eq s slots ≡ e
-          → part_tuples s us ≡ cond e (part_tuples s tuples) [] → part_tuples s (cond c (t ∷ us) us) ≡ cond e (cond b (t ∷ part_tuples s tuples) (part_tuples s tuples)) []
-      by true h true k true m ih = ap (λ b. cond b (t ∷ part_tuples s us) (part_tuples s us)) h ∙ ap (λ q. t ∷ q) ih
-      by true h true k false m ih = absurd (false≢true (sym m ∙ ap (λ n. among nat_eq n slots) (eqb-true s (tuple_slot t) h) ∙ k))
-      by true h false k true m ih = absurd (false≢true (sym k ∙ ap (λ n. among nat_eq n slots) (sym (eqb-true s (tuple_slot t) h)) ∙ m))
+      by : (b : Bool) → s == slot_of t ≡ b → (c : Bool) → among nat_eq (slot_of t) slots ≡ c → (e : Bool) → among nat_eq s slots ≡ e
+          → items_at s us ≡ cond e (items_at s tuples) [] → items_at s (cond c (t ∷ us) us) ≡ cond e (cond b (t ∷ items_at s tuples) (items_at s tuples)) []
+      by true h true k true m ih = ap (λ b. cond b (t ∷ items_at s us) (items_at s us)) h ∙ ap (λ q. t ∷ q) ih
+      by true h true k false m ih = absurd (false≢true (sym m ∙ ap (λ n. among nat_eq n slots) (eqb-true s (slot_of t) h) ∙ k))
+      by true h false k true m ih = absurd (false≢true (sym k ∙ ap (λ n. among nat_eq n slots) (sym (eqb-true s (slot_of t) h)) ∙ m))
       by true h false k false m ih = ih
-      by false h true k e m ih = ap (λ b. cond b (t ∷ part_tuples s us) (part_tuples s us)) h ∙ ih
+      by false h true k e m ih = ap (λ b. cond b (t ∷ items_at s us) (items_at s us)) h ∙ ih
       by false h false k e m ih = ih
 
   -- the sent parts' steps can be put in argument order, and are the same steps on each slot
+  pub in_item_order : (tuples : List T) (slots : List ℕ) (sts : List (List Step)) → IsDistinct nat_eq slots → Pairwise (λ k st. Pairwise D (items_at k tuples) st) slots sts
+      → let us = filter (λ t. among nat_eq (slot_of t) slots) tuples in
+      let xs = draw (map slot_of us) (λ s. on_slot s (concat sts)) in
+      Pairwise D us xs × ((s : ℕ) → on_slot s xs ≡ on_slot s (concat sts))
+  in_item_order tuples slots sts d h =
+      draw_each D slot_of (λ (x : Step). x.slot) on
+      (filter (λ t. among nat_eq (slot_of t) slots) tuples) (λ s. on_slot s (concat sts))
+      (λ s. subst (λ q. Pairwise D q (on_slot s (concat sts))) (sym (kept_at slots tuples s)) (by s (among nat_eq s slots) (parts_on_slot tuples slots sts d h s)))
+    where
+      by : (s : ℕ) (b : Bool) → MatchBool b (Pairwise D (items_at s tuples) (on_slot s (concat sts))) (on_slot s (concat sts) ≡ [])
+          → Pairwise D (cond b (items_at s tuples) []) (on_slot s (concat sts))
+      by s true r = r
+      by s false r = subst (λ q. Pairwise D [] q) (sym r) tt
+
+module _ (meaning : Meaning) (policy : ResponsePolicy) (word : List ℕ) (shared : List (List ℕ)) where
+  -- the steps of a part are on its slot
+  pub part_on_slot : (k : ℕ) (ts : List Tuple) (st : List Step) → Pairwise (DoesAllowed meaning policy word shared) (part_tuples k ts) st → AllByRecursion (λ (x : Step). x.slot ≡ k) st
+  part_on_slot = group_on_slot tuple_slot (DoesAllowed meaning policy word shared) (λ t x r. r.0.slot)
+
+  -- the steps of a split command in argument order
   pub in_argument_order : (tuples : List Tuple) (slots : List ℕ) (sts : List (List Step)) → IsDistinct nat_eq slots → Pairwise (λ k st. Pairwise (DoesAllowed meaning policy word shared) (part_tuples k tuples) st) slots sts
       → let us = filter (λ t. among nat_eq (tuple_slot t) slots) tuples in
       let xs = draw (map tuple_slot us) (λ s. on_slot s (concat sts)) in
       Pairwise (DoesAllowed meaning policy word shared) us xs × ((s : ℕ) → on_slot s xs ≡ on_slot s (concat sts))
-  in_argument_order tuples slots sts d h =
-      draw_each (DoesAllowed meaning policy word shared) tuple_slot (λ (x : Step). x.slot) (λ t x r. r.0.slot)
-      (filter (λ t. among nat_eq (tuple_slot t) slots) tuples) (λ s. on_slot s (concat sts))
-      (λ s. subst (λ q. Pairwise (DoesAllowed meaning policy word shared) q (on_slot s (concat sts))) (sym (kept_at slots tuples s)) (by s (among nat_eq s slots) (parts_on_slot tuples slots sts d h s)))
-    where
-      by : (s : ℕ) (b : Bool) → MatchBool b (Pairwise (DoesAllowed meaning policy word shared) (part_tuples s tuples) (on_slot s (concat sts))) (on_slot s (concat sts) ≡ [])
-          → Pairwise (DoesAllowed meaning policy word shared) (cond b (part_tuples s tuples) []) (on_slot s (concat sts))
-      by s true r = r
-      by s false r = subst (λ q. Pairwise (DoesAllowed meaning policy word shared) [] q) (sym r) tt
+  in_argument_order = in_item_order tuple_slot (DoesAllowed meaning policy word shared) (λ t x r. r.0.slot)

@@ -19,15 +19,16 @@ use Rattle.cluster_calls.specs.Calls.Plan.{Client, Dispatch, plan}
 use Rattle.cluster_calls.specs.Links.Faults.{LinkFault}
 use Rattle.cluster_calls.specs.Calls.Legal.{AreMade, IsLegalCall}
 use Rattle.cluster_calls.specs.OneServer.Headline.{RepliedCall, task_log, IsPlayedFrom}
-use Rattle.cluster_calls.specs.OneServer.Honest.{Accounts, IsDoneBy, is_counted}
+use Rattle.cluster_calls.specs.OneServer.Honest.{Accounts, is_counted}
 use Rattle.cluster_calls.specs.OneServer.Keyspace.{Step, on_slot}
 use Rattle.cluster_calls.specs.OneServer.Meaning.{Meaning, DoesTuple, IsWholeStep, DoCommand, tree_of_steps, step_trees}
+use Rattle.cluster_calls.specs.OneServer.Operations.{RunCommand, task_operation}
 use Rattle.cluster_calls.specs.OneServer.AmongOthers.{Other, in_turn, CallTurns, call_turns, AreItsRequests, are_on_one_slot, is_unsplit, ServedCall, IsServed}
 use Rattle.cluster_calls.proofs.ServerLaws.Calls.{plan_sends}
 use Rattle.cluster_calls.proofs.ServerLaws.Counted.{counted_steps, parts_begun}
 use Rattle.cluster_calls.proofs.ServerLaws.Draw.{pairwise-nil}
 use Rattle.cluster_calls.proofs.ServerLaws.PartCall.{Sends}
-use Rattle.cluster_calls.proofs.ServerLaws.Pieces.{same_on_slot}
+use Rattle.cluster_calls.proofs.ServerLaws.Pieces.{IsDoneAs, AccountsAs, same_on_slot}
 use Rattle.cluster_calls.proofs.ServerLaws.SameSlots.{nothing_left}
 
 abbrev pub AtMostOne : List Step → Type 0
@@ -65,7 +66,7 @@ is_whole None e = refl
 is_whole (Some split) e = absurd (false≢true e)
 
 module _ (meaning : Meaning) (args : List (List ℕ)) (whole : split_of args ≡ None) where
-  one_step : (steps : List Step) (x : Exchange) → x.request.args ≡ args → IsDoneBy meaning x steps → AtMostOne (steps ++ [])
+  one_step : (steps : List Step) (x : Exchange) → x.request.args ≡ args → IsDoneAs meaning RunCommand x steps → AtMostOne (steps ++ [])
   one_step steps x e h =
       let tree = h.done.0 in
       let d : DoCommand args steps tree = subst (λ a. DoCommand a steps tree) e h.done.2 in
@@ -73,7 +74,7 @@ module _ (meaning : Meaning) (args : List (List ℕ)) (whole : split_of args ≡
       subst (λ q. AtMostOne (q ++ [])) (sym w.1) tt
 
   first_alone : (d : Dispatch) → d.args ≡ args → (begun later : List Dispatch) → d ∷ [] ≡ begun ++ later → (xs : List Exchange) → Pairwise (λ (d : Dispatch) (x : Exchange). x.request.args ≡ d.args) begun xs
-      → (sts : List (List Step)) → Pairwise (IsDoneBy meaning) xs sts → AtMostOne (concat sts)
+      → (sts : List (List Step)) → Pairwise (IsDoneAs meaning RunCommand) xs sts → AtMostOne (concat sts)
   first_alone d e begun later all [] p [] h = tt
   first_alone d e begun later all [] p (st ∷ sts) h = absurd h
   first_alone d e begun later all (x ∷ xs) p [] h = absurd h
@@ -85,35 +86,35 @@ module _ (meaning : Meaning) (args : List (List ℕ)) (whole : split_of args ≡
       let same : d ≡ d2 = cc in
       one_step st x (p.0 ∙ ap (λ (b : Dispatch). b.args) (sym same) ∙ e) h.0
 
-none_alone : (meaning : Meaning) (done : ℕ → Bool) (xs : List Exchange) (own : List (List Step)) → xs ≡ [] → Pairwise (Accounts meaning done) xs own → AtMostOne (concat own)
-none_alone meaning done xs own e h =
-    let none : own ≡ [] = pairwise-nil (Accounts meaning done) own (subst (λ q. Pairwise (Accounts meaning done) q own) e h) in
+none_alone : (meaning : Meaning) (done : ℕ → Bool) (call : Call) (xs : List Exchange) (own : List (List Step)) → xs ≡ [] → Pairwise (Accounts meaning done call) xs own → AtMostOne (concat own)
+none_alone meaning done call xs own e h =
+    let none : own ≡ [] = pairwise-nil (Accounts meaning done call) own (subst (λ q. Pairwise (Accounts meaning done call) q own) e h) in
     subst (λ q. AtMostOne (concat q)) (sym none) tt
 
 command_alone : (client : Client) (meaning : Meaning) (done : ℕ → Bool) (picks : List Address) (call : Call) (command : Command) (number : ℕ) (order : Option (List ℕ)) (xs : List Exchange) (own : List (List Step)) → task_of call ≡ one_command command number order
-    → is_none (split_of (sent command)) ≡ true → IsLegalCall client picks call xs → Pairwise (Accounts meaning done) xs own → AtMostOne (concat own)
+    → is_none (split_of (sent command)) ≡ true → IsLegalCall client picks call xs → Pairwise (Accounts meaning done call) xs own → AtMostOne (concat own)
 command_alone client meaning done picks call command number order xs own is_command unsplit legal accounts = by (plan client picks call) refl legal
   where
     whole : split_of (sent command) ≡ None
     whole = is_whole (split_of (sent command)) unsplit
 
     by : (o : Result (List Dispatch) Refusal) → plan client picks call ≡ o → MatchResult o (λ ds. AreMade client (task_of call) ds xs) (λ refusal. xs ≡ []) → AtMostOne (concat own)
-    by (Err r) p l = none_alone meaning done xs own l accounts
+    by (Err r) p l = none_alone meaning done call xs own l accounts
     by (Ok ds) p l =
         let s = subst (λ o. Sends (sent command) ds o) whole (plan_sends client picks call command number order ds is_command p) in
         let b = parts_begun client done ds xs (subst (λ t. AreMade client t ds xs) is_command l) in
-        let c = counted_steps meaning done xs own accounts in
+        let c = counted_steps meaning done RunCommand xs own (subst (λ t. Pairwise (AccountsAs meaning done (task_operation t)) xs own) is_command accounts) in
         let one = first_alone meaning (sent command) whole s.0 s.2 b.begun b.later (sym s.1 ∙ b.all) (filter (is_counted done) xs) b.args c.0 c.1 in
         subst AtMostOne (sym (same_alone (concat c.0) (concat own) one (λ k. sym (same_on_slot c.0 own c.2 k)))) one
 
 pub unsplit_alone : (client : Client) (meaning : Meaning) (done : ℕ → Bool) (picks : List Address) (call : Call) (xs : List Exchange) (own : List (List Step)) → is_unsplit call ≡ true
-    → IsLegalCall client picks call xs → Pairwise (Accounts meaning done) (task_log (task_of call) xs) own → AtMostOne (concat own)
+    → IsLegalCall client picks call xs → Pairwise (Accounts meaning done call) (task_log (task_of call) xs) own → AtMostOne (concat own)
 unsplit_alone client meaning done picks (Query command number) xs own u legal h = command_alone client meaning done picks (Query command number) command number None xs own refl u legal h
 unsplit_alone client meaning done picks (Ordered command order number) xs own u legal h = command_alone client meaning done picks (Ordered command order number) command number (Some order) xs own refl u legal h
 unsplit_alone client meaning done picks (OnStreams call) xs own u legal h = command_alone client meaning done picks (OnStreams call) (plain_command (sentence call)) 0 None xs own refl u legal h
 unsplit_alone client meaning done picks (Pipeline entries) xs own u legal h = absurd (false≢true u)
 unsplit_alone client meaning done picks (FanOut command) xs own u legal h = absurd (false≢true u)
-unsplit_alone client meaning done picks (Refresh node) xs own u legal h = none_alone meaning done [] own refl h
+unsplit_alone client meaning done picks (Refresh node) xs own u legal h = none_alone meaning done (Refresh node) [] own refl h
 
 -- ---- a run of such calls
 

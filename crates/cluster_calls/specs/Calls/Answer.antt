@@ -1,5 +1,5 @@
 -- What a call answers, or why it is refused.
-use Rattle.std.specs.Prelude.{ℕ, ℤ, List, Option, Some, None, option_map, option_and_then, Result, Ok, Err}
+use Rattle.std.specs.Prelude.{ℕ, ℤ, List, filter, Option, Some, None, option_map, option_and_then, Result, Ok, Err}
 use Rattle.resp_core.specs.Trees.{Tree, nil}
 use Rattle.resp_core.specs.Parts.{or_else}
 use Rattle.resp_core.specs.Errors.{Refusal}
@@ -16,13 +16,14 @@ use Rattle.stream_commands.specs.Groups.{Group, groups_reply}
 use Rattle.stream_commands.specs.Consumers.{Consumer, consumers_reply}
 use Rattle.stream_commands.specs.StatusCodes.{status}
 use Rattle.cluster_routing.specs.Policies.{or_bad_reply}
-use Rattle.cluster_calls.specs.Links.Log.{Exchange}
+use Rattle.cluster_calls.specs.Links.Log.{Exchange, is_answered}
 use Rattle.cluster_calls.specs.Calls.Call.{StreamCall, Xadd, Xtrim, Xread, Xrange, Xclaim, Xautoclaim, Xpending, XinfoStream, XinfoGroups, XinfoConsumers, XdelEx, Call, Refresh, OnStreams}
-use Rattle.cluster_calls.specs.Calls.Task.{Task, slot_map_of, one_command, pipeline_of, several_nodes, task_of}
+use Rattle.cluster_calls.specs.Calls.Task.{Task, slot_map_of, one_command, pipeline_of, several_nodes, read_of, task_of}
 use Rattle.cluster_calls.specs.Calls.Parts.{result_then}
 use Rattle.cluster_calls.specs.Calls.Plan.{Client, plan}
 use Rattle.cluster_calls.specs.Links.Faults.{LinkFault}
 use Rattle.cluster_calls.specs.Calls.Replies.{part_replies, reply_of_parts, pipeline_reply, several_reply}
+use Rattle.cluster_calls.specs.Calls.Reads.{read_rows}
 use Rattle.cluster_calls.specs.Calls.Refusals.{refusal_in, sent_refusal}
 
 -- what became of an entry that was to be deleted
@@ -73,14 +74,17 @@ abbrev pub tree_in : {A : Type 0} → Result A Refusal → Option A
 tree_in (Ok a) = Some a
 tree_in (Err refusal) = None
 
--- one reply from those of all requests, where none of them refuses the call; that of a refresh is not looked at
+-- One reply from those of all requests, where none of them refuses the call. That of a refresh is not looked at, and a read in parts
+-- has none.
 abbrev pub reply_of : (Address → LinkFault) → Task → List Exchange → Option Tree
 reply_of faults (slot_map_of node) xs = Some nil
 reply_of faults (one_command command number order) xs = reply_of_parts (sent command) (part_replies xs)
 reply_of faults (pipeline_of entries) xs = Some (pipeline_reply entries xs)
 reply_of faults (several_nodes command) xs = tree_in (several_reply faults command xs)
+reply_of faults (read_of options streams) xs = None
 
 abbrev pub task_answer : (Address → LinkFault) → Call → Task → List Exchange → Option Answer
+task_answer faults call (read_of options streams) xs = option_map Read (read_rows options streams (filter is_answered xs))
 task_answer faults call task xs = option_and_then (answer_in call) (reply_of faults task xs)
 
 abbrev pub call_answer : (Address → LinkFault) → Call → List Exchange → Option Answer

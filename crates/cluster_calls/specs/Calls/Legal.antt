@@ -7,7 +7,7 @@ use Rattle.cluster_routing.specs.Lists.{firsts}
 use Rattle.cluster_calls.specs.Links.Request.{Request}
 use Rattle.cluster_calls.specs.Links.Log.{Exchange, requests, is_answered, is_unanswered}
 use Rattle.cluster_calls.specs.Calls.Call.{Call}
-use Rattle.cluster_calls.specs.Calls.Task.{Task, slot_map_of, one_command, pipeline_of, several_nodes, task_of}
+use Rattle.cluster_calls.specs.Calls.Task.{Task, slot_map_of, one_command, pipeline_of, several_nodes, read_of, task_of}
 use Rattle.cluster_calls.specs.Calls.Plan.{Client, Dispatch, plan}
 use Rattle.cluster_calls.specs.Calls.Redirects.{Hop, FollowsRedirects}
 
@@ -43,6 +43,7 @@ AreMade client (slot_map_of node) ds xs = requests xs ≡ map direct ds
 AreMade client (one_command command number order) ds xs = PartByPart client ds xs
 AreMade client (pipeline_of entries) ds xs = NodeByNode (node_groups ds) xs
 AreMade client (several_nodes command) ds xs = requests xs ≡ map direct ds
+AreMade client (read_of options streams) ds xs = PartByPart client ds xs
 
 -- a call that is refused before sending makes no request
 abbrev pub IsLegalCall : Client → List Address → Call → List Exchange → Type 0

@@ -1,6 +1,6 @@
 -- The parts of a call in order of first appearance, or why it has none: the checks before any node is looked for.
 -- Source: the Redis Cluster specification; documentation of the crate `redis`.
-use Rattle.std.specs.Prelude.{ℕ, suc, Bool, true, false, if◌then◌else◌, List, [], ◌∷◌, map, length, Option, Some, None, Result, Ok, Err}
+use Rattle.std.specs.Prelude.{ℕ, suc, Bool, true, false, if◌then◌else◌, List, [], ◌∷◌, map, length, Option, Some, None, Result, Ok, Err, codes}
 use Rattle.std.specs.List.{list_any}
 use Rattle.resp_core.specs.Errors.{Refusal, by_cause, at_position}
 use Rattle.resp_core.specs.declared.errors.redis_error.Cause.TheVariants.{NoResponse, NoRoute, CursorInSplit, BrokenTuples, BadOrder, NoNode}
@@ -17,9 +17,12 @@ use Rattle.cluster_routing.specs.declared.route.SlotAddr.{SlotAddr}
 use Rattle.cluster_routing.specs.declared.route.SlotAddr.TheVariants.{Master}
 use Rattle.cluster_routing.specs.Lists.{is_permutation}
 use Rattle.cluster_routing.specs.Split.{Split, split_of, has_split_word, part_slots, sub}
+use Rattle.stream_commands.specs.Commands as commands
+use Rattle.stream_commands.specs.Settings.{ReadSettings}
 use Rattle.cluster_calls.specs.Links.Request.{slots_command}
-use Rattle.cluster_calls.specs.Calls.Call.{Entry}
-use Rattle.cluster_calls.specs.Calls.Task.{Task, slot_map_of, one_command, pipeline_of, several_nodes}
+use Rattle.cluster_calls.specs.Calls.Call.{Entry, Stream}
+use Rattle.cluster_calls.specs.Calls.Reads.{stream_slots, streams_at}
+use Rattle.cluster_calls.specs.Calls.Task.{Task, slot_map_of, one_command, pipeline_of, several_nodes, read_of, stream_keys, stream_ids}
 
 -- where a part goes first: to its slot, to the node with this number among all, or to a node
 pub data Target : Type 0 where
@@ -107,11 +110,21 @@ node_parts entries args (Some (to_all_nodes policy)) = to_nodes args (all_nodes 
 node_parts entries args (Some (to_all_primaries policy)) = to_nodes args (all_primaries entries)
 node_parts entries args _ = Err (by_cause NoRoute)
 
+-- ---- reads of streams: a read for each slot, of its streams in the call's order
+
+abbrev pub read_part : SlotAddr → ReadSettings → List Stream → ℕ → Part
+read_part role options streams slot =
+    part_to (commands.xread options (stream_keys (streams_at slot streams)) (stream_ids (streams_at slot streams))) (at_slot (route_to role slot))
+
+abbrev pub read_parts : List (List ℕ) → ReadSettings → List Stream → List Part
+read_parts read_only options streams = map (read_part (role_of (codes "XREAD") read_only) options streams) (stream_slots streams)
+
 -- ---- tasks
 
 abbrev pub task_parts : List (List ℕ) → SlotEntries → Task → Result (List Part) Refusal
 task_parts read_only entries (slot_map_of node) = Ok (part_to slots_command (at_node node) ∷ [])
 task_parts read_only entries (one_command command number order) = result_then (parts_of read_only command number) (if_ordered order)
 task_parts read_only entries (pipeline_of es) = pipeline_parts 0 es
+task_parts read_only entries (read_of options streams) = Ok (read_parts read_only options streams)
 task_parts read_only entries (several_nodes command) =
     if command.no_response then Err (by_cause NoResponse) else node_parts entries (sent command) (destination command.args read_only)

@@ -81,6 +81,8 @@ pub data Task : Type 0 where
   one_command : (command : Command) → (number : ℕ) → (order : Option (List ℕ)) → Task
   pipeline_of : (entries : List Entry) → Task
   several_nodes : (command : Command) → Task
+  -- streams, one part for each slot of their keys, as they first appear
+  read_of : (options : ReadSettings) → (streams : List Stream) → Task
 
 abbrev pub stream_task : StreamCall → Task
 stream_task call = one_command (plain_command (sentence call)) 0 None

@@ -16,7 +16,7 @@ use Rattle.cluster_routing.specs.Lists.{concat, front, rest, Pairwise}
 use Rattle.cluster_routing.specs.Split.{split_of}
 use Rattle.cluster_calls.specs.Links.Faults.{LinkFault}
 use Rattle.cluster_calls.specs.Calls.Call.{Call}
-use Rattle.cluster_calls.specs.Calls.Task.{Task, slot_map_of, one_command, pipeline_of, several_nodes, task_of}
+use Rattle.cluster_calls.specs.Calls.Task.{Task, slot_map_of, one_command, pipeline_of, several_nodes, read_of, task_of, stream_keys, are_of_one_slot}
 use Rattle.cluster_calls.specs.Calls.Plan.{Client}
 use Rattle.cluster_calls.specs.OneServer.Commands.{counting, IsAnswerBy}
 use Rattle.cluster_calls.specs.OneServer.Headline.{RepliedCall, task_log, IsPlayedFrom, AreOnSlots}
@@ -71,7 +71,7 @@ TurnsLead keys turns keys' = History keys (map step_of turns) keys'
 
 -- a call's own lists are the steps of its requests, one list each
 abbrev pub AreItsRequests : Meaning → (ℕ → Bool) → RepliedCall → CallTurns → Type 0
-AreItsRequests meaning done t c = Pairwise (Accounts meaning done) (task_log (task_of t.call) t.log) c.own
+AreItsRequests meaning done t c = Pairwise (Accounts meaning done t.call) (task_log (task_of t.call) t.log) c.own
 
 -- The nodes did what they answered, in the order of the log, and in between what others asked for. That is all that is supposed of others.
 -- A request without an answer that was done late, behind its place in the log, may be taken for one of theirs, and `done` is false for it.
@@ -135,12 +135,13 @@ AnswersAmongOthers =
 
 -- ---- where nothing is moved
 
--- a refresh, or a command that is not split
+-- a refresh, a command that is not split, or a read of one slot
 abbrev pub is_unsplit_task : Task → Bool
 is_unsplit_task (slot_map_of node) = true
 is_unsplit_task (one_command command number order) = is_none (split_of (sent command))
 is_unsplit_task (pipeline_of entries) = false
 is_unsplit_task (several_nodes command) = false
+is_unsplit_task (read_of options streams) = are_of_one_slot (stream_keys streams)
 
 abbrev pub is_unsplit : Call → Bool
 is_unsplit call = is_unsplit_task (task_of call)

@@ -3,18 +3,22 @@ use Rattle.std.specs.Prelude.{◌≡◌, ℕ, nat_eq, ⊤, Bool, true, false, no
 use Rattle.resp_core.specs.Trees.{Tree}
 use Rattle.resp_core.specs.Errors.{Refusal}
 use Rattle.resp_args.specs.Packed.{sent}
+use Rattle.cluster_routing.specs.HashSlot.{hash_slot}
 use Rattle.cluster_routing.specs.Lists.{among}
 use Rattle.cluster_routing.specs.Parts.{Tuple, tuple_slot}
 use Rattle.cluster_routing.specs.Routing.{Destination, to_any_node, destination}
 use Rattle.cluster_routing.specs.Split.{Split, split_of, join_split}
 use Rattle.cluster_routing.specs.Combine.{array_of}
+use Rattle.stream_commands.specs.ReadReply.{Row}
+use Rattle.stream_commands.specs.Settings.{ReadSettings}
 use Rattle.cluster_calls.specs.Links.Log.{Exchange}
-use Rattle.cluster_calls.specs.Calls.Call.{Entry, Call}
-use Rattle.cluster_calls.specs.Calls.Task.{Task, slot_map_of, one_command, pipeline_of, several_nodes, task_of}
+use Rattle.cluster_calls.specs.Calls.Call.{Entry, Stream, Call}
+use Rattle.cluster_calls.specs.Calls.Task.{Task, slot_map_of, one_command, pipeline_of, several_nodes, read_of, task_of}
+use Rattle.cluster_calls.specs.Calls.Reads.{read_slot}
 use Rattle.cluster_calls.specs.Calls.Replies.{exchange_slot, in_pipeline_order, not_ignored}
-use Rattle.cluster_calls.specs.Calls.Answer.{Answer, Value, Refreshed, answer_in}
+use Rattle.cluster_calls.specs.Calls.Answer.{Answer, Value, Refreshed, Read, answer_in}
 use Rattle.cluster_calls.specs.OneServer.Honest.{is_counted}
-use Rattle.cluster_calls.specs.OneServer.Operations.{Operation, Response, Reply, run_each}
+use Rattle.cluster_calls.specs.OneServer.Operations.{Operation, ReadKeys, Response, Reply, Rows, run_each}
 
 -- the calls whose keyspace is spoken of: not those to several nodes, nor commands that any node may serve
 abbrev pub is_any_node : Option Destination → Bool
@@ -26,6 +30,7 @@ is_task_on_slots (one_command command number order) = not (is_any_node (destinat
 is_task_on_slots (several_nodes command) = false
 is_task_on_slots (pipeline_of entries) = true
 is_task_on_slots (slot_map_of node) = true
+is_task_on_slots (read_of options streams) = true
 
 abbrev pub is_on_slots : Call → Bool
 is_on_slots call = is_task_on_slots (task_of call)
@@ -35,6 +40,7 @@ is_on_slots call = is_task_on_slots (task_of call)
 abbrev pub task_operations : Task → List Operation
 task_operations (one_command command number order) = run_each (sent command ∷ [])
 task_operations (pipeline_of entries) = run_each (map (λ (e : Entry). sent e.command) entries)
+task_operations (read_of options streams) = ReadKeys options streams ∷ []
 task_operations _ = []
 
 abbrev pub operations : Call → List Operation
@@ -57,10 +63,22 @@ kept_by args None (x ∷ xs) = args ∷ []
 abbrev pub kept_of : List (List ℕ) → List Exchange → List (List (List ℕ))
 kept_of args counted = kept_by args (split_of args) counted
 
+-- of a read in parts the streams of the slots that the counted requests name, and nothing where there are none
+abbrev pub streams_with : List ℕ → List Stream → List Stream
+streams_with slots streams = filter (λ (s : Stream). among nat_eq (hash_slot s.key) slots) streams
+
+abbrev pub read_with : ReadSettings → List Stream → List Operation
+read_with options [] = []
+read_with options (s ∷ streams) = ReadKeys options (s ∷ streams) ∷ []
+
+abbrev pub read_kept : ReadSettings → List Stream → List Exchange → List Operation
+read_kept options streams counted = read_with options (streams_with (map (λ (x : Exchange). read_slot options x.request.args) counted) streams)
+
 -- what counts of a refused call
 abbrev pub task_kept : (ℕ → Bool) → Task → List Exchange → List Operation
 task_kept done (one_command command number order) xs = run_each (kept_of (sent command) (filter (is_counted done) xs))
 task_kept done (pipeline_of entries) xs = run_each (map (λ (x : Exchange). x.request.args) (filter (is_counted done) (in_pipeline_order entries xs)))
+task_kept done (read_of options streams) xs = read_kept options streams (filter (is_counted done) xs)
 task_kept done _ xs = []
 
 abbrev pub kept : (ℕ → Bool) → Call → List Exchange → List Operation
@@ -79,6 +97,7 @@ IsTaskAnswer call (slot_map_of node) answer responses = (answer ≡ Refreshed) �
 IsTaskAnswer call (one_command command number order) answer responses = (tree : Tree) × (responses ≡ Reply tree ∷ []) × (answer_in call tree ≡ Some answer)
 IsTaskAnswer call (pipeline_of entries) answer responses = (trees : List Tree) × (responses ≡ map Reply trees) × (answer ≡ Value (array_of (not_ignored entries trees)))
 IsTaskAnswer call (several_nodes command) answer responses = ⊥
+IsTaskAnswer call (read_of options streams) answer responses = (rows : List Row) × (responses ≡ Rows (Some rows) ∷ []) × (answer ≡ Read rows)
 
 abbrev pub IsAnswerBy : Call → Result Answer Refusal → List Response → Type 0
 IsAnswerBy call (Ok answer) responses = IsTaskAnswer call (task_of call) answer responses

@@ -3,37 +3,38 @@ use Rattle.std.specs.Prelude.{◌≡◌, ℕ, ◌||◌, ◌&&◌, Bool, List, []
 use Rattle.cluster_routing.specs.Lists.{concat, Pairwise}
 use Rattle.cluster_calls.specs.Links.Log.{Exchange, is_answered, is_unanswered}
 use Rattle.cluster_calls.specs.Calls.Call.{Call}
+use Rattle.cluster_calls.specs.Calls.Task.{task_of}
 use Rattle.cluster_calls.specs.OneServer.Keyspace.{Keyspace, Step, History}
 use Rattle.cluster_calls.specs.OneServer.Meaning.{Meaning, DoOperation, AreAllowed}
-use Rattle.cluster_calls.specs.OneServer.Operations.{Operation, RunCommand, Response, response_by}
+use Rattle.cluster_calls.specs.OneServer.Operations.{Operation, Response, task_operation, response_by}
 
 -- the requests that count for the keyspace: the answered ones, and of the unanswered ones those that were done
 abbrev pub is_counted : (ℕ → Bool) → Exchange → Bool
 is_counted done x = is_answered x || (is_unanswered x && done x.place)
 
--- the operation that a request asks for
-abbrev pub operation_of : Exchange → Operation
-operation_of x = RunCommand x.request.args
+-- the operation that a request of the call asks for
+abbrev pub operation_of : Call → Exchange → Operation
+operation_of call x = task_operation (task_of call) x.request.args
 
--- the steps do what the request asks for, and where it got a reply, that is the response
-pub record IsDoneBy (meaning : Meaning) (x : Exchange) (steps : List Step) : Type 0 where
+-- the steps do the operation, and where the request got a reply, that comes to the response
+pub record IsDoneBy (meaning : Meaning) (operation : Operation) (x : Exchange) (steps : List Step) : Type 0 where
   pub response : Response
-  pub reply : IfSome x.reply (λ tree. response_by (operation_of x) tree ≡ response)
-  pub done : DoOperation (operation_of x) steps response
+  pub reply : IfSome x.reply (λ tree. response_by operation tree ≡ response)
+  pub done : DoOperation operation steps response
   pub allowed : AreAllowed meaning steps
 
--- a counted request has steps that do it, and another one changes nothing
-abbrev pub Accounts : Meaning → (ℕ → Bool) → Exchange → List Step → Type 0
-Accounts meaning done x steps = MatchBool (is_counted done x) (IsDoneBy meaning x steps) (steps ≡ [])
+-- a counted request of the call has steps that do what it asks for, and another one changes nothing
+abbrev pub Accounts : Meaning → (ℕ → Bool) → Call → Exchange → List Step → Type 0
+Accounts meaning done call x steps = MatchBool (is_counted done x) (IsDoneBy meaning (operation_of call x) x steps) (steps ≡ [])
 
 -- over the requests of one call
-abbrev pub Honest : Meaning → Keyspace → (ℕ → Bool) → List Exchange → Keyspace → Type 0
-Honest meaning keys done xs keys' =
-    (steps : List (List Step)) × Pairwise (Accounts meaning done) xs steps × History keys (concat steps) keys'
+abbrev pub Honest : Meaning → Keyspace → (ℕ → Bool) → Call → List Exchange → Keyspace → Type 0
+Honest meaning keys done call xs keys' =
+    (steps : List (List Step)) × Pairwise (Accounts meaning done call) xs steps × History keys (concat steps) keys'
 
 -- over the requests of a run, each with its call
 abbrev pub AccountsFor : Meaning → (ℕ → Bool) → Call × Exchange → List Step → Type 0
-AccountsFor meaning done x steps = Accounts meaning done x.1 steps
+AccountsFor meaning done x steps = Accounts meaning done x.0 x.1 steps
 
 abbrev pub HonestRun : Meaning → Keyspace → (ℕ → Bool) → List (Call × Exchange) → Keyspace → Type 0
 HonestRun meaning keys done xs keys' =

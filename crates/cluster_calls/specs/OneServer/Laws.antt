@@ -14,7 +14,7 @@ use Rattle.cluster_routing.specs.declared.route.Route.{Route}
 use Rattle.cluster_calls.specs.Links.Reply.{Sort, Moved, Ask, sort_of}
 use Rattle.cluster_calls.specs.Links.Log.{Exchange, is_answered}
 use Rattle.cluster_calls.specs.Calls.Call.{Call, Query, Ordered}
-use Rattle.cluster_calls.specs.Calls.Task.{Task, slot_map_of, one_command, pipeline_of, several_nodes, task_of}
+use Rattle.cluster_calls.specs.Calls.Task.{Task, slot_map_of, one_command, pipeline_of, several_nodes, read_of, task_of}
 use Rattle.cluster_calls.specs.Calls.Plan.{Client, Dispatch, plan}
 use Rattle.cluster_calls.specs.Calls.Legal.{IsLegalCall}
 use Rattle.cluster_calls.specs.Links.Faults.{LinkFault}
@@ -33,6 +33,7 @@ request_bound budget parts (slot_map_of node) = 1
 request_bound budget parts (one_command command number order) = parts * suc budget
 request_bound budget parts (pipeline_of entries) = length entries
 request_bound budget parts (several_nodes command) = parts
+request_bound budget parts (read_of options streams) = parts * suc budget
 
 -- a part has at most one request more than the budget
 abbrev pub RequestsAreBounded : Type 0

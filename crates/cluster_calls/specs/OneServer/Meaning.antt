@@ -1,5 +1,5 @@
 -- What operations mean on a single server, and what it is to serve them one after another.
-use Rattle.std.specs.Prelude.{◌≡◌, ◌⊎◌, ℕ, pos, ⊤, List, [], ◌∷◌, map, sum_by, Contains, Option, Some, None, MatchOption}
+use Rattle.std.specs.Prelude.{◌≡◌, ◌⊎◌, ℕ, pos, ⊤, List, [], ◌∷◌, ◌++◌, map, sum_by, Contains, Option, Some, None, MatchOption}
 use Rattle.std.specs.List.{AllByRecursion}
 use Rattle.resp_core.specs.Trees.{Tree, int, okay}
 use Rattle.resp_core.specs.Parts.{first_error}
@@ -12,8 +12,12 @@ use Rattle.cluster_routing.specs.declared.policy.AggregateOp.TheVariants.{Sum}
 use Rattle.cluster_routing.specs.Lists.{concat, Pairwise}
 use Rattle.cluster_routing.specs.Split.{split_of}
 use Rattle.cluster_routing.specs.Combine.{array_of}
-use Rattle.cluster_calls.specs.OneServer.Keyspace.{Keyspace, Step, Whole, PartOf, History}
-use Rattle.cluster_calls.specs.OneServer.Operations.{Operation, RunCommand, Response, Reply, reply_tree, IfReply}
+use Rattle.cluster_routing.specs.HashSlot.{hash_slot}
+use Rattle.stream_commands.specs.ReadReply.{Row}
+use Rattle.stream_commands.specs.Settings.{ReadSettings}
+use Rattle.cluster_calls.specs.Calls.Call.{Stream}
+use Rattle.cluster_calls.specs.OneServer.Keyspace.{Keyspace, Step, Whole, PartOf, ReadOf, History}
+use Rattle.cluster_calls.specs.OneServer.Operations.{Operation, RunCommand, ReadKeys, Response, Reply, Rows, reply_tree, IfReply}
 
 -- a meaning: the steps that a server may make
 abbrev pub Meaning : Type 0
@@ -72,9 +76,41 @@ DoCommand args steps tree = MatchOption (split_of args)
     ((x : Step) × (steps ≡ x ∷ []) × IsWholeStep args x tree)
     (λ s. Pairwise (DoesTuple s.splitting.policy s.word s.shared) s.tuples steps × (tree ≡ tree_of_steps s.splitting.policy (step_trees steps)))
 
+-- ---- reads of streams, each by itself
+
+-- of one stream a row that names its key, no row, or a reply of another shape
+abbrev pub IsRowOf : List ℕ → Response → Type 0
+IsRowOf key (Rows None) = ⊤
+IsRowOf key (Rows (Some [])) = ⊤
+IsRowOf key (Rows (Some (r ∷ []))) = r.key ≡ key
+IsRowOf key _ = ⊥
+
+-- the step reads one stream, on the slot of its key
+pub record DoesRead (options : ReadSettings) (stream : Stream) (x : Step) : Type 0 where
+  pub deed : x.deed ≡ ReadOf options stream.key stream.id
+  pub slot : x.slot ≡ hash_slot stream.key
+  pub response : IsRowOf stream.key x.response
+
+abbrev pub rows_told : Response → Option (List Row)
+rows_told (Rows rows) = rows
+rows_told (Reply tree) = None
+
+-- rows and further rows; none where either are none
+abbrev pub more_rows : Option (List Row) → Option (List Row) → Option (List Row)
+more_rows (Some rows) (Some further) = Some (rows ++ further)
+more_rows _ _ = None
+
+-- the rows of the steps, in their order
+abbrev pub rows_of_steps : List Step → Option (List Row)
+rows_of_steps [] = Some []
+rows_of_steps (x ∷ xs) = more_rows (rows_told x.response) (rows_of_steps xs)
+
+-- ---- operations
+
 -- the steps do the operation, and this is the response
 abbrev pub DoOperation : Operation → List Step → Response → Type 0
 DoOperation (RunCommand args) steps response = (tree : Tree) × (response ≡ Reply tree) × DoCommand args steps tree
+DoOperation (ReadKeys options streams) steps response = Pairwise (DoesRead options) streams steps × (response ≡ Rows (rows_of_steps steps))
 
 -- each operation in turn with its steps and its response
 abbrev pub DoAll : Meaning → List Operation → List (List Step) → List Response → Type 0
