@@ -1,76 +1,12 @@
-//! Each read and each write of each node is refused in turn, where the call is one that no session makes.
+//! Each read and each write of each node is refused in turn, and what a client tells of itself, which no
+//! session prints, is compared too.
 use crate::clients::*;
+use crate::rows::{Phase, Row, row_at};
 use crate::streams::{xadd, xread};
 use cluster_client::*;
 use std::alloc::{AllocError, Global};
 use std::process::Abort;
 use std::test::Fail;
-
-/// The first half of the slots at n1:7001, and the other one, where `a` is, at n2:7002; then a number,
-/// and an empty map.
-const AT_N1: &[u8] =
-    b"*2\r\n*3\r\n:0\r\n:8191\r\n*2\r\n$2\r\nn1\r\n:7001\r\n*3\r\n:8192\r\n:16383\r\n*2\r\n$2\r\nn2\r\n:7002\r\n:6\r\n*0\r\n";
-
-/// How many of these bytes are the reply to the first refresh.
-const MAP_LENGTH: u64 = 76;
-
-/// What comes behind the reply of n2:7002.
-const BEHIND: &[u8] = b":5\r\n*0\r\n";
-
-const SLOTS: &[u8] = b"*2\r\n$7\r\nCLUSTER\r\n$5\r\nSLOTS\r\n";
-
-const ADD: &[u8] =
-    b"*9\r\n$4\r\nXADD\r\n$1\r\na\r\n$10\r\nNOMKSTREAM\r\n$6\r\nMAXLEN\r\n$1\r\n~\r\n$2\r\n10\r\n$1\r\n*\r\n$1\r\nf\r\n$1\r\nv\r\n";
-
-const READ: &[u8] =
-    b"*7\r\n$10\r\nXREADGROUP\r\n$5\r\nGROUP\r\n$1\r\ng\r\n$1\r\nc\r\n$7\r\nSTREAMS\r\n$1\r\na\r\n$1\r\n>\r\n";
-
-const ENTRY: &[u8] =
-    b"*1\r\n*2\r\n$1\r\na\r\n*1\r\n*4\r\n$3\r\n1-0\r\n*2\r\n$1\r\nf\r\n$1\r\nv\r\n:5\r\n:1\r\n";
-
-const ENTRY_AND_NIL: &[u8] =
-    b"*1\r\n*2\r\n$1\r\na\r\n*1\r\n*4\r\n$3\r\n1-0\r\n*2\r\n$1\r\nf\r\n$1\r\nv\r\n:5\r\n$-1\r\n";
-
-/// A call at n2:7002: an addition, or else a read by a group. It has what is told of a run up to it
-/// where it is answered, and where its own read or write is refused.
-#[derive(Drop)]
-struct Row {
-    is_add: bool,
-    reply: &'static [u8],
-    sent: &'static [u8],
-    answered: &'static str,
-    failed: &'static str,
-}
-
-const ONE_ENTRY: &str =
-    "0, StreamReadReply { keys: [StreamKey { key: \"a\", ids: [StreamId { id: \"1-0\", map: {\"f\": BulkString([118])}, milliseconds_elapsed_from_delivery: Some(5), delivered_count: Some(1) }] }] }, n2 XREADGROUP GROUP g c STREAMS a >";
-
-const TWO_ENTRIES: &str =
-    "0, StreamReadReply { keys: [StreamKey { key: \"a\", ids: [StreamId { id: \"1-0\", map: {\"f\": BulkString([118])}, milliseconds_elapsed_from_delivery: None, delivered_count: None }, StreamId { id: \"5\", map: {}, milliseconds_elapsed_from_delivery: None, delivered_count: None }] }] }, n2 XREADGROUP GROUP g c STREAMS a >";
-
-fn row_at(which: usize) -> Row {
-    match which {
-        0 => Row {
-            is_add: true,
-            reply: b"$3\r\n5-0\r\n",
-            sent: ADD,
-            answered: "0, Some(\"5-0\"), n2 XADD a NOMKSTREAM MAXLEN ~ 10 * f v",
-            failed: "0, 14, n2 XADD a NOMKSTREAM MAXLEN ~ 10 * f v",
-        },
-        1 => read_row(ENTRY, ONE_ENTRY),
-        _ => read_row(ENTRY_AND_NIL, TWO_ENTRIES),
-    }
-}
-
-fn read_row(reply: &'static [u8], answered: &'static str) -> Row {
-    Row {
-        is_add: false,
-        reply,
-        sent: READ,
-        answered,
-        failed: "0, 14, n2 XREADGROUP GROUP g c STREAMS a >",
-    }
-}
 
 /// The read or the write of a node that is refused, counted from 1, where bytes come in such pieces.
 #[derive(Drop)]
@@ -91,8 +27,24 @@ fn fault_at(place: usize, number: u64, piece: usize) -> Fault {
     }
 }
 
+/// All that comes from a node.
+pub(crate) fn bytes_from(alloc: Global, row: &Row, is_n1: bool) -> Result<Vec<u8>, AllocError> {
+    let mut bytes = Vec::new(alloc);
+    for phase in row.phases {
+        if phase.is_n1 == is_n1 {
+            bytes.extend_from_slice(phase.gives)?;
+        }
+    }
+    bytes.extend_from_slice(if is_n1 {
+        row.left_at_n1
+    } else {
+        row.left_at_n2
+    })?;
+    Ok(bytes)
+}
+
 /// A link that refuses the fault's read or write where it is the node's.
-fn failing_link(alloc: Global, bytes: Vec<u8>, fault: &Fault, is_n1: bool) -> Link {
+fn failing_link(alloc: Global, row: &Row, fault: &Fault, is_n1: bool) -> Result<Link, AllocError> {
     let number = if fault.is_at_n1 == is_n1 {
         fault.number
     } else {
@@ -103,28 +55,29 @@ fn failing_link(alloc: Global, bytes: Vec<u8>, fault: &Fault, is_n1: bool) -> Li
     } else {
         (number, 0)
     };
-    let reader = MemoryReader::new(bytes, fault.piece, read);
-    ByteLink::new(alloc, reader, MemoryWriter::new(alloc, write))
-}
-
-fn bytes_at_n2(alloc: Global, row: &Row) -> Result<Vec<u8>, AllocError> {
-    let mut bytes = Vec::from_slice(alloc, row.reply)?;
-    bytes.extend_from_slice(BEHIND)?;
-    Ok(bytes)
+    let reader = MemoryReader::new(bytes_from(alloc, row, is_n1)?, fault.piece, read);
+    Ok(ByteLink::new(alloc, reader, MemoryWriter::new(alloc, write)))
 }
 
 fn client(alloc: Global, row: &Row, fault: &Fault) -> Result<Client, RedisError> {
     let mut links: Links = Vec::new(alloc);
-    let bytes = Vec::from_slice(alloc, AT_N1)?;
-    let n1 = failing_link(alloc, bytes, fault, true);
-    links.push((node(alloc, "n1:7001")?, n1))?;
-    let n2 = failing_link(alloc, bytes_at_n2(alloc, row)?, fault, false);
-    links.push((node(alloc, "n2:7002")?, n2))?;
-    ClusterClient::new(alloc, links, Vec::new(alloc), 1)
+    links.push((
+        node(alloc, "n1:7001")?,
+        failing_link(alloc, row, fault, true)?,
+    ))?;
+    links.push((
+        node(alloc, "n2:7002")?,
+        failing_link(alloc, row, fault, false)?,
+    ))?;
+    ClusterClient::new(alloc, links, Vec::new(alloc), row.budget)
 }
 
 /// The number of the refusal of a refresh, 0 where it is accepted.
-fn refreshed(alloc: Global, client: &mut Client, address: &str) -> Result<u8, RedisError> {
+pub(crate) fn refreshed(
+    alloc: Global,
+    client: &mut Client,
+    address: &str,
+) -> Result<u8, RedisError> {
     let node = node(alloc, address)?;
     Ok(match client.refresh(alloc, &node) {
         Ok(_) => 0,
@@ -132,20 +85,86 @@ fn refreshed(alloc: Global, client: &mut Client, address: &str) -> Result<u8, Re
     })
 }
 
-/// The row's answer, or the number of its refusal.
-fn answer(alloc: Global, client: &mut Client, row: &Row) -> Result<String, RedisError> {
-    let outcome = if row.is_add {
-        xadd(alloc, client)
-    } else {
-        xread(alloc, client)
-    };
+/// `SET a 1`, `GET b` ignored, `GET a`.
+fn pipeline(alloc: Global) -> Result<ClusterPipeline, AllocError> {
+    let mut pipeline = cluster_pipe(alloc);
+    pipeline.cmd(alloc, "SET")?;
+    pipeline.arg("a")?;
+    pipeline.arg("1")?;
+    pipeline.cmd(alloc, "GET")?;
+    pipeline.arg("b")?;
+    pipeline.ignore();
+    pipeline.add_command(get_a(alloc)?)?;
+    Ok(pipeline)
+}
+
+/// How many values a pipeline answered.
+fn pipeline_length(alloc: Global, client: &mut Client) -> Result<i64, RedisError> {
+    let values: Vec<Value> = pipeline(alloc)?.query(alloc, client)?;
+    Ok(values.len() as i64)
+}
+
+pub(crate) fn delete(alloc: Global, client: &mut Client) -> Result<i64, RedisError> {
+    let mut cmd = command::cmd(alloc, "DEL")?;
+    cmd.arg("a")?;
+    cmd.arg("b")?;
+    client.query(alloc, &cmd, 0, None)
+}
+
+pub(crate) fn get(alloc: Global, client: &mut Client, key: &str) -> Result<i64, RedisError> {
+    let mut cmd = command::cmd(alloc, "GET")?;
+    cmd.arg(key)?;
+    client.query(alloc, &cmd, 0, None)
+}
+
+/// A number, or that of its refusal below zero.
+pub(crate) fn number_in(outcome: Result<i64, RedisError>) -> i64 {
     match outcome {
-        Ok(text) => Ok(text),
-        Err(e) => Ok(format!(in alloc; "{}", e.number())?),
+        Ok(number) => number,
+        Err(e) => 0 - i64::from(e.number()),
     }
 }
 
-fn push_asked(text: &mut String, asked: &Asked) -> Result<(), RedisError> {
+fn shown(alloc: Global, outcome: Result<i64, RedisError>) -> Result<String, RedisError> {
+    let number = number_in(outcome);
+    Ok(format!(in alloc; "{number}")?)
+}
+
+/// A `GET a`, and behind it a refresh.
+fn shown_refresh(alloc: Global, client: &mut Client) -> Result<String, RedisError> {
+    let number = number_in(get(alloc, client, "a"));
+    let refreshed = refreshed(alloc, client, "n1:7001")?;
+    Ok(format!(in alloc; "{number} {refreshed}")?)
+}
+
+/// What a call on a stream answered, or the number of its refusal.
+fn text_in(alloc: Global, outcome: Result<String, RedisError>) -> Result<String, RedisError> {
+    match outcome {
+        Ok(text) => Ok(text),
+        Err(e) => shown(alloc, Err(e)),
+    }
+}
+
+/// What the row's call answers.
+fn answer(alloc: Global, client: &mut Client, call: usize) -> Result<String, RedisError> {
+    match call {
+        0 => {
+            let outcome = xadd(alloc, client);
+            text_in(alloc, outcome)
+        }
+        1 => {
+            let outcome = xread(alloc, client);
+            text_in(alloc, outcome)
+        }
+        2 => shown(alloc, delete(alloc, client)),
+        3 => shown(alloc, get(alloc, client, "a")),
+        4 => shown(alloc, pipeline_length(alloc, client)),
+        _ => shown_refresh(alloc, client),
+    }
+}
+
+pub(crate) fn push_asked(text: &mut String, asked: &Asked) -> Result<(), RedisError> {
+    text.push_str(", ")?;
     text.push_str(asked.node.host())?;
     for arg in asked.args.iter() {
         text.push_str(" ")?;
@@ -154,93 +173,124 @@ fn push_asked(text: &mut String, asked: &Asked) -> Result<(), RedisError> {
     Ok(())
 }
 
-/// What the first refresh and the row's call answer, and then the call's log.
-fn told(alloc: Global, client: &mut Client, row: &Row) -> Result<String, RedisError> {
+/// How many pushes were set aside at a node.
+pub(crate) fn pushes_at(
+    alloc: Global,
+    client: &Client,
+    address: &str,
+) -> Result<usize, RedisError> {
+    let node = node(alloc, address)?;
+    Ok(match client.pushes(&node) {
+        Some(pushes) => pushes.len(),
+        None => 0,
+    })
+}
+
+/// What the first refresh and the row's call answer, whether a refresh is needed, the numbers of picks and
+/// of pushes at both nodes, and the last call's log.
+fn told(alloc: Global, client: &mut Client, call: usize) -> Result<String, RedisError> {
     let refreshed = refreshed(alloc, client, "n1:7001")?;
-    let answer = answer(alloc, client, row)?;
-    let mut text = format!(in alloc; "{refreshed}, {answer}, ")?;
+    let answer = answer(alloc, client, call)?;
+    let flag = client.needs_refresh();
+    let picks = client.picked().len();
+    let n1 = pushes_at(alloc, client, "n1:7001")?;
+    let n2 = pushes_at(alloc, client, "n2:7002")?;
+    let mut text = format!(in alloc; "{refreshed}, {answer}, {flag} {picks} {n1} {n2}")?;
     for asked in client.asked() {
         push_asked(&mut text, asked)?;
     }
     Ok(text)
 }
 
-fn get(alloc: Global, client: &mut Client, key: &str) -> Result<i64, RedisError> {
-    let mut cmd = command::cmd(alloc, "GET")?;
-    cmd.arg(key)?;
-    client.query(alloc, &cmd, 0, None)
-}
-
-/// The number at a key, or that of the refusal below zero.
-fn number_at(alloc: Global, client: &mut Client, key: &str) -> i64 {
-    match get(alloc, client, key) {
-        Ok(number) => number,
-        Err(e) => 0 - i64::from(e.number()),
-    }
-}
-
 /// What later calls answer: `GET a`, `GET b`, and a refresh at each node.
 fn told_later(alloc: Global, client: &mut Client) -> Result<String, RedisError> {
-    let at_a = number_at(alloc, client, "a");
-    let at_b = number_at(alloc, client, "b");
+    let at_a = number_in(get(alloc, client, "a"));
+    let at_b = number_in(get(alloc, client, "b"));
     let n1 = refreshed(alloc, client, "n1:7001")?;
     let n2 = refreshed(alloc, client, "n2:7002")?;
     Ok(format!(in alloc; "{at_a}, {at_b}, {n1}, {n2}")?)
 }
 
-/// How many reads or writes there are up to the row's call, in pieces of 1 or of more than there is.
+/// How many reads or writes of the fault's node are a phase's. In large pieces its first read takes all.
+fn count_in(phase: &Phase, fault: &Fault, is_first: bool) -> u64 {
+    if phase.is_n1 != fault.is_at_n1 {
+        0
+    } else if fault.is_write {
+        u64::from(!phase.sends.is_empty())
+    } else if fault.piece == 1 {
+        phase.gives.len() as u64
+    } else {
+        u64::from(is_first)
+    }
+}
+
+/// How many reads or writes of the fault's node there are up to the end of the row's call.
 fn count(row: &Row, fault: &Fault) -> u64 {
-    if fault.is_write || fault.piece != 1 {
-        1
-    } else if fault.is_at_n1 {
-        MAP_LENGTH
-    } else {
-        row.reply.len() as u64
+    let mut count: u64 = 0;
+    for phase in row.phases {
+        count = count.saturating_add(count_in(phase, fault, count == 0));
     }
+    count
 }
 
-/// What has to be told, and told later: the node's link is closed where something was refused, and
-/// nothing else changes. Without a map no node is known.
+/// The place of the phase that the fault is in; that behind the last where it is in none.
+fn place_of(row: &Row, fault: &Fault) -> usize {
+    let mut count: u64 = 0;
+    for (place, phase) in row.phases.iter().enumerate() {
+        count = count.saturating_add(count_in(phase, fault, count == 0));
+        if fault.number <= count {
+            return place;
+        }
+    }
+    row.phases.len()
+}
+
+/// What has to be told, and told later.
 fn wanted(row: &Row, fault: &Fault) -> (&'static str, &'static str) {
-    if fault.number > count(row, fault) {
-        (row.answered, wanted_behind(fault))
-    } else if fault.is_at_n1 {
-        ("14, 7, ", "-7, -7, 8, 0")
-    } else {
-        (row.failed, "-8, 6, 0, 8")
+    match row.phases.get(place_of(row, fault)) {
+        Some(phase) => (phase.told, phase.later),
+        None => (row.told, later_behind(row, fault)),
     }
 }
 
-/// What has to be told later where the row's call meets no fault: the next read or write of the node
-/// is refused, but that all bytes came by one read where the pieces are large.
-fn wanted_behind(fault: &Fault) -> &'static str {
-    if !fault.is_write && fault.piece != 1 {
-        "5, 6, 0, 0"
+/// What has to be told later where the row's calls meet no fault: the node's next read or write is
+/// refused, but that all its bytes came by one read where the pieces are large.
+fn later_behind(row: &Row, fault: &Fault) -> &'static str {
+    if !fault.is_write && fault.piece != 1 && count(row, fault) != 0 {
+        row.later
     } else if fault.is_at_n1 {
-        "5, -14, 8, 0"
+        row.later_without_n1
     } else {
-        "-14, 6, 0, 8"
+        row.later_without_n2
     }
 }
 
-/// What has to be sent to each node, up to the row's call.
-fn wanted_bytes(row: &Row, fault: &Fault) -> (&'static [u8], &'static [u8]) {
-    if fault.number > count(row, fault) {
-        (SLOTS, row.sent)
-    } else if fault.is_at_n1 {
-        (if fault.is_write { b"" } else { SLOTS }, b"")
-    } else {
-        (SLOTS, if fault.is_write { b"" } else { row.sent })
+/// What has to be sent to a node, up to the row's call: nothing by a write that is refused.
+fn wanted_bytes(
+    alloc: Global,
+    row: &Row,
+    fault: &Fault,
+    is_n1: bool,
+) -> Result<Vec<u8>, AllocError> {
+    let fails = place_of(row, fault);
+    let mut bytes = Vec::new(alloc);
+    for (place, phase) in row.phases.iter().enumerate() {
+        let is_sent = place < fails || place == fails && !fault.is_write;
+        if is_sent && phase.is_n1 == is_n1 {
+            bytes.extend_from_slice(phase.sends)?;
+        }
     }
+    Ok(bytes)
 }
 
 fn plays<R: Abort>(rt: &R, alloc: Global, row: &Row, fault: &Fault) -> Result<(), Fail> {
     let mut client = client(alloc, row, fault)?;
     let (first, later) = wanted(row, fault);
-    assert_eq!(rt; told(alloc, &mut client, row)?.as_str(), first);
-    let (n1, n2) = wanted_bytes(row, fault);
-    assert!(rt; has_sent(alloc, &client, "n1:7001", n1)?);
-    assert!(rt; has_sent(alloc, &client, "n2:7002", n2)?);
+    assert_eq!(rt; told(alloc, &mut client, row.call)?.as_str(), first);
+    let n1 = wanted_bytes(alloc, row, fault, true)?;
+    let n2 = wanted_bytes(alloc, row, fault, false)?;
+    assert!(rt; has_sent(alloc, &client, "n1:7001", &n1)?);
+    assert!(rt; has_sent(alloc, &client, "n2:7002", &n2)?);
     assert_eq!(rt; told_later(alloc, &mut client)?.as_str(), later);
     Ok(())
 }
@@ -269,7 +319,7 @@ fn plays_each<R: Abort>(rt: &R, alloc: Global, row: &Row, piece: usize) -> Resul
 
 #[test]
 fn each_read_and_write_is_refused_in_turn(rt: HostRuntime) -> Result<(), Fail> {
-    for which in 0..3 {
+    for which in 0..7 {
         let row = row_at(which);
         plays_each(&rt, rt.alloc(), &row, 1)?;
         plays_each(&rt, rt.alloc(), &row, 4096)?;

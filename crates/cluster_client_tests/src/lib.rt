@@ -10,8 +10,12 @@ mod failing;
 #[cfg(test)]
 mod links;
 #[cfg(test)]
+mod memory;
+#[cfg(test)]
 mod pipelines;
 #[cfg(test)]
 mod reads;
+#[cfg(test)]
+mod rows;
 #[cfg(test)]
 mod streams;

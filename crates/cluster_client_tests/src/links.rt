@@ -9,7 +9,7 @@ const HALVES: &[u8] =
     b"*2\r\n*3\r\n:0\r\n:8191\r\n*2\r\n$2\r\nn1\r\n:7001\r\n*3\r\n:8192\r\n:16383\r\n*2\r\n$2\r\nn2\r\n:7002\r\n";
 
 /// A client with a link to n1:7001 alone, which knows of both nodes.
-fn client(alloc: Global) -> Result<Client, RedisError> {
+pub(crate) fn client(alloc: Global) -> Result<Client, RedisError> {
     let mut links = Vec::new(alloc);
     add_link(alloc, &mut links, "n1:7001", HALVES)?;
     let mut client = ClusterClient::new(alloc, links, Vec::new(alloc), 1)?;

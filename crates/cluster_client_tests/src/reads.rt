@@ -9,7 +9,7 @@ use std::cell::Cell;
 use std::test::Fail;
 
 /// All slots at n1:7001 with the replicas n3:7003 and n4:7004, then a number.
-const WITH_REPLICAS: &[u8] =
+pub(crate) const WITH_REPLICAS: &[u8] =
     b"*1\r\n*5\r\n:0\r\n:16383\r\n*2\r\n$2\r\nn1\r\n:7001\r\n*2\r\n$2\r\nn3\r\n:7003\r\n*2\r\n$2\r\nn4\r\n:7004\r\n:1\r\n";
 
 /// The same map, then +OK.
@@ -23,14 +23,14 @@ const THREE_SHARDS: &[u8] =
 
 /// Answers the replica at a place, and counts how often it is asked, and told that the cluster changed.
 #[derive(Drop)]
-struct Nth {
+pub(crate) struct Nth {
     place: usize,
     asked: Cell<u64>,
     told: Cell<u64>,
 }
 
 impl Nth {
-    fn new(place: usize) -> Nth {
+    pub(crate) fn new(place: usize) -> Nth {
         Nth {
             place,
             asked: Cell::new(0),
@@ -82,7 +82,12 @@ fn read_only_names(alloc: Global) -> Result<Vec<Vec<u8>>, AllocError> {
 }
 
 /// A client of n1:7001, n3:7003 and n4:7004, for which `GET` and `MGET` only read.
-fn client(alloc: Global, n1: &[u8], n3: &[u8], n4: &[u8]) -> Result<Client, RedisError> {
+pub(crate) fn client_of_replicas(
+    alloc: Global,
+    n1: &[u8],
+    n3: &[u8],
+    n4: &[u8],
+) -> Result<Client, RedisError> {
     let links = links(alloc, n1, n3, n4)?;
     let names = read_only_names(alloc)?;
     ClusterClient::new(alloc, links, names, 1)
@@ -101,7 +106,7 @@ fn is_picked(alloc: Global, client: &Client, address: &str) -> Result<bool, Redi
 fn a_strategy_picks_the_node_of_a_read(rt: HostRuntime) -> Result<(), Fail> {
     let alloc = rt.alloc();
     let moved = b"-MOVED 15495 n1:7001\r\n";
-    let mut client = client(alloc, WITH_REPLICAS, b":3\r\n", moved)?;
+    let mut client = client_of_replicas(alloc, WITH_REPLICAS, b":3\r\n", moved)?;
     assert!(rt; is_refreshed(alloc, &mut client)?);
     assert_eq!(rt; client.picked().len(), 0);
     let second = Nth::new(1);
@@ -118,7 +123,7 @@ fn a_strategy_picks_the_node_of_a_read(rt: HostRuntime) -> Result<(), Fail> {
 #[test]
 fn without_a_strategy_a_read_goes_to_the_primary(rt: HostRuntime) -> Result<(), Fail> {
     let alloc = rt.alloc();
-    let mut client = client(alloc, WITH_REPLICAS, b"", b"")?;
+    let mut client = client_of_replicas(alloc, WITH_REPLICAS, b"", b"")?;
     assert!(rt; is_refreshed(alloc, &mut client)?);
     assert_eq!(rt; number_at_a(alloc, &mut client, None)?, 1);
     assert_eq!(rt; client.picked().len(), 0);
@@ -138,7 +143,7 @@ fn is_set(alloc: Global, client: &mut Client, strategy: &Nth) -> Result<bool, Re
 #[test]
 fn no_strategy_is_asked_for_a_write(rt: HostRuntime) -> Result<(), Fail> {
     let alloc = rt.alloc();
-    let mut client = client(alloc, ALL_AND_OKAY, b"", b"")?;
+    let mut client = client_of_replicas(alloc, ALL_AND_OKAY, b"", b"")?;
     assert!(rt; is_refreshed(alloc, &mut client)?);
     let strategy = Nth::new(0);
     assert!(rt; is_set(alloc, &mut client, &strategy)?);
@@ -151,7 +156,7 @@ fn no_strategy_is_asked_for_a_write(rt: HostRuntime) -> Result<(), Fail> {
 #[test]
 fn a_pick_without_a_link_is_told(rt: HostRuntime) -> Result<(), Fail> {
     let alloc = rt.alloc();
-    let mut client = client(alloc, WITH_REPLICAS, b"$3\r\nab", b"")?;
+    let mut client = client_of_replicas(alloc, WITH_REPLICAS, b"$3\r\nab", b"")?;
     assert!(rt; is_refreshed(alloc, &mut client)?);
     let ended = kind_of(number_at_a(alloc, &mut client, Some(&Nth::new(0))));
     assert_eq!(rt; ended, Some(ErrorKind::Io));
@@ -202,7 +207,7 @@ fn a_strategy_picks_for_each_part_with_replicas(rt: HostRuntime) -> Result<(), F
     let alloc = rt.alloc();
     let b = b"*1\r\n$1\r\n2\r\n";
     let a = b"*1\r\n$1\r\n1\r\n";
-    let mut client = client(alloc, THREE_SHARDS, b, a)?;
+    let mut client = client_of_replicas(alloc, THREE_SHARDS, b, a)?;
     assert!(rt; is_refreshed(alloc, &mut client)?);
     let strategy = Nth::new(0);
     assert!(rt; are_read_backwards(alloc, &mut client, &strategy)?);

@@ -40,7 +40,7 @@ const SENT: [&str; 11] = [
 ];
 
 /// An answer as it is shown.
-fn shown<T: Debug + Drop>(
+pub(crate) fn shown<T: Debug + Drop>(
     alloc: Global,
     outcome: Result<T, RedisError>,
 ) -> Result<String, RedisError> {
