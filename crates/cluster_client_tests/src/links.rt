@@ -8,12 +8,12 @@ use std::test::Fail;
 const HALVES: &[u8] =
     b"*2\r\n*3\r\n:0\r\n:8191\r\n*2\r\n$2\r\nn1\r\n:7001\r\n*3\r\n:8192\r\n:16383\r\n*2\r\n$2\r\nn2\r\n:7002\r\n";
 
-/// A client with a link to n1:7001 alone, which knows of both nodes.
+/// A client with a link to n1:7001 alone, and room for no other, which knows of both nodes.
 pub(crate) fn client(alloc: Global) -> Result<Client, RedisError> {
-    let mut links = Vec::new(alloc);
+    let mut links = Vec::with_capacity(alloc, 1)?;
     add_link(alloc, &mut links, "n1:7001", HALVES)?;
     let mut client = ClusterClient::new(alloc, links, Vec::new(alloc), 1)?;
-    is_refreshed(alloc, &mut client)?;
+    client.refresh(alloc, &node(alloc, "n1:7001")?)?;
     Ok(client)
 }
 

@@ -311,6 +311,7 @@ fn number_of(outcome: Result<Value, RedisError>) -> i64 {
     }
 }
 
+// Does without 1 of its requests: a list of nodes grows where room for all at once is refused.
 #[test]
 fn fan_out(rt: HostRuntime) -> Result<(), Fail> {
     let alloc = rt.alloc();
@@ -432,6 +433,7 @@ fn links_once<R: Abort + Print>(rt: &R, alloc: Global, client: &mut Client) -> R
     Ok(())
 }
 
+// Does without 1 of its requests: a list of nodes grows where room for all at once is refused.
 #[test]
 fn new_link(rt: HostRuntime) -> Result<(), Fail> {
     let alloc = rt.alloc();
