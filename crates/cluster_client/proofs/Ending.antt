@@ -53,6 +53,7 @@ memory_by causes.Io e = cc
 memory_by causes.Parse e = cc
 memory_by causes.UnexpectedReturnType e = cc
 memory_by causes.ClaimsIdsAlone e = cc
+memory_by causes.LevelsOutOfRange e = cc
 
 no_server_kind : (o : Option ServerErrorKind) (e : Refusal) → named_kind o ≡ kinds.Memory → e ≡ by_cause causes.Memory
 no_server_kind (Some kind) e k = cc

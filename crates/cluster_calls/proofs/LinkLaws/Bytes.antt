@@ -38,14 +38,14 @@ Consumes-append (Some a) None c xs ys p q = absurd p
 Consumes-append (Some a) (Some b) None xs ys p q = absurd q
 Consumes-append (Some a) (Some b) (Some c) xs ys p q = p ∙ ap (λ s. xs ++ s) q ∙ sym (append_assoc xs ys c)
 
-SpelledInOrder-append : (xs ys : List ℕ) (vs ws : List Tree) → SpelledInOrder 100 xs vs → SpelledInOrder 100 ys ws → SpelledInOrder 100 (xs ++ ys) (vs ++ ws)
-SpelledInOrder-append xs ys [] ws p q = rw p q
-SpelledInOrder-append xs ys (v ∷ vs) ws p q =
-    (p.0, p.1 ++ ys, ap (λ s. s ++ ys) p.2 ∙ append_assoc p.0 p.1 ys, p.3, SpelledInOrder-append p.1 ys vs ws p.4 q)
+SpelledInOrder-append : (limit : ℕ) (xs ys : List ℕ) (vs ws : List Tree) → SpelledInOrder limit xs vs → SpelledInOrder limit ys ws → SpelledInOrder limit (xs ++ ys) (vs ++ ws)
+SpelledInOrder-append limit xs ys [] ws p q = rw p q
+SpelledInOrder-append limit xs ys (v ∷ vs) ws p q =
+    (p.0, p.1 ++ ys, ap (λ s. s ++ ys) p.2 ∙ append_assoc p.0 p.1 ys, p.3, SpelledInOrder-append limit p.1 ys vs ws p.4 q)
 
 -- nothing was taken, and what was held is unread
-pub Came-none : (a b : Seen) → b.left ≡ a.left → b.pushes ≡ a.pushes → (b.usable ≡ true → a.held ≡ b.held) → SamePromises a b → Came a b []
-Came-none a b l p k same = record {
+pub Came-none : (a b : Seen) → b.left ≡ a.left → b.pushes ≡ a.pushes → b.limit ≡ a.limit → (b.usable ≡ true → a.held ≡ b.held) → SamePromises a b → Came a b []
+Came-none a b l p m k same = record {
   bytes = [];
   unread = a.held;
   spells = refl;
@@ -53,15 +53,16 @@ Came-none a b l p k same = record {
   kept = k;
   set_aside = p ∙ sym (append-nil a.pushes);
   promises = same;
+  same_limit = m;
 }
 
 -- a reading of a link, whatever is unread behind it
-pub came : (a b : Seen) (r r' : Reading) (values : List Tree) → Takes r r' values → r.left ≡ a.left → r.held ≡ a.held → r'.left ≡ b.left
+pub came : (a b : Seen) (r r' : Reading) (values : List Tree) → Takes r r' values → r.left ≡ a.left → r.held ≡ a.held → r.limit ≡ a.limit → b.limit ≡ a.limit → r'.left ≡ b.left
     → (b.usable ≡ true → r'.held ≡ b.held) → b.pushes ≡ a.pushes ++ filter is_push values → SamePromises a b → Came a b values
-came a b r r' values t l h l' k p same = record {
+came a b r r' values t l h m m' l' k p same = record {
   bytes = t.bytes;
   unread = r'.held;
-  spells = t.spells;
+  spells = subst (λ n. SpelledInOrder n t.bytes values) m t.spells;
   consumed =
       let c = Consumes-held r.left r'.left r.held r'.held t.got t.bytes t.consumed t.joins in
       let e1 : prepend_known r.held r.left ≡ coming a = cc in
@@ -69,19 +70,21 @@ came a b r r' values t l h l' k p same = record {
   kept = k;
   set_aside = p;
   promises = same;
+  same_limit = m';
 }
 
 pub Came-append : (a b c : Seen) (vs ws : List Tree) → b.usable ≡ true → Came a b vs → Came b c ws → Came a c (vs ++ ws)
 Came-append a b c vs ws u p q = record {
   bytes = p.bytes ++ q.bytes;
   unread = q.unread;
-  spells = SpelledInOrder-append p.bytes q.bytes vs ws p.spells q.spells;
+  spells = SpelledInOrder-append a.limit p.bytes q.bytes vs ws p.spells (subst (λ n. SpelledInOrder n q.bytes ws) p.same_limit q.spells);
   consumed =
       let first : Consumes (coming a) (coming b) p.bytes = subst (λ held. Consumes (coming a) (prepend_known held b.left) p.bytes) (p.kept u) p.consumed in
       Consumes-append (coming a) (coming b) (prepend_known q.unread c.left) p.bytes q.bytes first q.consumed;
   kept = q.kept;
   set_aside = rw filter-append (q.set_aside ∙ ap (λ x. x ++ filter is_push ws) p.set_aside ∙ append_assoc a.pushes (filter is_push vs) (filter is_push ws));
   promises = (q.promises.0 ∙ p.promises.0, q.promises.1 ∙ p.promises.1);
+  same_limit = q.same_limit ∙ p.same_limit;
 }
 
 -- ---- what was sent

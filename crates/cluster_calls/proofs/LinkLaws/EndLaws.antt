@@ -34,13 +34,14 @@ some_counted (q ∷ qs) some = omega arith
 pub answered_came : (old new : Seen) (bytes : List ℕ) (count : ℕ) (taken replies : List Tree) → AnswersFrom old new bytes count taken replies → Came old new taken
 answered_came old new bytes count taken replies a =
     let reads = a.contract.takes.reads in
-    subst (λ ts. Came old new ts) a.values (came old new _ _ reads.trees reads.reads.takes refl refl refl (λ o. refl) reads.set_aside (reads.reads.takes.promise, a.contract.sent.sound.promise))
+    subst (λ ts. Came old new ts) a.values
+    (came old new _ _ reads.trees reads.reads.takes refl refl refl reads.reads.takes.same_limit refl (λ o. refl) reads.set_aside (reads.reads.takes.promise, a.contract.sent.sound.promise))
 
 read_came : (old new : Seen) (bytes : List ℕ) (count : ℕ) (refusal : Refusal) → refusal ≢ by_cause Memory → (r : ReadFails old new bytes count refusal) → Came old new r.lacks.ends.trees
 read_came old new bytes count refusal m r =
     let shut : new.usable ≡ false = r.closed in
-    let does : Takes (at_start old) (record { left = new.left; held = r.lacks.held; counts = new.counts; allowed = r.lacks.allowed }) r.lacks.ends.trees → Came old new r.lacks.ends.trees =
-    λ t. came old new _ _ r.lacks.ends.trees t refl refl refl (λ o. absurd (false≢true (sym shut ∙ o))) r.lacks.ends.set_aside (t.promise, r.sent.sound.promise) in
+    let does : Takes (at_start old) (record { left = new.left; held = r.lacks.held; counts = new.counts; allowed = r.lacks.allowed; limit = old.limit }) r.lacks.ends.trees → Came old new r.lacks.ends.trees =
+    λ t. came old new _ _ r.lacks.ends.trees t refl refl refl r.limit refl (λ o. absurd (false≢true (sym shut ∙ o))) r.lacks.ends.set_aside (t.promise, r.sent.sound.promise) in
     elim r.lacks.ends.ends as (λ _. Came old new r.lacks.ends.trees) [
       | inl s ↦ does s.0.takes
       | inr more ↦ elim more as (λ _. Came old new r.lacks.ends.trees) [ inl s ↦ does s.0.seeks.takes | inr s ↦ does s.0.takes ]
@@ -48,7 +49,8 @@ read_came old new bytes count refusal m r =
 
 pub failed_came : (old new : Seen) (bytes : List ℕ) (count : ℕ) (taken : List Tree) (refusal : Refusal) → refusal ≢ by_cause Memory → FailsFrom old new bytes count taken refusal → Came old new taken
 failed_came old new bytes count taken refusal m (in_sending s is nothing) =
-    subst (λ ts. Came old new ts) (sym nothing) (Came-none old new s.left s.pushes (λ o. absurd (false≢true (sym s.closed ∙ o))) (ap (λ (c : Counts). c.promise) s.counts, s.sent.counted.promise))
+    subst (λ ts. Came old new ts) (sym nothing)
+    (Came-none old new s.left s.pushes s.limit (λ o. absurd (false≢true (sym s.closed ∙ o))) (ap (λ (c : Counts). c.promise) s.counts, s.sent.counted.promise))
 failed_came old new bytes count taken refusal m (in_receiving r values) = subst (λ ts. Came old new ts) values (read_came old new bytes count refusal m r)
 
 pub ends_came : (old new : Seen) (qs : List Request) (taken : List Tree) (e : Ending) → is_memory_ending e ≡ false → EndsBy old new qs taken e → Came old new taken

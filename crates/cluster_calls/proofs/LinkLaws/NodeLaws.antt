@@ -22,7 +22,7 @@ NodeMade-none s fault = record {
   bytes = [];
   sent = Appends-none s.sent;
   are = refl;
-  came = Came-none s s refl refl (λ o. refl) (refl, refl);
+  came = Came-none s s refl refl refl (λ o. refl) (refl, refl);
   kept = λ e. (refl, refl);
   failed = λ e. absurd (false≢true e);
   was_open = λ some. absurd (some refl);
@@ -84,7 +84,7 @@ NodeMade-last a b qs t f (in_sending s is nothing) = record {
       in_order = refl;
       values = refl;
       sent = Appends-none a.sent;
-      came = Came-none a a refl refl (λ o. refl) (refl, refl);
+      came = Came-none a a refl refl refl (λ o. refl) (refl, refl);
       fails = in_sending s is nothing;
       by_write = refl;
     },
@@ -110,7 +110,7 @@ NodeMade-last a b qs t f (in_receiving r values) = record {
       in_order = refl;
       values = refl;
       sent = Appends-none a.sent;
-      came = Came-none a a refl refl (λ o. refl) (refl, refl);
+      came = Came-none a a refl refl refl (λ o. refl) (refl, refl);
       fails = in_receiving r values;
       by_write = refl;
     },

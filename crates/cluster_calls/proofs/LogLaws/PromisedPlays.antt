@@ -9,13 +9,13 @@ use Rattle.resp_core.specs.Trees.{Tree}
 use Rattle.resp_core.specs.Counts.{counted}
 use Rattle.resp_core.specs.Errors.{Refusal, by_cause}
 use Rattle.resp_core.specs.declared.errors.redis_error.Cause.TheVariants.{Io, Parse, Memory}
-use Rattle.resp_core.specs.Incoming.{Takes, Awaits, SpelledInOrder}
+use Rattle.resp_core.specs.Incoming.{Reading, Takes, Awaits, SpelledInOrder}
 use Rattle.resp_core.specs.Promise.{refuses_none, MayRefuse}
 use Rattle.resp_core.specs.Standing.{BeginsFaulty, BeginsUnfinished}
 use Rattle.resp_core.proofs.GivenReads.{given_in}
 use Rattle.resp_core.proofs.Readings.{SpelledInOrder-append}
 use Rattle.resp_link.specs.Replies.{is_push, replies_of}
-use Rattle.resp_link.specs.Call.{Seen, SendFails, ReadFails, at_start, at_end}
+use Rattle.resp_link.specs.Call.{Seen, SendFails, ReadFails, at_start}
 use Rattle.cluster_routing.specs.Address.{Address, same_address}
 use Rattle.cluster_routing.specs.Lists.{concat}
 use Rattle.cluster_calls.specs.Calls.Call.{Call}
@@ -57,7 +57,14 @@ module _ (a b : Seen) (calls : List (List Request)) (taken : List Tree) (fault :
     | inr kept ↦ subst (λ p. MayRefuse p b.write_counts.writes) (l.came.promises.1 ∙ s.writes) kept.1
   ]
 
-  received : (r : ReadFails l.mid b (bytes_of l.last) (reply_count l.last) (refusal_by_fault fault)) → r.lacks.ends.trees ≡ l.later → SpellsAll s.bytes taken fault
+  -- the reading end behind what was read
+  abbrev behind : ReadFails l.mid b (bytes_of l.last) (reply_count l.last) (refusal_by_fault fault) → Reading
+  behind r = record { left = b.left; held = r.lacks.held; counts = b.counts; allowed = r.lacks.allowed; limit = l.mid.limit }
+
+  abbrev Ends : ℕ → List ℕ → Type 0
+  Ends limit rest = ((fault ≡ io) × BeginsUnfinished limit rest) ⊎ ((fault ≡ grammar) × BeginsFaulty limit rest)
+
+  received : (r : ReadFails l.mid b (bytes_of l.last) (reply_count l.last) (refusal_by_fault fault)) → r.lacks.ends.trees ≡ l.later → SpellsAll a.limit s.bytes taken fault
   received r values = elim r.lacks.ends.ends [
     | inl stops ↦ elim stops.0.cause [
       | inl refused ↦ absurd (subst (λ p. MayRefuse p b.counts.reads) (l.came.promises.0 ∙ s.reads) refused.1)
@@ -65,9 +72,9 @@ module _ (a b : Seen) (calls : List (List Request)) (taken : List Tree) (fault :
           let u = used stops.0.takes in
           let none : u.0 ≡ [] = subst IsAtEnd u.1 ended.1 in
           let rest : r.lacks.held ++ u.0 ≡ r.lacks.held = ap (λ z. r.lacks.held ++ z) none ∙ append-nil r.lacks.held in
-          spelled stops.0.takes (inl (is_io fault stops.1, subst (BeginsUnfinished 100) (sym rest) stops.0.unfinished))
+          spelled stops.0.takes (inl (is_io fault stops.1, subst (BeginsUnfinished l.mid.limit) (sym rest) stops.0.unfinished))
       | inr (inr seeks) ↦
-          let given = given_in (Awaits r.lacks.ends.trees) (at_start l.mid) (at_end b r.lacks.allowed) seeks.0.takes.got seeks.0.needed in
+          let given = given_in (Awaits l.mid.limit r.lacks.ends.trees) (at_start l.mid) (behind r) seeks.0.takes.got seeks.0.needed in
           absurd (omega (arith, given.1, given.2.0, seeks.1, (used seeks.0.takes).3, s.few))
     ]
     | inr (inl meets) ↦
@@ -77,25 +84,26 @@ module _ (a b : Seen) (calls : List (List Request)) (taken : List Tree) (fault :
     | inr (inr memory) ↦ absurd (fault_is_no_memory fault memory.1)
   ]
     where
-      used : (t : Takes (at_start l.mid) (record { left = b.left; held = r.lacks.held; counts = b.counts; allowed = r.lacks.allowed }) r.lacks.ends.trees) → (n : List ℕ) × (b.left ≡ Some n) × (s.bytes ≡ (l.came.bytes ++ t.bytes) ++ (r.lacks.held ++ n)) × (length t.got ≤ length s.bytes)
+      used : (t : Takes (at_start l.mid) (behind r) r.lacks.ends.trees) → (n : List ℕ) × (b.left ≡ Some n) × (s.bytes ≡ (l.came.bytes ++ t.bytes) ++ (r.lacks.held ++ n)) × (length t.got ≤ length s.bytes)
       used t =
           let first = subst (λ o. Consumes o (prepend_known l.came.unread l.mid.left) l.came.bytes) s.known l.came.consumed in
           used_up s.bytes l.came.unread l.mid.held l.came.bytes t.got t.bytes r.lacks.held l.mid.left b.left first (l.came.kept r.was_open) t.consumed t.joins
 
-      spelled : (t : Takes (at_start l.mid) (record { left = b.left; held = r.lacks.held; counts = b.counts; allowed = r.lacks.allowed }) r.lacks.ends.trees) → ((fault ≡ io) × BeginsUnfinished 100 (r.lacks.held ++ (used t).0)) ⊎ ((fault ≡ grammar) × BeginsFaulty 100 (r.lacks.held ++ (used t).0)) → SpellsAll s.bytes taken fault
+      spelled : (t : Takes (at_start l.mid) (behind r) r.lacks.ends.trees) → Ends l.mid.limit (r.lacks.held ++ (used t).0) → SpellsAll a.limit s.bytes taken fault
       spelled t ends = record {
         front = l.came.bytes ++ t.bytes;
         rest = r.lacks.held ++ (used t).0;
         joins = (used t).2;
-        spells = subst (SpelledInOrder 100 (l.came.bytes ++ t.bytes)) (ap (λ z. l.earlier ++ z) values ∙ sym l.values)
-            (SpelledInOrder-append 100 l.came.bytes t.bytes l.earlier r.lacks.ends.trees l.came.spells t.spells);
-        ends = ends;
+        spells = subst (SpelledInOrder a.limit (l.came.bytes ++ t.bytes)) (ap (λ z. l.earlier ++ z) values ∙ sym l.values)
+            (SpelledInOrder-append a.limit l.came.bytes t.bytes l.earlier r.lacks.ends.trees l.came.spells
+            (subst (λ k. SpelledInOrder k t.bytes r.lacks.ends.trees) l.came.same_limit t.spells));
+        ends = subst (λ k. Ends k (r.lacks.held ++ (used t).0)) l.came.same_limit ends;
       }
 
-  pub lost_all : SpellsAll s.bytes taken fault × (w ≡ false)
+  pub lost_all : SpellsAll a.limit s.bytes taken fault × (w ≡ false)
   lost_all = by l.fails l.by_write
     where
-      by : (f : FailsFrom l.mid b (bytes_of l.last) (reply_count l.last) l.later (refusal_by_fault fault)) → w ≡ is_in_sending f → SpellsAll s.bytes taken fault × (w ≡ false)
+      by : (f : FailsFrom l.mid b (bytes_of l.last) (reply_count l.last) l.later (refusal_by_fault fault)) → w ≡ is_in_sending f → SpellsAll a.limit s.bytes taken fault × (w ≡ false)
       by (in_sending f is nothing) e = absurd (no_write_failed f)
       by (in_receiving r values) e = (received r values, e)
 
@@ -135,17 +143,17 @@ module _ (a b c : Seen) (calls calls' : List (List Request)) (ts us : List Tree)
       by true true e e' =
           let p = (lost_all a b calls ts f m.write_failed s room (m.failed e).1).0 in
           let q = (lost_all a c calls' us g n.write_failed s room' (n.failed e').1).0 in
-          let same = all_same s.bytes ts us f g p q in
+          let same = all_same a.limit s.bytes ts us f g p q in
           record { queue = replies_of ts; fault = f; first = inl refl; second = inl (ap replies_of same.0); one = λ h. refl; other = λ h. sym same.1 }
       by true false e e' =
           let p = (lost_all a b calls ts f m.write_failed s room (m.failed e).1).0 in
-          let k = all_first s.bytes n.came.bytes right.0 ts us f p right.1 n.came.spells in
+          let k = all_first a.limit s.bytes n.came.bytes right.0 ts us f p right.1 n.came.spells in
           record { queue = replies_of ts; fault = f; first = inl refl; second = inr (e', (replies_of k.0, (fewer_replies us ts k.0 k.1).1)); one = λ h. refl; other = not_lost e' }
       by false true e e' =
           let q = (lost_all a c calls' us g n.write_failed s room' (n.failed e').1).0 in
-          let k = all_first s.bytes m.came.bytes left.0 us ts g q left.1 m.came.spells in
+          let k = all_first a.limit s.bytes m.came.bytes left.0 us ts g q left.1 m.came.spells in
           record { queue = replies_of us; fault = g; first = inr (e, (replies_of k.0, (fewer_replies ts us k.0 k.1).1)); second = inl refl; one = not_lost e; other = λ h. refl }
-      by false false e e' = elim (compared ts us m.came.bytes n.came.bytes left.0 right.0 m.came.spells n.came.spells (sym left.1 ∙ right.1)) [
+      by false false e e' = elim (compared a.limit ts us m.came.bytes n.came.bytes left.0 right.0 m.came.spells n.came.spells (sym left.1 ∙ right.1)) [
         | inl k ↦ record { queue = replies_of ts; fault = io; first = inl refl; second = inr (e', (replies_of k.0, (fewer_replies us ts k.0 k.1).1)); one = not_lost e; other = not_lost e' }
         | inr k ↦ record { queue = replies_of us; fault = io; first = inr (e, (replies_of (k.0 ∷ k.1), (fewer_replies ts us (k.0 ∷ k.1) k.3).1)); second = inl refl; one = not_lost e; other = not_lost e' }
       ]

@@ -17,7 +17,7 @@ unfolding reading
 no_bytes = begins_unfinished 100 [] refl
 
 -- nor some values
-no_values : (t : Tree) (ts : List Tree) → Lacks (t ∷ ts) []
+no_values : (t : Tree) (ts : List Tree) → Lacks 100 (t ∷ ts) []
 no_values t ts rest h = no_bytes.0 t (h.1.1 ++ rest) (h.1.0, h.1.3, h.2 ∙ ap (λ bs. bs ++ rest) h.1.2 ∙ append_assoc h.1.0 h.1.1 rest)
 
 -- values without a push
@@ -53,6 +53,7 @@ answers_by_one_read sent sent' out left left' got reads t ts goes comes spells s
             room = omega (arith, few);
             reads = λ below. omega arith;
             promise = refl;
+            same_limit = refl;
           };
           sound = record { refused = refl; empty = refl; kept = tt };
           needed = inr ([], got, 0, refl, (omega arith, omega arith), (some, omega (arith, few)), refl, no_values t ts);
@@ -76,6 +77,7 @@ fails_by_no_bytes sent sent' out reads goes = in_receiving
       closed = refl;
       flushed = refl;
       sent = record { written = goes; sound = record { promise = refl; refused = refl; no_room = refl; kept = tt } };
+      limit = refl;
       lacks = record {
         allowed = 4294967295;
         held = [];
@@ -84,7 +86,7 @@ fails_by_no_bytes sent sent' out reads goes = in_receiving
           trees = [];
           ends = inl (
             record {
-              takes = record { got = []; bytes = []; consumed = refl; spells = refl; joins = refl; room = omega arith; reads = λ below. omega arith; promise = refl };
+              takes = record { got = []; bytes = []; consumed = refl; spells = refl; joins = refl; room = omega arith; reads = λ below. omega arith; promise = refl; same_limit = refl };
               unfinished = no_bytes;
               cause = inr (inl (refl, refl, tt));
             },

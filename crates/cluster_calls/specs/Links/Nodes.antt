@@ -39,16 +39,17 @@ IsSentFor true calls sent =
 abbrev pub coming : Seen → Option (List ℕ)
 coming link = prepend_known link.held link.left
 
--- These values came in over a link, and the pushes among them were set aside. Behind them some bytes are unread: on a link that is
--- still open those that it holds. What its devices promise stays.
+-- These values came in over a link, no deeper than its limit, and the pushes among them were set aside. Behind them some bytes are
+-- unread: on a link that is still open those that it holds. Its limit and what its devices promise stay.
 pub record Came (old new : Seen) (taken : List Tree) : Type 0 where
   pub bytes : List ℕ
   pub unread : List ℕ
-  pub spells : SpelledInOrder 100 bytes taken
+  pub spells : SpelledInOrder old.limit bytes taken
   pub consumed : Consumes (coming old) (prepend_known unread new.left) bytes
   pub kept : new.usable ≡ true → unread ≡ new.held
   pub set_aside : new.pushes ≡ old.pushes ++ filter is_push taken
   pub promises : SamePromises old new
+  pub same_limit : new.limit ≡ old.limit
 
 -- ---- one node
 

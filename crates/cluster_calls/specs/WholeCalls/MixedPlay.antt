@@ -51,6 +51,7 @@ link sent left reads = record {
   write_counts = no_writes nothing;
   flushed = true;
   usable = true;
+  limit = 100;
 }
 
 -- the link closed by a read that gave nothing
@@ -64,6 +65,7 @@ ended_link sent reads = record {
   write_counts = no_writes nothing;
   flushed = true;
   usable = false;
+  limit = 100;
 }
 
 abbrev pub n1_0 : Seen
