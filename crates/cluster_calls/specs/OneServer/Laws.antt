@@ -64,6 +64,12 @@ is_redirect_reply (Some tree) = is_redirect_sort (sort_of tree)
 abbrev pub is_redirected : Exchange → Bool
 is_redirected x = is_redirect_reply x.reply
 
+-- the tasks that go out part by part
+abbrev pub is_in_parts : Task → Bool
+is_in_parts (one_command command number order) = true
+is_in_parts (read_of options streams) = true
+is_in_parts _ = false
+
 -- behind an answered request stands the next part's, behind any other the same again, and that one was redirected
 abbrev pub AreRepeatsRedirected : List Exchange → Type 0
 AreRepeatsRedirected [] = ⊤
@@ -72,13 +78,13 @@ AreRepeatsRedirected (x ∷ y ∷ xs) =
     MatchBool (is_answered x) ⊤ ((is_redirected x ≡ true) × (y.request.args ≡ x.request.args)) × AreRepeatsRedirected (y ∷ xs)
 
 abbrev pub OnlyRedirectsRepeat : Type 0
-OnlyRedirectsRepeat = (client : Client) (picks : List Address) (call : Call) (command : Command) (number : ℕ) (order : Option (List ℕ)) (xs : List Exchange)
-    → task_of call ≡ one_command command number order → IsLegalCall client picks call xs → AreRepeatsRedirected xs
+OnlyRedirectsRepeat = (client : Client) (picks : List Address) (call : Call) (xs : List Exchange)
+    → is_in_parts (task_of call) ≡ true → IsLegalCall client picks call xs → AreRepeatsRedirected xs
 
 -- of a command that was answered each part has one request whose reply is no redirect, in the order of sending
 abbrev pub EachPartIsAnsweredOnce : Type 0
-EachPartIsAnsweredOnce = (client : Client) (picks : List Address) (faults : Address → LinkFault) (call : Call) (command : Command) (number : ℕ) (order : Option (List ℕ)) (ds : List Dispatch) (xs : List Exchange)
-    → task_of call ≡ one_command command number order → plan client picks call ≡ Ok ds → IsLegalCall client picks call xs → sent_refusal client faults (task_of call) xs ≡ None
+EachPartIsAnsweredOnce = (client : Client) (picks : List Address) (faults : Address → LinkFault) (call : Call) (ds : List Dispatch) (xs : List Exchange)
+    → is_in_parts (task_of call) ≡ true → plan client picks call ≡ Ok ds → IsLegalCall client picks call xs → sent_refusal client faults (task_of call) xs ≡ None
     → map (λ (x : Exchange). x.request.args) (filter (λ x. not (is_redirected x)) xs) ≡ map (λ (d : Dispatch). d.args) ds
 
 -- a command with a gap routes as the arguments that it is sent as, wherever it routes to a slot
