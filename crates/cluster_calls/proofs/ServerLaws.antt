@@ -16,6 +16,7 @@ pub mod Pipes
 pub mod ReadParts
 pub mod ReadRows
 pub mod ReadCall
+pub mod ReadJoin
 pub mod Turns
 pub mod InPlace
 pub mod Runs

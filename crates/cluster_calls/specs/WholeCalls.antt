@@ -2,6 +2,7 @@
 pub mod Base
 pub mod Splits
 pub mod SlotParts
+pub mod Reads
 pub mod RedirectedCalls
 pub mod Pipelines
 pub mod SeveralNodes

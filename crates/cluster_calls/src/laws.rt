@@ -5,7 +5,7 @@ ghost use Rattle.cluster_calls.specs.OneServer.AmongOthers.{AnswersAmongOthers, 
 ghost use Rattle.cluster_calls.specs.OneServer.Bounds.{CallsAreBounded, PlaysAreBounded};
 ghost use Rattle.cluster_calls.specs.OneServer.ClosedLinks.{ClosedLinksChangeNothing};
 ghost use Rattle.cluster_calls.specs.OneServer.Headline.{AnswersAndKeyspace, Refusals};
-ghost use Rattle.cluster_calls.specs.OneServer.Laws.{HistoriesAreBySlot, EachPartIsAnsweredOnce, GapsNameNoKey, NodesKeepHistories, NodesOnceAscending, OneServerIsDetermined, OnlyRedirectsRepeat, PartsKeepHistories, RequestsAreBounded, RunsAgree};
+ghost use Rattle.cluster_calls.specs.OneServer.Laws.{HistoriesAreBySlot, EachPartIsAnsweredOnce, GapsNameNoKey, JoinIsTheWhole, NodesKeepHistories, NodesOnceAscending, OneServerIsDetermined, OnlyRedirectsRepeat, PartsKeepHistories, RequestsAreBounded, RunsAgree};
 ghost use Rattle.cluster_calls.specs.OneServer.OneCall.{OneCallAmongOthers, OneCallAsOnOneServer, RepliesDetermineLogs};
 ghost use Rattle.cluster_calls.specs.OneServer.Played.{PlayedAsOnOneServer};
 ghost use Rattle.cluster_calls.specs.OneServer.PlayedAmongOthers.{PlayedAmongOthers};
@@ -209,6 +209,11 @@ pub fn parts_are_routed()
 /// The command of a part routes to the part's slot, with the role of the whole command.
 pub fn subs_route_to_their_slot()
     ensures { SubsRouteToTheirSlot }
+{}
+
+/// The rows of a read in parts, joined, are those of the read of all its streams.
+pub fn join_is_the_whole()
+    ensures { JoinIsTheWhole }
 {}
 
 /// Two plays of the same calls from one client over devices that promise to refuse none show the same,

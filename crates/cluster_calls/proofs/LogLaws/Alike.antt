@@ -1,5 +1,5 @@
 -- Calls whose replies are respelled: they send the same and answer the same.
-use Rattle.std.proofs.Common.{◌≡◌, ℕ, zero, suc, ◌-◌, ◌==◌, ◌||◌, Bool, true, false, cond, List, [], ◌∷◌, map, filter, length, take, drop, Option, Some, None, Result, Ok, Err, MatchResult, refl, sym, ap, ◌∙◌, subst}
+use Rattle.std.proofs.Common.{◌≡◌, ℕ, zero, suc, ◌-◌, ◌==◌, ◌||◌, Bool, true, false, cond, List, [], ◌∷◌, map, filter, length, take, drop, Option, Some, None, option_map, Result, Ok, Err, MatchResult, refl, sym, ap, ◌∙◌, subst}
 use Rattle.std.specs.Prelude.{MatchBool, option_and_then, unwrap_or, is_none}
 use Rattle.std.specs.List.{list_any}
 use Rattle.resp_core.specs.Trees.{Tree, nil, int, bulk, array, simple, okay, attribute, set, double, boolean, verbatim, big_number, push, server_error, ErrorText}
@@ -13,15 +13,20 @@ use Rattle.cluster_routing.specs.Split.{Split}
 use Rattle.stream_commands.specs.Respelled.{Respellable, Respelled}
 use Rattle.stream_commands.specs.RecordLaws.{own_error}
 use Rattle.stream_commands.proofs.RespelledErrors.{respelled_fail_alike}
+use Rattle.cluster_calls.specs.Links.Request.{Request}
 use Rattle.cluster_calls.specs.Links.Reply.{Sort, error_sort, inner_sort, sort_of}
 use Rattle.cluster_calls.specs.Links.Log.{Exchange, requests, is_data, is_data_reply, is_answered, is_unanswered, last_of, behind_answers}
-use Rattle.cluster_calls.specs.Calls.Call.{Call}
-use Rattle.cluster_calls.specs.Calls.Task.{Task, slot_map_of, one_command, pipeline_of, several_nodes, read_of, task_of}
+use Rattle.cluster_calls.specs.Calls.Call.{Call, Stream}
+use Rattle.cluster_calls.specs.Calls.Task.{Task, slot_map_of, one_command, pipeline_of, several_nodes, read_of, task_of, stream_keys, are_of_one_slot}
 use Rattle.cluster_calls.specs.Calls.Plan.{Client, Dispatch, plan}
 use Rattle.cluster_calls.specs.Calls.Redirects.{Hop, Next, Stays, Lost, Goes, next_of, sort_next, MatchNext, FollowsRedirects}
 use Rattle.cluster_calls.specs.Calls.Legal.{first_hop, PartByPart, NodeByNode, node_groups, AreMade, IsLegalCall}
 use Rattle.cluster_calls.specs.Links.Faults.{LinkFault}
 use Rattle.cluster_calls.specs.Calls.Replies.{exchange_slot, reply_or_nil, part_replies, reply_by_split}
+use Rattle.stream_commands.specs.Join.{all_rows, join}
+use Rattle.stream_commands.specs.ReadReply.{Row, read_reply}
+use Rattle.stream_commands.specs.Settings.{ReadSettings}
+use Rattle.cluster_calls.specs.Calls.Reads.{key_places, read_slot, readings, read_rows}
 use Rattle.cluster_calls.specs.Calls.Refusals.{stop_refusal, last_refusal, part_refusal}
 use Rattle.cluster_calls.specs.OneServer.Respelling.{SaysTheSame}
 
@@ -269,3 +274,38 @@ module _ (how : Option Respellable) where
     pub reply_alike : (o : Option Split) → o ≡ None → (xs ys : List Exchange) → Pairwise A xs ys → option_and_then reading (reply_by_split o (part_replies xs)) ≡ option_and_then reading (reply_by_split o (part_replies ys))
     reply_alike o e xs ys h = subst (λ z. option_and_then reading (reply_by_split z (part_replies xs)) ≡ option_and_then reading (reply_by_split z (part_replies ys))) (sym e)
         (one_alike (filter is_answered xs) (filter is_answered ys) (filter_alike A is_answered answered_alike xs ys h))
+
+  -- ---- the record of a read in parts
+
+  module _ (alike : (t u : Tree) → SaysTheSame how t u → read_reply t ≡ read_reply u) where
+    readings_alike : (xs ys : List Exchange) → Pairwise A xs ys → readings xs ≡ readings ys
+    readings_alike [] [] h = refl
+    readings_alike [] (y ∷ ys) h = absurd h
+    readings_alike (x ∷ xs) [] h = absurd h
+    readings_alike (x ∷ xs) (y ∷ ys) h =
+        ap (option_and_then (λ r. option_map (λ rs. r ∷ rs) (readings xs))) (by h.0.reply)
+        ∙ ap (λ o. option_and_then (λ r. option_map (λ rs. r ∷ rs) o) (read_reply (reply_or_nil y))) (readings_alike xs ys h.1)
+      where
+        by : {r s : Option Tree} → AlikeReply how r s → read_reply (unwrap_or r nil) ≡ read_reply (unwrap_or s nil)
+        by (replied {t = t} {u = u} h) = alike t u h
+
+    places_alike : (options : ReadSettings) (streams : List Stream) (xs ys : List Exchange) → Pairwise A xs ys
+        → map (λ (x : Exchange). key_places (read_slot options x.request.args) streams) xs ≡ map (λ (x : Exchange). key_places (read_slot options x.request.args) streams) ys
+    places_alike options streams [] [] h = refl
+    places_alike options streams [] (y ∷ ys) h = absurd h
+    places_alike options streams (x ∷ xs) [] h = absurd h
+    places_alike options streams (x ∷ xs) (y ∷ ys) h =
+        ap (λ (q : Request). key_places (read_slot options q.args) streams ∷ map (λ (x : Exchange). key_places (read_slot options x.request.args) streams) xs) h.0.request
+        ∙ ap (λ l. key_places (read_slot options y.request.args) streams ∷ l) (places_alike options streams xs ys h.1)
+
+    pub rows_alike : (options : ReadSettings) (streams : List Stream) (xs ys : List Exchange) → Pairwise A xs ys → read_rows options streams (filter is_answered xs) ≡ read_rows options streams (filter is_answered ys)
+    rows_alike options streams xs ys h =
+        let g = filter_alike A is_answered answered_alike xs ys h in
+        let a = readings_alike (filter is_answered xs) (filter is_answered ys) g in
+        let p = places_alike options streams (filter is_answered xs) (filter is_answered ys) g in
+        by (are_of_one_slot (stream_keys streams)) (ap (option_map all_rows) a) (ap (option_and_then (join (stream_keys streams) (map (λ (x : Exchange). key_places (read_slot options x.request.args) streams) (filter is_answered xs)))) a
+        ∙ ap (λ ps. option_and_then (join (stream_keys streams) ps) (readings (filter is_answered ys))) p)
+      where
+        by : (b : Bool) {one one' several several' : Option (List Row)} → one ≡ one' → several ≡ several' → cond b one several ≡ cond b one' several'
+        by true e f = e
+        by false e f = f

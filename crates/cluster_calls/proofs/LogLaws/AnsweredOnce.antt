@@ -13,8 +13,9 @@ use Rattle.cluster_calls.specs.Calls.Redirects.{Hop, Next, Stays, Lost, Goes, ne
 use Rattle.cluster_calls.specs.Calls.Legal.{first_hop, PartByPart}
 use Rattle.cluster_calls.specs.Links.Faults.{LinkFault}
 use Rattle.cluster_calls.specs.Links.Log.{behind_answers}
-use Rattle.cluster_calls.specs.Calls.Refusals.{part_refusal}
-use Rattle.cluster_calls.specs.OneServer.Laws.{is_redirect_sort, is_redirect_reply, is_redirected}
+use Rattle.cluster_calls.specs.Calls.Refusals.{part_refusal, sent_refusal}
+use Rattle.cluster_calls.specs.Calls.Task.{Task, slot_map_of, one_command, pipeline_of, several_nodes, read_of}
+use Rattle.cluster_calls.specs.OneServer.Laws.{is_in_parts, is_redirect_sort, is_redirect_reply, is_redirected}
 use Rattle.cluster_calls.proofs.LogLaws.Repeats.{redirect_reply}
 use Rattle.cluster_calls.proofs.ServerLaws.Counted.{parts_done}
 use Rattle.cluster_calls.proofs.ServerLaws.Grouping.{filter-same}
@@ -81,6 +82,14 @@ args_from [] [] h = refl
 args_from [] (x ∷ xs) h = absurd h
 args_from (d ∷ ds) [] h = absurd h
 args_from (d ∷ ds) (x ∷ xs) h = ap (λ a. a ∷ map (λ (y : Exchange). y.request.args) xs) h.0 ∙ ap (λ l. d.args ∷ l) (args_from ds xs h.1)
+
+-- why a task in parts is refused
+pub refused_in_parts : (client : Client) (faults : Address → LinkFault) (task : Task) (xs : List Exchange) → is_in_parts task ≡ true → sent_refusal client faults task xs ≡ part_refusal client faults (behind_answers xs)
+refused_in_parts client faults (one_command command number order) xs p = refl
+refused_in_parts client faults (read_of options streams) xs p = refl
+refused_in_parts client faults (slot_map_of node) xs p = absurd (false≢true p)
+refused_in_parts client faults (pipeline_of entries) xs p = absurd (false≢true p)
+refused_in_parts client faults (several_nodes command) xs p = absurd (false≢true p)
 
 pub answered_once : (client : Client) (faults : Address → LinkFault) (ds : List Dispatch) (xs : List Exchange) → PartByPart client ds xs → part_refusal client faults (behind_answers xs) ≡ None
     → map (λ (x : Exchange). x.request.args) (filter (λ x. not (is_redirected x)) xs) ≡ map (λ (d : Dispatch). d.args) ds

@@ -1,19 +1,19 @@
 -- A request is sent again only where it was redirected.
 use Rattle.std.proofs.Common.{◌≡◌, ℕ, ◌-◌, Bool, true, false, cond, ◌==◌, List, [], ◌∷◌, Option, Some, None, Result, Ok, Err, refl, sym, ap, ◌∙◌, subst, MatchResult}
 use Rattle.std.specs.Prelude.{MatchBool, ⊤}
+use Rattle.std.proofs.lemmas.Bool.{false≢true}
 use Rattle.resp_core.specs.Trees.{Tree}
 use Rattle.resp_core.specs.Errors.{Refusal}
-use Rattle.resp_args.specs.Command.{Command}
 use Rattle.cluster_routing.specs.Address.{Address}
 use Rattle.cluster_calls.specs.Links.Request.{Request}
 use Rattle.cluster_calls.specs.Links.Reply.{Sort, Moved, Ask, Failed, Data, sort_of}
 use Rattle.cluster_calls.specs.Links.Log.{Exchange, is_answered}
 use Rattle.cluster_calls.specs.Calls.Call.{Call}
-use Rattle.cluster_calls.specs.Calls.Task.{one_command, task_of}
+use Rattle.cluster_calls.specs.Calls.Task.{Task, slot_map_of, one_command, pipeline_of, several_nodes, read_of, task_of}
 use Rattle.cluster_calls.specs.Calls.Plan.{Client, Dispatch, plan}
 use Rattle.cluster_calls.specs.Calls.Redirects.{Hop, Next, Stays, Lost, Goes, next_of, reply_next, sort_next, MatchNext, FollowsRedirects}
 use Rattle.cluster_calls.specs.Calls.Legal.{first_hop, PartByPart, AreMade, IsLegalCall}
-use Rattle.cluster_calls.specs.OneServer.Laws.{is_redirect_sort, is_redirect_reply, is_redirected, AreRepeatsRedirected}
+use Rattle.cluster_calls.specs.OneServer.Laws.{is_in_parts, is_redirect_sort, is_redirect_reply, is_redirected, AreRepeatsRedirected}
 
 pub redirect_reply : (links : List Address) (budget : ℕ) (r : Option Tree) (hop : Hop) → next_of links budget r ≡ Goes hop → is_redirect_reply r ≡ true
 redirect_reply links budget r hop e = by (budget == 0) e
@@ -68,10 +68,17 @@ parts_repeat client (d ∷ ds) xs h =
     by last behind true e g ih = answered last behind e (ih g)
     by last behind false e g ih = subst (λ q. AreRepeatsRedirected (last ∷ q)) (sym g) tt
 
-pub legal_repeats : (client : Client) (picks : List Address) (call : Call) (command : Command) (number : ℕ) (order : Option (List ℕ)) (xs : List Exchange)
-    → task_of call ≡ one_command command number order → IsLegalCall client picks call xs → AreRepeatsRedirected xs
-legal_repeats client picks call command number order xs t legal = by (plan client picks call) legal
+pub made_in_parts : (client : Client) (task : Task) (ds : List Dispatch) (xs : List Exchange) → is_in_parts task ≡ true → AreMade client task ds xs → PartByPart client ds xs
+made_in_parts client (one_command command number order) ds xs p m = m
+made_in_parts client (read_of options streams) ds xs p m = m
+made_in_parts client (slot_map_of node) ds xs p m = absurd (false≢true p)
+made_in_parts client (pipeline_of entries) ds xs p m = absurd (false≢true p)
+made_in_parts client (several_nodes command) ds xs p m = absurd (false≢true p)
+
+pub legal_repeats : (client : Client) (picks : List Address) (call : Call) (xs : List Exchange)
+    → is_in_parts (task_of call) ≡ true → IsLegalCall client picks call xs → AreRepeatsRedirected xs
+legal_repeats client picks call xs p legal = by (plan client picks call) legal
   where
     by : (o : Result (List Dispatch) Refusal) → MatchResult o (λ ds. AreMade client (task_of call) ds xs) (λ refusal. xs ≡ []) → AreRepeatsRedirected xs
-    by (Ok ds) l = parts_repeat client ds xs (subst (λ q. AreMade client q ds xs) t l)
+    by (Ok ds) l = parts_repeat client ds xs (made_in_parts client (task_of call) ds xs p l)
     by (Err r) l = subst AreRepeatsRedirected (sym l) tt

@@ -19,7 +19,8 @@ use Rattle.stream_commands.specs.ReadReply.{read_reply}
 use Rattle.stream_commands.proofs.Respellings.{respelled_read_alike}
 use Rattle.cluster_calls.specs.Links.Request.{Request, requests_to}
 use Rattle.cluster_calls.specs.Links.Log.{Exchange, exchanges, left_after, left_after_all, reply_at, is_unanswered, last_of, has_lost}
-use Rattle.cluster_calls.specs.Calls.Call.{Xadd, Xtrim, Xread, Xrange, Xclaim, Xautoclaim, Xpending, XinfoStream, XinfoGroups, XinfoConsumers, XdelEx, Call, Refresh, Query, Ordered, Pipeline, FanOut, OnStreams}
+use Rattle.stream_commands.specs.Settings.{ReadSettings}
+use Rattle.cluster_calls.specs.Calls.Call.{Stream, Xadd, Xtrim, Xread, Xrange, Xclaim, Xautoclaim, Xpending, XinfoStream, XinfoGroups, XinfoConsumers, XdelEx, Call, Refresh, Query, Ordered, Pipeline, FanOut, OnStreams}
 use Rattle.stream_commands.specs.Commands.{plain_command}
 use Rattle.cluster_calls.specs.Calls.Task.{Task, slot_map_of, one_command, pipeline_of, several_nodes, read_of, task_of, sentence}
 use Rattle.cluster_calls.specs.Calls.Parts.{result_then}
@@ -32,7 +33,7 @@ use Rattle.cluster_calls.specs.Calls.Answer.{Answer, Read, Range, Claim, answer_
 use Rattle.cluster_calls.specs.Calls.After.{map_after, links_after, client_after}
 use Rattle.cluster_calls.specs.OneServer.Headline.{PlayedCall, with_replies_from, IsPlayedFrom}
 use Rattle.cluster_calls.specs.OneServer.Respelling.{respelling, request_respellings, respellings, SayTheSame}
-use Rattle.cluster_calls.proofs.LogLaws.Alike.{AlikeReply, replied, AlikeExchange, any_alike, both_replied, legal_alike, part_refusal_alike, reply_alike}
+use Rattle.cluster_calls.proofs.LogLaws.Alike.{AlikeReply, replied, AlikeExchange, any_alike, both_replied, legal_alike, part_refusal_alike, reply_alike, rows_alike}
 use Rattle.cluster_calls.proofs.LinkLaws.Addresses.{same_refl}
 use Rattle.cluster_calls.proofs.LogLaws.SameLogs.{replies_determine_logs}
 
@@ -144,6 +145,14 @@ exact_answers client picks faults faults' call xs ys h =
     told_same (read_of options streams) = refl
 
 -- ---- the calls whose replies may be respelled
+
+-- a read in parts
+read_answers_alike : (client : Client) (picks : List Address) (faults faults' : Address → LinkFault) (call : Call) (options : ReadSettings) (streams : List Stream) → task_of call ≡ read_of options streams
+    → (xs ys : List Exchange) → Pairwise (AlikeExchange (Some read)) xs ys → answer_of client picks faults call xs ≡ answer_of client picks faults' call ys
+read_answers_alike client picks faults faults' call options streams is_read xs ys h =
+    by_both client picks faults faults' call xs ys
+    (subst (λ t. sent_refusal client faults t xs ≡ sent_refusal client faults' t ys) (sym is_read) (part_refusal_alike (Some read) client faults faults' xs ys h))
+    (subst (λ t. task_answer faults call t xs ≡ task_answer faults' call t ys) (sym is_read) (ap (option_map Read) (rows_alike (Some read) respelled_read_alike.0 options streams xs ys h)))
 
 answers_alike : (client : Client) (picks : List Address) (faults faults' : Address → LinkFault) (call : Call) (xs ys : List Exchange) → Pairwise (AlikeExchange (respelling call)) xs ys → answer_of client picks faults call xs ≡ answer_of client picks faults' call ys
 answers_alike client picks faults faults' (Refresh node) xs ys h = exact_answers client picks faults faults' (Refresh node) xs ys h

@@ -18,7 +18,7 @@ use Rattle.cluster_calls.specs.Calls.Call.{Stream, Call}
 use Rattle.cluster_calls.specs.Calls.Legal.{IsLegalCall, AreMade, PartByPart}
 use Rattle.cluster_calls.specs.Calls.Parts.{result_then}
 use Rattle.cluster_calls.specs.Calls.Plan.{Client, Dispatch, plan}
-use Rattle.cluster_calls.specs.Calls.Reads.{stream_slots, key_places, read_slot, readings, joined, read_rows}
+use Rattle.cluster_calls.specs.Calls.Reads.{stream_slots, streams_at, key_places, read_slot, readings, joined, read_rows}
 use Rattle.cluster_calls.specs.Calls.Refusals.{part_refusal, sent_refusal}
 use Rattle.cluster_calls.specs.Calls.Task.{Task, read_of, task_of, stream_keys, are_of_one_slot}
 use Rattle.cluster_calls.specs.Links.Faults.{LinkFault}
@@ -32,8 +32,9 @@ use Rattle.cluster_calls.proofs.LogLaws.Plans.{all-weaker}
 use Rattle.cluster_calls.proofs.ServerLaws.Calls.{CallServed}
 use Rattle.cluster_calls.proofs.ServerLaws.Counted.{counted_steps, parts_begun, AllDone, parts_done}
 use Rattle.cluster_calls.proofs.ServerLaws.Distinct.{firsts_distinct}
+use Rattle.cluster_calls.proofs.ServerLaws.Grouping.{all-append}
 use Rattle.cluster_calls.proofs.ServerLaws.PartCall.{filter_all}
-use Rattle.cluster_calls.proofs.ServerLaws.Pieces.{SamePieces, HonestIn, ServedIn}
+use Rattle.cluster_calls.proofs.ServerLaws.Pieces.{SamePieces, AccountsAs, HonestIn, ServedIn, same_on_slot}
 use Rattle.cluster_calls.proofs.ServerLaws.ReadParts.{slot_in, slot_named, read_operation, plan_reads, streams_whole, IsReadDone, read_groups, slots_sent, ReadAgain, read_again, one_read, kept_read}
 use Rattle.cluster_calls.proofs.ServerLaws.ReadRows.{join_is, rows_told_by, rows_in_order, all_by_slot}
 
@@ -64,6 +65,9 @@ one_slot ss (k ∷ []) l h = (k, all-weaker _ _ (λ (s : Stream) e. eqb-true (ha
     by false e = e
 one_slot ss (k ∷ k2 ∷ ks) l h = let g = ltb-true (length (k ∷ k2 ∷ ks)) 2 l in absurd (omega (arith, g))
 
+slot_of_all : (ss : List Stream) (options : ReadSettings) → are_of_one_slot (stream_keys ss) ≡ true → (k : ℕ) × AllByRecursion (λ (s : Stream). hash_slot s.key ≡ k) ss
+slot_of_all ss options alone = one_slot ss (stream_slots ss) (ap (λ q. nat_lt (length (firsts nat_eq q)) 2) (sym (slots_twice ss)) ∙ alone) (streams_whole options ss)
+
 slots_of_steps : (options : ReadSettings) (k : ℕ) (ss : List Stream) (st : List Step) → AllByRecursion (λ (s : Stream). hash_slot s.key ≡ k) ss → Pairwise (DoesRead options) ss st → AllByRecursion (λ (x : Step). x.slot ≡ k) st
 slots_of_steps options k [] [] a h = tt
 slots_of_steps options k [] (x ∷ st) a h = absurd h
@@ -78,6 +82,24 @@ same_steps : (k : ℕ) (xs ys : List Step) → ((s : ℕ) → on_slot s xs ≡ o
 same_steps k xs ys same h =
     let other = all_by_slot (λ (x : Step). x.slot ≡ k) ys (λ s. subst (AllByRecursion (λ (x : Step). x.slot ≡ k)) (same s) (all-filter (λ (x : Step). x.slot ≡ k) (λ (x : Step). s == x.slot) xs h)) in
     sym (all_on_slot k xs h) ∙ same k ∙ all_on_slot k ys other
+
+-- where all streams have one slot so have all steps
+pub read_on_one : (meaning : Meaning) (done : ℕ → Bool) (options : ReadSettings) (streams : List Stream) → are_of_one_slot (stream_keys streams) ≡ true → (xs : List Exchange) (own : List (List Step))
+    → Pairwise (AccountsAs meaning done (task_operation (read_of options streams))) xs own → (k : ℕ) × AllByRecursion (λ (x : Step). x.slot ≡ k) (concat own)
+read_on_one meaning done options streams alone xs own h =
+    let w = slot_of_all streams options alone in
+    let c = counted_steps meaning done (task_operation (read_of options streams)) xs own h in
+    let here = all_here w.0 w.1 (filter (is_counted done) xs) c.0 c.1 in
+    (w.0, subst (AllByRecursion (λ (x : Step). x.slot ≡ w.0)) (same_steps w.0 (concat c.0) (concat own) (same_on_slot c.0 own c.2) here) here)
+  where
+    all_here : (k : ℕ) → AllByRecursion (λ (s : Stream). hash_slot s.key ≡ k) streams → (xs : List Exchange) (sts : List (List Step)) → Pairwise (IsReadDone options streams meaning) xs sts → AllByRecursion (λ (x : Step). x.slot ≡ k) (concat sts)
+    all_here k a [] [] h = tt
+    all_here k a [] (st ∷ sts) h = absurd h
+    all_here k a (x ∷ xs) [] h = absurd h
+    all_here k a (x ∷ xs) (st ∷ sts) h =
+        let slot = read_slot options x.request.args in
+        all-append (λ (y : Step). y.slot ≡ k) st (concat sts)
+        (slots_of_steps options k (streams_at slot streams) st (all-filter (λ (s : Stream). hash_slot s.key ≡ k) (λ (s : Stream). slot == hash_slot s.key) streams a) h.0.done.0) (all_here k a xs sts h.1)
 
 -- ---- the call
 
@@ -138,7 +160,7 @@ module _ (client : Client) (faults : Address → LinkFault) (meaning : Meaning) 
 
       alone : are_of_one_slot (stream_keys streams) ≡ true → (replies : List (List Row)) → readings (filter is_answered xs) ≡ Some replies → rows_of_steps whole_again.steps ≡ Some (all_rows replies)
       alone l replies e =
-          let w = one_slot streams (stream_slots streams) (ap (λ q. nat_lt (length (firsts nat_eq q)) 2) (sym (slots_twice streams)) ∙ l) (streams_whole options streams) in
+          let w = slot_of_all streams options l in
           ap rows_of_steps (same_steps w.0 whole_again.steps (concat steps.0) whole_again.same (slots_of_steps options w.0 streams whole_again.steps w.1 whole_again.does))
           ∙ parts_told replies e
 

@@ -26,32 +26,32 @@ use Rattle.cluster_calls.proofs.ServerLaws.ReadParts.{IsReadDone}
 -- ---- steps whose replies have their shape
 
 -- the step tells rows whose keys have its slot
-record Fits (x : Step) : Type 0 where
-  rows : List Row
-  told : x.response ≡ Rows (Some rows)
-  slots : AllByRecursion (λ (r : Row). hash_slot r.key ≡ x.slot) rows
+pub record Fits (x : Step) : Type 0 where
+  pub rows : List Row
+  pub told : x.response ≡ Rows (Some rows)
+  pub slots : AllByRecursion (λ (r : Row). hash_slot r.key ≡ x.slot) rows
 
 -- the step reads some key
-record Named (x : Step) : Type 0 where
-  key : List ℕ
-  slot : x.slot ≡ hash_slot key
-  response : IsRowOf key x.response
+pub record Named (x : Step) : Type 0 where
+  pub key : List ℕ
+  pub slot : x.slot ≡ hash_slot key
+  pub response : IsRowOf key x.response
 
-abbrev told_rows : Response → List Row
+abbrev pub told_rows : Response → List Row
 told_rows (Rows (Some rows)) = rows
 told_rows _ = []
 
-abbrev all_told : List Step → List Row
+abbrev pub all_told : List Step → List Row
 all_told [] = []
 all_told (x ∷ xs) = told_rows x.response ++ all_told xs
 
-rows_are : (xs : List Step) → AllByRecursion Fits xs → rows_of_steps xs ≡ Some (all_told xs)
+pub rows_are : (xs : List Step) → AllByRecursion Fits xs → rows_of_steps xs ≡ Some (all_told xs)
 rows_are [] h = refl
 rows_are (x ∷ xs) h =
     ap (λ t. more_rows (rows_told t) (rows_of_steps xs)) h.0.told ∙ ap (λ o. more_rows (Some h.0.rows) o) (rows_are xs h.1)
     ∙ ap (λ t. Some (told_rows t ++ all_told xs)) (sym h.0.told)
 
-fits_from : (xs : List Step) → AllByRecursion Named xs → (rows : List Row) → rows_of_steps xs ≡ Some rows → AllByRecursion Fits xs
+pub fits_from : (xs : List Step) → AllByRecursion Named xs → (rows : List Row) → rows_of_steps xs ≡ Some rows → AllByRecursion Fits xs
 fits_from [] n rows e = tt
 fits_from (x ∷ xs) n rows e = by x.response refl n.0.response (rows_of_steps xs) refl e (λ rest f. fits_from xs n.1 rest f)
   where
@@ -63,7 +63,7 @@ fits_from (x ∷ xs) n rows e = by x.response refl n.0.response (rows_of_steps x
     by (Rows (Some (r ∷ []))) t named (Some rest) f e ih = (record { rows = r ∷ []; told = t; slots = (ap hash_slot named ∙ sym n.0.slot, tt) }, ih rest f)
     by (Rows (Some (r ∷ r2 ∷ rs))) t named o f e ih = absurd named
 
-names : (options : ReadSettings) (ss : List Stream) (st : List Step) → Pairwise (DoesRead options) ss st → AllByRecursion Named st
+pub names : (options : ReadSettings) (ss : List Stream) (st : List Step) → Pairwise (DoesRead options) ss st → AllByRecursion Named st
 names options [] [] h = tt
 names options [] (x ∷ st) h = absurd h
 names options (s ∷ ss) [] h = absurd h
@@ -90,11 +90,11 @@ all_by_slot P (x ∷ xs) h = (
 
 -- ---- the rows of one key
 
-no_rows_of : (key : List ℕ) (rows : List Row) → AllByRecursion (λ (r : Row). bytes_eq key r.key ≡ false) rows → filter (λ (r : Row). bytes_eq key r.key) rows ≡ []
+pub no_rows_of : (key : List ℕ) (rows : List Row) → AllByRecursion (λ (r : Row). bytes_eq key r.key ≡ false) rows → filter (λ (r : Row). bytes_eq key r.key) rows ≡ []
 no_rows_of key [] h = refl
 no_rows_of key (r ∷ rows) h = ap (λ b. cond b (r ∷ filter (λ (q : Row). bytes_eq key q.key) rows) (filter (λ (q : Row). bytes_eq key q.key) rows)) h.0 ∙ no_rows_of key rows h.1
 
-other_slot : (key : List ℕ) (slot : ℕ) (rows : List Row) → hash_slot key == slot ≡ false → AllByRecursion (λ (r : Row). hash_slot r.key ≡ slot) rows → AllByRecursion (λ (r : Row). bytes_eq key r.key ≡ false) rows
+pub other_slot : (key : List ℕ) (slot : ℕ) (rows : List Row) → hash_slot key == slot ≡ false → AllByRecursion (λ (r : Row). hash_slot r.key ≡ slot) rows → AllByRecursion (λ (r : Row). bytes_eq key r.key ≡ false) rows
 other_slot key slot [] n h = tt
 other_slot key slot (r ∷ rows) n h = (by (bytes_eq key r.key) refl, other_slot key slot rows n h.1)
   where
@@ -102,7 +102,7 @@ other_slot key slot (r ∷ rows) n h = (by (bytes_eq key r.key) refl, other_slot
     by true e = absurd (false≢true (sym n ∙ eq-eqb (hash_slot key) slot (ap hash_slot ((bytes_eq-Decides key r.key).0 e) ∙ h.0)))
     by false e = refl
 
-rows_on_slot : (key : List ℕ) (xs : List Step) → AllByRecursion Fits xs → filter (λ (r : Row). bytes_eq key r.key) (all_told xs) ≡ filter (λ (r : Row). bytes_eq key r.key) (all_told (on_slot (hash_slot key) xs))
+pub rows_on_slot : (key : List ℕ) (xs : List Step) → AllByRecursion Fits xs → filter (λ (r : Row). bytes_eq key r.key) (all_told xs) ≡ filter (λ (r : Row). bytes_eq key r.key) (all_told (on_slot (hash_slot key) xs))
 rows_on_slot key [] h = refl
 rows_on_slot key (x ∷ xs) h =
     filter-append (λ (r : Row). bytes_eq key r.key) (told_rows x.response) (all_told xs) ∙ by (hash_slot key == x.slot) refl (rows_on_slot key xs h.1)
@@ -116,7 +116,7 @@ rows_on_slot key (x ∷ xs) h =
 
 -- ---- rows in the order of keys
 
-same_order : (keys : List (List ℕ)) (rows rows' : List Row) → ((key : List ℕ) → filter (λ (r : Row). bytes_eq key r.key) rows ≡ filter (λ (r : Row). bytes_eq key r.key) rows') → in_key_order keys rows ≡ in_key_order keys rows'
+pub same_order : (keys : List (List ℕ)) (rows rows' : List Row) → ((key : List ℕ) → filter (λ (r : Row). bytes_eq key r.key) rows ≡ filter (λ (r : Row). bytes_eq key r.key) rows') → in_key_order keys rows ≡ in_key_order keys rows'
 same_order [] rows rows' h = refl
 same_order (key ∷ keys) rows rows' h = ap (λ q. q ++ in_key_order keys rows) (h key) ∙ ap (λ q. filter (λ (r : Row). bytes_eq key r.key) rows' ++ q) (same_order keys rows rows' h)
 
@@ -143,7 +143,7 @@ skipped_key k (key ∷ keys) n rows more h =
         by true e = absurd (false≢true (sym (first (bytes_eq k key) n) ∙ (bytes_eq-Decides k key).1 (sym h.0 ∙ sym ((bytes_eq-Decides key r.key).0 e))))
         by false e = refl
 
-own_rows : (key : List ℕ) (t : Response) → IsRowOf key t → AllByRecursion (λ (r : Row). r.key ≡ key) (told_rows t)
+pub own_rows : (key : List ℕ) (t : Response) → IsRowOf key t → AllByRecursion (λ (r : Row). r.key ≡ key) (told_rows t)
 own_rows key (Reply tree) h = tt
 own_rows key (Rows None) h = tt
 own_rows key (Rows (Some [])) h = tt
@@ -155,7 +155,7 @@ all_of_key key [] h = refl
 all_of_key key (r ∷ rows) h =
     ap (λ b. cond b (r ∷ filter (λ (q : Row). bytes_eq key q.key) rows) (filter (λ (q : Row). bytes_eq key q.key) rows)) ((bytes_eq-Decides key r.key).1 (sym h.0)) ∙ ap (λ q. r ∷ q) (all_of_key key rows h.1)
 
-no_such_key : (options : ReadSettings) (key : List ℕ) (ss : List Stream) (xs : List Step) → among bytes_eq key (stream_keys ss) ≡ false → Pairwise (DoesRead options) ss xs → filter (λ (r : Row). bytes_eq key r.key) (all_told xs) ≡ []
+pub no_such_key : (options : ReadSettings) (key : List ℕ) (ss : List Stream) (xs : List Step) → among bytes_eq key (stream_keys ss) ≡ false → Pairwise (DoesRead options) ss xs → filter (λ (r : Row). bytes_eq key r.key) (all_told xs) ≡ []
 no_such_key options key [] [] n h = refl
 no_such_key options key [] (x ∷ xs) n h = absurd h
 no_such_key options key (s ∷ ss) [] n h = absurd h
@@ -177,7 +177,7 @@ no_such_key options key (s ∷ ss) (x ∷ xs) n h =
     others (r ∷ rs) h = (ap (bytes_eq key) h.0 ∙ first (bytes_eq key s.key) n, others rs h.1)
 
 -- rows that are in the order of distinct keys stay
-in_order_stays : (options : ReadSettings) (ss : List Stream) (xs : List Step) → is_distinct bytes_eq (stream_keys ss) ≡ true → Pairwise (DoesRead options) ss xs → in_key_order (stream_keys ss) (all_told xs) ≡ all_told xs
+pub in_order_stays : (options : ReadSettings) (ss : List Stream) (xs : List Step) → is_distinct bytes_eq (stream_keys ss) ≡ true → Pairwise (DoesRead options) ss xs → in_key_order (stream_keys ss) (all_told xs) ≡ all_told xs
 in_order_stays options [] [] d h = refl
 in_order_stays options [] (x ∷ xs) d h = absurd h
 in_order_stays options (s ∷ ss) [] d h = absurd h

@@ -1,15 +1,16 @@
 -- A run is as good as one server, and is refused as its kinds say.
 use Rattle.std.proofs.Common.{◌≡◌, ℕ, Bool, true, List, [], ◌∷◌, ◌++◌, map, Option, Some, None, Result, Ok, Err, refl, sym, ap, ◌∙◌, subst, append_assoc}
+use Rattle.std.specs.Prelude.{bytes_eq}
 use Rattle.std.proofs.lemmas.Bool.{false≢true}
 use Rattle.resp_core.specs.Errors.{Refusal}
 use Rattle.cluster_routing.specs.Address.{Address}
 use Rattle.cluster_routing.specs.Choice.{Strategy}
-use Rattle.cluster_routing.specs.Lists.{concat, Pairwise}
+use Rattle.cluster_routing.specs.Lists.{concat, is_distinct, Pairwise}
 use Rattle.cluster_routing.specs.Policies.{or_bad_reply}
 use Rattle.cluster_calls.specs.Links.Log.{Exchange}
-use Rattle.cluster_calls.specs.Calls.Call.{Call, Refresh, Query, Ordered, Pipeline, FanOut, OnStreams}
-use Rattle.stream_commands.specs.Commands.{plain_command}
-use Rattle.cluster_calls.specs.Calls.Task.{task_of, sentence}
+use Rattle.cluster_calls.specs.Calls.Call.{Stream, Call, Refresh, Query, Ordered, Pipeline, FanOut, OnStreams}
+use Rattle.stream_commands.specs.Settings.{ReadSettings}
+use Rattle.cluster_calls.specs.Calls.Task.{Task, slot_map_of, one_command, pipeline_of, several_nodes, read_of, task_of, stream_keys}
 use Rattle.cluster_calls.specs.Calls.Parts.{result_then}
 use Rattle.cluster_calls.specs.Calls.Plan.{Client, Dispatch, plan}
 use Rattle.cluster_calls.specs.Calls.Legal.{IsLegalCall}
@@ -21,12 +22,13 @@ use Rattle.cluster_calls.specs.Calls.After.{client_after}
 use Rattle.cluster_calls.specs.OneServer.Keyspace.{Step}
 use Rattle.cluster_calls.specs.OneServer.Meaning.{Meaning}
 use Rattle.cluster_calls.specs.OneServer.Honest.{Accounts, AccountsFor}
-use Rattle.cluster_calls.specs.OneServer.Commands.{is_on_slots}
+use Rattle.cluster_calls.specs.OneServer.Commands.{is_task_on_slots, is_on_slots}
 use Rattle.cluster_calls.specs.OneServer.Operations.{task_operation}
 use Rattle.cluster_calls.specs.OneServer.Headline.{RepliedCall, task_log, command_log, command_logs, IsPlayedFrom, AreOnSlots, RefusedByKind}
 use Rattle.cluster_calls.specs.OneServer.Laws.{GapsNameNoKey}
 use Rattle.cluster_calls.proofs.ServerLaws.Pieces.{HonestIn}
 use Rattle.cluster_calls.proofs.ServerLaws.Calls.{CallServed, command_served, nothing_done}
+use Rattle.cluster_calls.proofs.ServerLaws.ReadCall.{read_served}
 use Rattle.cluster_calls.proofs.ServerLaws.Pipes.{pipeline_served}
 
 pub concat-append : {X : Type 0} (xss yss : List (List X)) → concat (xss ++ yss) ≡ concat xss ++ concat yss
@@ -59,12 +61,29 @@ by_call meaning done (t ∷ ts) ss h =
     let r = by_call meaning done ts p.1 p.4 in
     (p.0 ∷ r.0, (of_one_call meaning done t.call (task_log (task_of t.call) t.log) p.0 p.3, r.1), p.2 ∙ ap (λ q. p.0 ++ q) r.2)
 
+-- a read in parts is of keys that all differ
+reads_differ : (call : Call) (options : ReadSettings) (streams : List Stream) → task_of call ≡ read_of options streams → is_distinct bytes_eq (stream_keys streams) ≡ true
+reads_differ (Refresh node) options streams t = cc
+reads_differ (Query command number) options streams t = cc
+reads_differ (Ordered command order number) options streams t = cc
+reads_differ (Pipeline entries) options streams t = cc
+reads_differ (FanOut command) options streams t = cc
+reads_differ (OnStreams call) options streams t = cc
+
 -- each call
 pub call_served : (client : Client) (faults : Address → LinkFault) (meaning : Meaning) (moves : List (List Step)) (done : ℕ → Bool) (picks : List Address) (call : Call) (xs : List Exchange) → GapsNameNoKey
     → is_on_slots call ≡ true → IsLegalCall client picks call xs → HonestIn meaning done (task_operation (task_of call)) (task_log (task_of call) xs) moves → CallServed meaning done call (answer_of client picks faults call xs) xs moves
 call_served client faults meaning moves done picks (Query command number) xs gaps s legal honest = command_served client faults meaning moves done picks (Query command number) command number None refl xs honest legal
 call_served client faults meaning moves done picks (Ordered command order number) xs gaps s legal honest = command_served client faults meaning moves done picks (Ordered command order number) command number (Some order) refl xs honest legal
-call_served client faults meaning moves done picks (OnStreams call) xs gaps s legal honest = command_served client faults meaning moves done picks (OnStreams call) (plain_command (sentence call)) 0 None refl xs honest legal
+call_served client faults meaning moves done picks (OnStreams call) xs gaps s legal honest = by (task_of (OnStreams call)) refl s honest
+  where
+    by : (task : Task) → task_of (OnStreams call) ≡ task → is_task_on_slots task ≡ true → HonestIn meaning done (task_operation task) (task_log task xs) moves
+        → CallServed meaning done (OnStreams call) (answer_of client picks faults (OnStreams call) xs) xs moves
+    by (one_command command number order) t s h = command_served client faults meaning moves done picks (OnStreams call) command number order t xs h legal
+    by (read_of options streams) t s h = read_served client faults meaning moves done picks options streams (reads_differ (OnStreams call) options streams t) (OnStreams call) t xs h legal
+    by (several_nodes command) t s h = absurd (false≢true s)
+    by (slot_map_of node) t s h = cc
+    by (pipeline_of entries) t s h = cc
 call_served client faults meaning moves done picks (Pipeline entries) xs gaps s legal honest = pipeline_served client faults meaning moves done picks entries xs gaps legal honest
 call_served client faults meaning moves done picks (FanOut command) xs gaps s legal honest = absurd (false≢true s)
 call_served client faults meaning moves done picks (Refresh node) xs gaps s legal honest = by (plan client picks (Refresh node)) (sent_refusal client faults (task_of (Refresh node)) xs)

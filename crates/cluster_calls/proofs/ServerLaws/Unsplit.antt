@@ -1,19 +1,18 @@
--- A call that is not split makes one step at most.
-use Rattle.std.proofs.Common.{◌≡◌, ℕ, Bool, true, false, cond, ◌==◌, List, [], ◌∷◌, ◌++◌, map, filter, Option, Some, None, is_none, Result, Ok, Err, refl, sym, ap, ◌∙◌, subst, eqb-true, eq-eqb, MatchOption, MatchResult}
+-- A call that is not split makes all of its steps on one slot, a command one at most.
+use Rattle.std.proofs.Common.{◌≡◌, ℕ, Bool, true, false, cond, ◌==◌, ◌&&◌, List, [], ◌∷◌, ◌++◌, map, filter, Option, Some, None, is_none, Result, Ok, Err, refl, sym, ap, ◌∙◌, subst, eqb-true, eq-eqb, MatchOption, MatchResult}
 use Rattle.std.specs.Prelude.{⊤}
-use Rattle.std.specs.List.{AllByRecursion}
+use Rattle.std.specs.List.{AllByRecursion, list_all}
 use Rattle.std.proofs.lemmas.Bool.{false≢true}
 use Rattle.resp_core.specs.Errors.{Refusal}
 use Rattle.resp_args.specs.Command.{Command}
 use Rattle.resp_args.specs.Packed.{sent}
-use Rattle.stream_commands.specs.Commands.{plain_command}
 use Rattle.cluster_routing.specs.Address.{Address}
 use Rattle.cluster_routing.specs.Choice.{Strategy}
 use Rattle.cluster_routing.specs.Lists.{concat, Pairwise}
 use Rattle.cluster_routing.specs.Split.{Split, split_of}
 use Rattle.cluster_calls.specs.Links.Log.{Exchange}
-use Rattle.cluster_calls.specs.Calls.Call.{Call, Refresh, Query, Ordered, Pipeline, FanOut, OnStreams}
-use Rattle.cluster_calls.specs.Calls.Task.{one_command, task_of, sentence}
+use Rattle.cluster_calls.specs.Calls.Call.{Call}
+use Rattle.cluster_calls.specs.Calls.Task.{Task, slot_map_of, one_command, pipeline_of, several_nodes, read_of, task_of}
 use Rattle.cluster_calls.specs.Calls.After.{client_after}
 use Rattle.cluster_calls.specs.Calls.Plan.{Client, Dispatch, plan}
 use Rattle.cluster_calls.specs.Links.Faults.{LinkFault}
@@ -23,12 +22,13 @@ use Rattle.cluster_calls.specs.OneServer.Honest.{Accounts, is_counted}
 use Rattle.cluster_calls.specs.OneServer.Keyspace.{Step, on_slot}
 use Rattle.cluster_calls.specs.OneServer.Meaning.{Meaning, DoesTuple, IsWholeStep, DoCommand, tree_of_steps, step_trees}
 use Rattle.cluster_calls.specs.OneServer.Operations.{RunCommand, task_operation}
-use Rattle.cluster_calls.specs.OneServer.AmongOthers.{Other, in_turn, CallTurns, call_turns, AreItsRequests, are_on_one_slot, is_unsplit, ServedCall, IsServed}
+use Rattle.cluster_calls.specs.OneServer.AmongOthers.{Other, in_turn, CallTurns, call_turns, AreItsRequests, are_on_one_slot, is_unsplit_task, is_unsplit, ServedCall, IsServed}
 use Rattle.cluster_calls.proofs.ServerLaws.Calls.{plan_sends}
 use Rattle.cluster_calls.proofs.ServerLaws.Counted.{counted_steps, parts_begun}
 use Rattle.cluster_calls.proofs.ServerLaws.Draw.{pairwise-nil}
 use Rattle.cluster_calls.proofs.ServerLaws.PartCall.{Sends}
 use Rattle.cluster_calls.proofs.ServerLaws.Pieces.{IsDoneAs, AccountsAs, same_on_slot}
+use Rattle.cluster_calls.proofs.ServerLaws.ReadCall.{read_on_one}
 use Rattle.cluster_calls.proofs.ServerLaws.SameSlots.{nothing_left}
 
 abbrev pub AtMostOne : List Step → Type 0
@@ -59,7 +59,7 @@ same_alone [] ys one h = nothing_left ys h
 same_alone (x ∷ []) ys one h = only_this x ys h
 same_alone (x ∷ x2 ∷ xs) ys one h = absurd one
 
--- ---- a call that is not split makes one step at most
+-- ---- a command that is not split makes one step at most
 
 is_whole : (o : Option Split) → is_none o ≡ true → o ≡ None
 is_whole None e = refl
@@ -107,21 +107,33 @@ command_alone client meaning done picks call command number order xs own is_comm
         let one = first_alone meaning (sent command) whole s.0 s.2 b.begun b.later (sym s.1 ∙ b.all) (filter (is_counted done) xs) b.args c.0 c.1 in
         subst AtMostOne (sym (same_alone (concat c.0) (concat own) one (λ k. sym (same_on_slot c.0 own c.2 k)))) one
 
-pub unsplit_alone : (client : Client) (meaning : Meaning) (done : ℕ → Bool) (picks : List Address) (call : Call) (xs : List Exchange) (own : List (List Step)) → is_unsplit call ≡ true
-    → IsLegalCall client picks call xs → Pairwise (Accounts meaning done call) (task_log (task_of call) xs) own → AtMostOne (concat own)
-unsplit_alone client meaning done picks (Query command number) xs own u legal h = command_alone client meaning done picks (Query command number) command number None xs own refl u legal h
-unsplit_alone client meaning done picks (Ordered command order number) xs own u legal h = command_alone client meaning done picks (Ordered command order number) command number (Some order) xs own refl u legal h
-unsplit_alone client meaning done picks (OnStreams call) xs own u legal h = command_alone client meaning done picks (OnStreams call) (plain_command (sentence call)) 0 None xs own refl u legal h
-unsplit_alone client meaning done picks (Pipeline entries) xs own u legal h = absurd (false≢true u)
-unsplit_alone client meaning done picks (FanOut command) xs own u legal h = absurd (false≢true u)
-unsplit_alone client meaning done picks (Refresh node) xs own u legal h = none_alone meaning done (Refresh node) [] own refl h
-
--- ---- a run of such calls
-
 one_is_on_one : (xs : List Step) → AtMostOne xs → are_on_one_slot xs ≡ true
 one_is_on_one [] h = refl
 one_is_on_one (x ∷ []) h = refl
 one_is_on_one (x ∷ y ∷ xs) h = absurd h
+
+all_on_one : (k : ℕ) (xs : List Step) → AllByRecursion (λ (x : Step). x.slot ≡ k) xs → are_on_one_slot xs ≡ true
+all_on_one k [] h = refl
+all_on_one k (x ∷ xs) h = by xs h.1
+  where
+    by : (ys : List Step) → AllByRecursion (λ (y : Step). y.slot ≡ k) ys → list_all (λ (y : Step). x.slot == y.slot) ys ≡ true
+    by [] a = refl
+    by (y ∷ ys) a = ap (λ b. b && list_all (λ (z : Step). x.slot == z.slot) ys) (eq-eqb x.slot y.slot (h.0 ∙ sym a.0)) ∙ by ys a.1
+
+pub unsplit_on_one : (client : Client) (meaning : Meaning) (done : ℕ → Bool) (picks : List Address) (call : Call) (xs : List Exchange) (own : List (List Step)) → is_unsplit call ≡ true
+    → IsLegalCall client picks call xs → Pairwise (Accounts meaning done call) (task_log (task_of call) xs) own → are_on_one_slot (concat own) ≡ true
+unsplit_on_one client meaning done picks call xs own unsplit legal accounts = by (task_of call) refl unsplit accounts
+  where
+    by : (task : Task) → task_of call ≡ task → is_unsplit_task task ≡ true → Pairwise (Accounts meaning done call) (task_log task xs) own → are_on_one_slot (concat own) ≡ true
+    by (one_command command number order) t u h = one_is_on_one (concat own) (command_alone client meaning done picks call command number order xs own t u legal h)
+    by (slot_map_of node) t u h = one_is_on_one (concat own) (none_alone meaning done call [] own refl h)
+    by (pipeline_of entries) t u h = absurd (false≢true u)
+    by (several_nodes command) t u h = absurd (false≢true u)
+    by (read_of options streams) t u h =
+        let r = read_on_one meaning done options streams u xs own (subst (λ k. Pairwise (AccountsAs meaning done (task_operation k)) xs own) t h) in
+        all_on_one r.0 (concat own) r.1
+
+-- ---- a run of such calls
 
 pub stays : (strategy : Option Strategy) (faults : Address → LinkFault) (meaning : Meaning) (done : ℕ → Bool) (ts : List RepliedCall) (client : Client) (calls : List CallTurns) (xs : List ServedCall)
     → AllByRecursion (λ (t : RepliedCall). is_unsplit t.call ≡ true) ts → IsPlayedFrom strategy client faults ts → Pairwise (AreItsRequests meaning done) ts calls → Pairwise (IsServed meaning done) ts xs → map (λ (x : ServedCall). x.was) xs ≡ calls
@@ -133,7 +145,7 @@ stays strategy faults meaning done (t ∷ ts) client [] (x ∷ xs) u p q h e = a
 stays strategy faults meaning done (t ∷ ts) client (c ∷ cs) (x ∷ xs) u p q h e =
     let was : x.was ≡ c = cc in
     let later : map (λ (y : ServedCall). y.was) xs ≡ cs = cc in
-    let one = one_is_on_one (concat c.own) (unsplit_alone client meaning done t.picks t.call t.log c.own u.0 p.1 q.0) in
+    let one = unsplit_on_one client meaning done t.picks t.call t.log c.own u.0 p.1 q.0 in
     let place = h.0.in_place (subst (λ (d : CallTurns). are_on_one_slot (concat d.own) ≡ true) (sym was) one) in
     ap (λ q. q ++ concat (map call_turns (map (λ (y : ServedCall). y.now) xs))) (ap (λ q. map Other q ++ in_turn x.now.during x.now.own) h.0.before ∙ ap (λ q. map Other x.was.before ++ q) place ∙ ap call_turns was)
     ∙ ap (λ q. call_turns c ++ q) (stays strategy faults meaning done ts (client_after client t.call t.log) cs xs u.1 p.3 q.1 h.1 later)

@@ -1,27 +1,32 @@
 -- Laws of calls and runs, each as one statement over the definitions.
-use Rattle.std.specs.Prelude.{◌≡◌, ◌↔◌, ◌≤◌, ◌*◌, ℕ, suc, Bool, true, false, not, nat_eq, ⊤, List, [], ◌∷◌, map, filter, length, Contains, Option, Some, None, Ok, MatchBool}
+use Rattle.std.specs.Prelude.{◌≡◌, ◌↔◌, ◌≤◌, ◌*◌, ℕ, suc, Bool, true, false, not, nat_eq, bytes_eq, ⊤, List, [], ◌∷◌, map, filter, length, Contains, Option, Some, None, option_and_then, Ok, MatchBool}
 use Rattle.std.specs.List.{AllByRecursion}
 use Rattle.resp_core.specs.Trees.{Tree}
 use Rattle.resp_args.specs.Command.{Command}
+use Rattle.resp_args.specs.Convert.{traverse}
 use Rattle.resp_args.specs.Packed.{sent}
 use Rattle.resp_args.specs.declared.cmd.Arg.TheVariants.{Simple}
 use Rattle.cluster_routing.specs.Address.{Address, same_address}
 use Rattle.cluster_routing.specs.Choice.{Strategy}
 use Rattle.cluster_routing.specs.Laws.{AddressesAscend}
-use Rattle.cluster_routing.specs.Lists.{among, IsDistinct, group_by_group}
+use Rattle.cluster_routing.specs.Lists.{among, IsDistinct, is_distinct, Pairwise, group_by_group}
 use Rattle.cluster_routing.specs.Routing.{to_route, destination}
 use Rattle.cluster_routing.specs.declared.route.Route.{Route}
+use Rattle.stream_commands.specs.Join.{join}
+use Rattle.stream_commands.specs.ReadReply.{Row}
+use Rattle.stream_commands.specs.Settings.{ReadSettings}
 use Rattle.cluster_calls.specs.Links.Reply.{Sort, Moved, Ask, sort_of}
 use Rattle.cluster_calls.specs.Links.Log.{Exchange, is_answered}
-use Rattle.cluster_calls.specs.Calls.Call.{Call, Query, Ordered}
-use Rattle.cluster_calls.specs.Calls.Task.{Task, slot_map_of, one_command, pipeline_of, several_nodes, read_of, task_of}
+use Rattle.cluster_calls.specs.Calls.Call.{Call, Query, Ordered, Stream}
+use Rattle.cluster_calls.specs.Calls.Task.{Task, slot_map_of, one_command, pipeline_of, several_nodes, read_of, task_of, stream_keys}
+use Rattle.cluster_calls.specs.Calls.Reads.{stream_slots, key_places}
 use Rattle.cluster_calls.specs.Calls.Plan.{Client, Dispatch, plan}
 use Rattle.cluster_calls.specs.Calls.Legal.{IsLegalCall}
 use Rattle.cluster_calls.specs.Links.Faults.{LinkFault}
 use Rattle.cluster_calls.specs.Calls.Refusals.{sent_refusal}
 use Rattle.cluster_calls.specs.Calls.Answer.{Answer}
 use Rattle.cluster_calls.specs.OneServer.Keyspace.{Keyspace, Step, History, Leads, on_slot}
-use Rattle.cluster_calls.specs.OneServer.Meaning.{Meaning, OneServer}
+use Rattle.cluster_calls.specs.OneServer.Meaning.{Meaning, DoesRead, rows_of_steps, OneServer}
 use Rattle.cluster_calls.specs.OneServer.Honest.{HonestRun}
 use Rattle.cluster_calls.specs.OneServer.Operations.{Operation, Response}
 use Rattle.cluster_calls.specs.OneServer.Headline.{RepliedCall, IsPlayedFrom, command_logs, AreOnSlots}
@@ -59,6 +64,12 @@ is_redirect_reply (Some tree) = is_redirect_sort (sort_of tree)
 abbrev pub is_redirected : Exchange → Bool
 is_redirected x = is_redirect_reply x.reply
 
+-- the tasks that go out part by part
+abbrev pub is_in_parts : Task → Bool
+is_in_parts (one_command command number order) = true
+is_in_parts (read_of options streams) = true
+is_in_parts _ = false
+
 -- behind an answered request stands the next part's, behind any other the same again, and that one was redirected
 abbrev pub AreRepeatsRedirected : List Exchange → Type 0
 AreRepeatsRedirected [] = ⊤
@@ -67,19 +78,29 @@ AreRepeatsRedirected (x ∷ y ∷ xs) =
     MatchBool (is_answered x) ⊤ ((is_redirected x ≡ true) × (y.request.args ≡ x.request.args)) × AreRepeatsRedirected (y ∷ xs)
 
 abbrev pub OnlyRedirectsRepeat : Type 0
-OnlyRedirectsRepeat = (client : Client) (picks : List Address) (call : Call) (command : Command) (number : ℕ) (order : Option (List ℕ)) (xs : List Exchange)
-    → task_of call ≡ one_command command number order → IsLegalCall client picks call xs → AreRepeatsRedirected xs
+OnlyRedirectsRepeat = (client : Client) (picks : List Address) (call : Call) (xs : List Exchange)
+    → is_in_parts (task_of call) ≡ true → IsLegalCall client picks call xs → AreRepeatsRedirected xs
 
 -- of a command that was answered each part has one request whose reply is no redirect, in the order of sending
 abbrev pub EachPartIsAnsweredOnce : Type 0
-EachPartIsAnsweredOnce = (client : Client) (picks : List Address) (faults : Address → LinkFault) (call : Call) (command : Command) (number : ℕ) (order : Option (List ℕ)) (ds : List Dispatch) (xs : List Exchange)
-    → task_of call ≡ one_command command number order → plan client picks call ≡ Ok ds → IsLegalCall client picks call xs → sent_refusal client faults (task_of call) xs ≡ None
+EachPartIsAnsweredOnce = (client : Client) (picks : List Address) (faults : Address → LinkFault) (call : Call) (ds : List Dispatch) (xs : List Exchange)
+    → is_in_parts (task_of call) ≡ true → plan client picks call ≡ Ok ds → IsLegalCall client picks call xs → sent_refusal client faults (task_of call) xs ≡ None
     → map (λ (x : Exchange). x.request.args) (filter (λ x. not (is_redirected x)) xs) ≡ map (λ (d : Dispatch). d.args) ds
 
 -- a command with a gap routes as the arguments that it is sent as, wherever it routes to a slot
 abbrev pub GapsNameNoKey : Type 0
 GapsNameNoKey = (command : Command) (read_only : List (List ℕ)) (route : Route)
     → destination command.args read_only ≡ Some (to_route route) → destination (map (λ bytes. Simple bytes) (sent command)) read_only ≡ Some (to_route route)
+
+-- ---- reads in parts
+
+-- Where the steps of a read by keys that all differ tell rows, the join of what those on each slot tell is what they tell in the call's
+-- order.
+abbrev pub JoinIsTheWhole : Type 0
+JoinIsTheWhole = (options : ReadSettings) (streams : List Stream) (steps : List Step) (rows : List Row)
+    → is_distinct bytes_eq (stream_keys streams) ≡ true → Pairwise (DoesRead options) streams steps → rows_of_steps steps ≡ Some rows
+    → option_and_then (join (stream_keys streams) (map (λ slot. key_places slot streams) (stream_slots streams)))
+    (traverse (λ slot. rows_of_steps (on_slot slot steps)) (stream_slots streams)) ≡ Some rows
 
 -- ---- histories of steps
 

@@ -1,7 +1,6 @@
 -- What is sent again, and what never is: of a command in parts, of a pipeline, of a refresh.
-use Rattle.std.specs.Prelude.{◌≡◌, ◌≢◌, ℕ, false, if◌then◌else◌, nat_eq, List, [], ◌∷◌, ◌++◌, map, Option, None, Ok}
+use Rattle.std.specs.Prelude.{◌≡◌, ◌≢◌, ℕ, true, false, if◌then◌else◌, nat_eq, List, [], ◌∷◌, ◌++◌, map, Option, None, Ok}
 use Rattle.std.specs.List.{list_any, AllByRecursion}
-use Rattle.resp_args.specs.Command.{Command}
 use Rattle.cluster_routing.specs.Address.{Address}
 use Rattle.cluster_routing.specs.Lists.{concat, IsDistinct}
 use Rattle.cluster_calls.specs.Links.Faults.{LinkFault}
@@ -11,22 +10,28 @@ use Rattle.cluster_calls.specs.Links.World.{is_linked}
 use Rattle.cluster_calls.specs.Calls.Call.{Entry, Call, Refresh}
 use Rattle.cluster_calls.specs.Calls.Legal.{direct, node_groups, IsLegalCall}
 use Rattle.cluster_calls.specs.Calls.Plan.{Client, Dispatch, plan}
+use Rattle.cluster_calls.specs.Calls.Reads.{read_slot}
 use Rattle.cluster_calls.specs.Calls.Refusals.{sent_refusal}
 use Rattle.cluster_calls.specs.Calls.Replies.{args_slot}
-use Rattle.cluster_calls.specs.Calls.Task.{one_command, pipeline_of, task_of}
-use Rattle.cluster_calls.specs.OneServer.Laws.{is_redirected}
+use Rattle.cluster_calls.specs.Calls.Task.{Task, pipeline_of, read_of, task_of}
+use Rattle.cluster_calls.specs.OneServer.Laws.{is_in_parts, is_redirected}
+
+-- the slot that the arguments of a part name
+abbrev pub task_slot : Task → List (List ℕ) → ℕ
+task_slot (read_of options streams) args = read_slot options args
+task_slot _ args = args_slot args
 
 -- the parts of a command have slots of their own, and so arguments of their own
 abbrev pub PartsHaveTheirOwnSlots : Type 0
-PartsHaveTheirOwnSlots = (client : Client) (picks : List Address) (call : Call) (command : Command) (number : ℕ) (order : Option (List ℕ)) (ds : List Dispatch)
-    → task_of call ≡ one_command command number order → plan client picks call ≡ Ok ds → IsDistinct nat_eq (map (λ (d : Dispatch). args_slot d.args) ds)
+PartsHaveTheirOwnSlots = (client : Client) (picks : List Address) (call : Call) (ds : List Dispatch)
+    → is_in_parts (task_of call) ≡ true → plan client picks call ≡ Ok ds
+    → IsDistinct nat_eq (map (λ (d : Dispatch). task_slot (task_of call) d.args) ds)
 
 -- Behind a request of a command whose reply is no redirect, or is lost, no other has its arguments again, whether the call is answered
 -- or not.
 abbrev pub NoneIsSentAgain : Type 0
-NoneIsSentAgain = (client : Client) (picks : List Address) (call : Call) (command : Command) (number : ℕ) (order : Option (List ℕ))
-    (before after : List Exchange) (x : Exchange)
-    → task_of call ≡ one_command command number order → IsLegalCall client picks call (before ++ x ∷ after) → is_redirected x ≡ false
+NoneIsSentAgain = (client : Client) (picks : List Address) (call : Call) (before after : List Exchange) (x : Exchange)
+    → is_in_parts (task_of call) ≡ true → IsLegalCall client picks call (before ++ x ∷ after) → is_redirected x ≡ false
     → AllByRecursion (λ (y : Exchange). y.request.args ≢ x.request.args) after
 
 -- A pipeline sends its commands node by node, each once and as it is, from the first node on: those of all nodes where no link failed,
