@@ -21,3 +21,4 @@ pub mod RefusedAsKind
 pub mod OneRun
 pub mod OneSpelling
 pub mod PromisedPlays
+pub mod StreamTasks

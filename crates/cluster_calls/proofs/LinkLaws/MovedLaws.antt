@@ -23,6 +23,7 @@ use Rattle.cluster_calls.specs.Calls.Answer.{Answer, answer_of}
 use Rattle.cluster_calls.specs.Calls.After.{map_after, flag_after, some_moved}
 use Rattle.cluster_calls.specs.Links.Events.{Event, Ending, answers, fails, lacks_memory, EndsBy, AllTo, Runs, log_of, pair_up, exchanges_at, exchanges_of, Agrees, is_memory_ending, lack_memory, is_answer_ending, answered_moved}
 use Rattle.cluster_calls.specs.Links.Happened.{client_of, is_refresh, Happened, Answered}
+use Rattle.cluster_calls.proofs.LogLaws.StreamTasks.{stream_tasks}
 use Rattle.cluster_calls.proofs.LinkLaws.OpenLinks.{swapped}
 use Rattle.cluster_calls.proofs.LinkLaws.Pairing.{some_lost, other_lost, has_lost-append, any-append}
 use Rattle.cluster_calls.proofs.LinkLaws.EndLaws.{ends_pairs, single_failed}
@@ -163,7 +164,8 @@ plain_flag old new xs place (Query command number) flag n m r h = ap (λ b. flag
 plain_flag old new xs place (Ordered command order number) flag n m r h = ap (λ b. flag || b) (moved_singles old new xs place m r h)
 plain_flag old new xs place (Pipeline commands) flag n m r h = ap (λ b. flag || b) (moved_once old new xs place m r h)
 plain_flag old new xs place (FanOut command) flag n m r h = ap (λ b. flag || b) (moved_singles old new xs place m r h)
-plain_flag old new xs place (OnStreams call) flag n m r h = ap (λ b. flag || b) (moved_singles old new xs place m r h)
+plain_flag old new xs place (OnStreams call) flag n m r h =
+    ap (λ b. flag || b) (moved_singles old new xs place m r (stream_tasks (λ task. AreLinkCalls task xs → AllByRecursion IsSingle xs) (λ command number order a. a) (λ options streams a. a) call h))
 
 -- so code proves its log and its answer alone
 pub answered_plain : (strategy : Option Strategy) (old new : World) (call : Call) (answer : Result Answer Refusal) (h : Happened strategy old new call) → is_refresh call ≡ false → AreLinkCalls (task_of call) h.events

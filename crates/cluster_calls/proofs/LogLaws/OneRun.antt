@@ -1,7 +1,7 @@
 -- Runs of equal calls without a strategy are equal where the same replies are to come and the same links fail.
 use Rattle.std.specs.Prelude.{option_and_then, is_none, slice_get, cond, ◌||◌, ◌&&◌}
 use Rattle.std.specs.List.{AllByRecursion, list_any}
-use Rattle.std.proofs.Common.{◌≡◌, ◌⊎◌, ℕ, zero, suc, ◌+◌, Bool, true, false, List, [], ◌∷◌, ◌++◌, map, length, drop, Option, Some, None, Result, refl, sym, ap, ◌∙◌, subst, inl, inr, arith}
+use Rattle.std.proofs.Common.{◌≡◌, ◌⊎◌, ℕ, zero, suc, ◌+◌, Bool, true, false, List, [], ◌∷◌, ◌++◌, map, length, drop, Option, Some, None, refl, sym, ap, ◌∙◌, subst, inl, inr, arith}
 use Rattle.std.proofs.lemmas.Bool.{false≢true}
 use Rattle.resp_core.specs.Trees.{Tree}
 use Rattle.resp_core.specs.Errors.{Refusal}
@@ -16,10 +16,9 @@ use Rattle.cluster_calls.specs.Calls.Parts.{result_then}
 use Rattle.cluster_calls.specs.Calls.Plan.{Client, plan}
 use Rattle.cluster_calls.specs.Calls.Legal.{IsLegalCall}
 use Rattle.cluster_calls.specs.Links.Faults.{LinkFault, refusal_by_fault}
-use Rattle.cluster_calls.specs.Links.Play.{shown_of}
 use Rattle.cluster_calls.specs.Links.Run.{whole_log}
 use Rattle.cluster_calls.specs.Calls.Replies.{outcome_by, outcomes, policy_in, reply_by_outcomes, in_pipeline_order, several_reply}
-use Rattle.cluster_calls.specs.Calls.Refusals.{refusal_in, refresh_refusal, last_refusal, part_refusal, pipeline_refusal, errors_from, sent_refusal}
+use Rattle.cluster_calls.specs.Calls.Refusals.{refusal_in, refresh_refusal, last_refusal, pipeline_refusal, errors_from, sent_refusal}
 use Rattle.cluster_calls.specs.Calls.Answer.{answer_in, task_answer, tree_in, unless, answer_of}
 use Rattle.cluster_calls.specs.Calls.After.{client_after}
 use Rattle.cluster_calls.specs.OneServer.Headline.{PlayedCall, RepliedCall, with_replies_from, IsPlayedFrom}

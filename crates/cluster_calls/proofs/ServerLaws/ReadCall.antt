@@ -35,7 +35,7 @@ use Rattle.cluster_calls.proofs.ServerLaws.Distinct.{firsts_distinct}
 use Rattle.cluster_calls.proofs.ServerLaws.Grouping.{all-append}
 use Rattle.cluster_calls.proofs.ServerLaws.PartCall.{filter_all}
 use Rattle.cluster_calls.proofs.ServerLaws.Pieces.{SamePieces, AccountsAs, HonestIn, ServedIn, same_on_slot}
-use Rattle.cluster_calls.proofs.ServerLaws.ReadParts.{slot_in, slot_named, read_operation, plan_reads, streams_whole, IsReadDone, read_groups, slots_sent, ReadAgain, read_again, one_read, kept_read}
+use Rattle.cluster_calls.proofs.ServerLaws.ReadParts.{slot_in, slot_named, plan_reads, streams_whole, IsReadDone, read_groups, slots_sent, ReadAgain, read_again, one_read, kept_read}
 use Rattle.cluster_calls.proofs.ServerLaws.ReadRows.{join_is, rows_told_by, rows_in_order, all_by_slot}
 
 among-head : (k : ℕ) (xs ys : List ℕ) → among nat_eq k (xs ++ ys) ≡ false → among nat_eq k xs ≡ false

@@ -10,7 +10,7 @@ use Rattle.cluster_routing.specs.Policies.{or_bad_reply}
 use Rattle.cluster_calls.specs.Links.Log.{Exchange}
 use Rattle.cluster_calls.specs.Calls.Call.{Stream, Call, Refresh, Query, Ordered, Pipeline, FanOut, OnStreams}
 use Rattle.stream_commands.specs.Settings.{ReadSettings}
-use Rattle.cluster_calls.specs.Calls.Task.{Task, slot_map_of, one_command, pipeline_of, several_nodes, read_of, task_of, stream_keys}
+use Rattle.cluster_calls.specs.Calls.Task.{read_of, task_of, stream_keys}
 use Rattle.cluster_calls.specs.Calls.Parts.{result_then}
 use Rattle.cluster_calls.specs.Calls.Plan.{Client, Dispatch, plan}
 use Rattle.cluster_calls.specs.Calls.Legal.{IsLegalCall}
@@ -22,10 +22,11 @@ use Rattle.cluster_calls.specs.Calls.After.{client_after}
 use Rattle.cluster_calls.specs.OneServer.Keyspace.{Step}
 use Rattle.cluster_calls.specs.OneServer.Meaning.{Meaning}
 use Rattle.cluster_calls.specs.OneServer.Honest.{Accounts, AccountsFor}
-use Rattle.cluster_calls.specs.OneServer.Commands.{is_task_on_slots, is_on_slots}
+use Rattle.cluster_calls.specs.OneServer.Commands.{is_on_slots}
 use Rattle.cluster_calls.specs.OneServer.Operations.{task_operation}
 use Rattle.cluster_calls.specs.OneServer.Headline.{RepliedCall, task_log, command_log, command_logs, IsPlayedFrom, AreOnSlots, RefusedByKind}
 use Rattle.cluster_calls.specs.OneServer.Laws.{GapsNameNoKey}
+use Rattle.cluster_calls.proofs.LogLaws.StreamTasks.{stream_tasks}
 use Rattle.cluster_calls.proofs.ServerLaws.Pieces.{HonestIn}
 use Rattle.cluster_calls.proofs.ServerLaws.Calls.{CallServed, command_served, nothing_done}
 use Rattle.cluster_calls.proofs.ServerLaws.ReadCall.{read_served}
@@ -75,15 +76,10 @@ pub call_served : (client : Client) (faults : Address → LinkFault) (meaning : 
     → is_on_slots call ≡ true → IsLegalCall client picks call xs → HonestIn meaning done (task_operation (task_of call)) (task_log (task_of call) xs) moves → CallServed meaning done call (answer_of client picks faults call xs) xs moves
 call_served client faults meaning moves done picks (Query command number) xs gaps s legal honest = command_served client faults meaning moves done picks (Query command number) command number None refl xs honest legal
 call_served client faults meaning moves done picks (Ordered command order number) xs gaps s legal honest = command_served client faults meaning moves done picks (Ordered command order number) command number (Some order) refl xs honest legal
-call_served client faults meaning moves done picks (OnStreams call) xs gaps s legal honest = by (task_of (OnStreams call)) refl s honest
-  where
-    by : (task : Task) → task_of (OnStreams call) ≡ task → is_task_on_slots task ≡ true → HonestIn meaning done (task_operation task) (task_log task xs) moves
-        → CallServed meaning done (OnStreams call) (answer_of client picks faults (OnStreams call) xs) xs moves
-    by (one_command command number order) t s h = command_served client faults meaning moves done picks (OnStreams call) command number order t xs h legal
-    by (read_of options streams) t s h = read_served client faults meaning moves done picks options streams (reads_differ (OnStreams call) options streams t) (OnStreams call) t xs h legal
-    by (several_nodes command) t s h = absurd (false≢true s)
-    by (slot_map_of node) t s h = cc
-    by (pipeline_of entries) t s h = cc
+call_served client faults meaning moves done picks (OnStreams call) xs gaps s legal honest =
+    stream_tasks (λ task. task_of (OnStreams call) ≡ task → HonestIn meaning done (task_operation task) (task_log task xs) moves → CallServed meaning done (OnStreams call) (answer_of client picks faults (OnStreams call) xs) xs moves)
+    (λ command number order t h. command_served client faults meaning moves done picks (OnStreams call) command number order t xs h legal)
+    (λ options streams t h. read_served client faults meaning moves done picks options streams (reads_differ (OnStreams call) options streams t) (OnStreams call) t xs h legal) call refl honest
 call_served client faults meaning moves done picks (Pipeline entries) xs gaps s legal honest = pipeline_served client faults meaning moves done picks entries xs gaps legal honest
 call_served client faults meaning moves done picks (FanOut command) xs gaps s legal honest = absurd (false≢true s)
 call_served client faults meaning moves done picks (Refresh node) xs gaps s legal honest = by (plan client picks (Refresh node)) (sent_refusal client faults (task_of (Refresh node)) xs)

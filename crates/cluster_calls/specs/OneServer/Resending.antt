@@ -1,5 +1,5 @@
 -- What is sent again, and what never is: of a command in parts, of a pipeline, of a refresh.
-use Rattle.std.specs.Prelude.{◌≡◌, ◌≢◌, ℕ, true, false, if◌then◌else◌, nat_eq, List, [], ◌∷◌, ◌++◌, map, Option, None, Ok}
+use Rattle.std.specs.Prelude.{◌≡◌, ◌≢◌, ℕ, true, false, if◌then◌else◌, nat_eq, List, [], ◌∷◌, ◌++◌, map, None, Ok}
 use Rattle.std.specs.List.{list_any, AllByRecursion}
 use Rattle.cluster_routing.specs.Address.{Address}
 use Rattle.cluster_routing.specs.Lists.{concat, IsDistinct}

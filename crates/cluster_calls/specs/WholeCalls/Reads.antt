@@ -1,6 +1,6 @@
 -- Reads in parts, computed: what is sent, the record, what is kept, what the nodes did; and a rule for the record that is wrong. No call
 -- comes down to such a read yet, so they stand as tasks.
-use Rattle.std.specs.Prelude.{◌≡◌, ℕ, false, List, [], ◌∷◌, filter, Option, None, Some, option_map, Ok, codes, refl}
+use Rattle.std.specs.Prelude.{◌≡◌, ℕ, false, List, [], ◌∷◌, Option, None, Some, option_map, Ok, codes, refl}
 use Rattle.std.specs.Fmt.{digits}
 use Rattle.std.specs.Str.{is_utf8, chars}
 use lib.Utf8.{encode}
@@ -17,9 +17,9 @@ use Rattle.stream_commands.specs.Settings.{ReadSettings}
 use Rattle.cluster_calls.specs.Calls.Answer.{Read, task_answer}
 use Rattle.cluster_calls.specs.Calls.Call.{Stream, Xread, Call, OnStreams}
 use Rattle.cluster_calls.specs.Calls.Legal.{AreMade}
-use Rattle.cluster_calls.specs.Calls.Parts.{read_parts, task_parts}
+use Rattle.cluster_calls.specs.Calls.Parts.{read_parts}
 use Rattle.cluster_calls.specs.Calls.Plan.{Dispatch, dispatches}
-use Rattle.cluster_calls.specs.Calls.Reads.{readings, read_rows}
+use Rattle.cluster_calls.specs.Calls.Reads.{readings}
 use Rattle.cluster_calls.specs.Calls.Task.{Task, read_of}
 use Rattle.cluster_calls.specs.Links.Log.{Exchange}
 use Rattle.cluster_calls.specs.OneServer.Commands.{task_operations, task_kept}
