@@ -292,7 +292,7 @@ impl<L: ConnectionLike + Drop> ClusterClient<L> {
     }
 
     /// The reply to one part that goes to its place first, behind its redirects. The log has room for so
-    /// many parts, of which this is one, and then for those behind it.
+    /// many parts, this one among them, and when it is answered for the others.
     fn follow(&mut self, alloc: Global, first: Ready, parts: usize) -> Result<Value, RedisError>
         requires place { IsOpenAt (nodes L.seen self.old.links.nodes.items) (address first.dispatch.place.node) first.dispatch.place.which }
         requires within { first.dispatch.place.which < vec_len self.old.links.nodes }

@@ -34,11 +34,7 @@ fn asking_command(alloc: Global) -> Result<Vec<u8>, AllocError>
 }
 
 /// The bytes of arguments, behind those of ASKING where that is wanted.
-fn outgoing_for(
-    alloc: Global,
-    args: &[Vec<u8>],
-    asking: bool,
-) -> Result<Vec<u8>, AllocError>
+fn outgoing_for(alloc: Global, args: &[Vec<u8>], asking: bool) -> Result<Vec<u8>, AllocError>
     ensures { IfOk result (λ v. v.items ≡ outgoing_for asking (texts args.now)) }
 {
     let command = pack_command(alloc, args)?;

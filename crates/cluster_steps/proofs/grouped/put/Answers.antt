@@ -1,5 +1,5 @@
 use Rattle.std.specs.Prelude.{slice_set}
-use Rattle.std.proofs.Common.{◌<◌, ◌∙◌, map, length, refl, ap, subst}
+use Rattle.std.proofs.Common.{◌<◌, ◌∙◌, map, refl, ap, subst}
 use Rattle.std.proofs.lemmas.List.{map-set}
 use Rattle.std.proofs.lemmas.Option.{slice_get_read}
 use Rattle.cluster_steps.specs.Groups.{gathered_of}

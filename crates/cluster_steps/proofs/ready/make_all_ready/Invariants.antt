@@ -1,4 +1,4 @@
-use Rattle.std.proofs.Common.{◌≡◌, ◌+◌, ◌≤◌, ◌++◌, map, length, vec_capacity, vec_len}
+use Rattle.std.proofs.Common.{◌≡◌, ◌++◌, map}
 use Rattle.cluster_steps.proofs.ready.make_all_ready.Given as goal
 
 abbrev pub invariant-dispatches : goal.invariant-dispatches

@@ -1,6 +1,6 @@
 use Rattle.std.specs.Prelude.{◌||◌}
 use Rattle.std.specs.List.{list_any}
-use Rattle.std.proofs.Common.{◌≡◌, ◌∙◌, map, refl, sym, ap}
+use Rattle.std.proofs.Common.{◌∙◌, map, refl, sym, ap}
 use Rattle.std.proofs.lemmas.Result.{err_from_is_err_and}
 use Rattle.resp_core.specs.View.{view}
 use Rattle.cluster_steps.specs.GroupRuns.{is_moved_tree}

@@ -1,6 +1,5 @@
-use Rattle.std.proofs.Common.{◌≡◌, ◌≢◌, refl, map, sym, ap, Ok, Err}
+use Rattle.std.proofs.Common.{refl, sym}
 use Rattle.std.proofs.lemmas.Result.{err_from_is_err_and}
-use Rattle.cluster_steps.specs.FirstPlaces.{part_of}
 use Rattle.cluster_calls.specs.Links.Happened.{client_of}
 use Rattle.cluster_client.specs.Whole.{whole}
 use Rattle.cluster_client.proofs.PipeParts.{pipeline_unplanned, planned_unpicked}

@@ -1,4 +1,4 @@
-use Rattle.std.proofs.Common.{◌≡◌, ◌∙◌, refl, ap}
+use Rattle.std.proofs.Common.{◌∙◌, refl, ap}
 use Rattle.std.proofs.lemmas.Result.{err_from_is_err_and}
 use Rattle.cluster_routing.specs.Seen.{addresses}
 use Rattle.cluster_steps.specs.Groups.{request_in}

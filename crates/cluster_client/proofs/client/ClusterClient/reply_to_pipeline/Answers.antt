@@ -1,15 +1,12 @@
 use Rattle.std.specs.List.{AllByRecursion}
-use Rattle.std.proofs.Common.{◌≡◌, ◌≢◌, ◌<◌, ◌∙◌, ℕ, List, map, length, refl, sym, ap, subst, Err, Ok}
+use Rattle.std.proofs.Common.{◌≡◌, ◌<◌, ◌∙◌, List, map, length, refl, sym, ap, subst, Err}
 use Rattle.std.proofs.lemmas.List.{length-map}
 use Rattle.std.proofs.lemmas.Result.{err_from_is_err_and}
 use Rattle.resp_core.specs.View.{view}
-use Rattle.cluster_steps.specs.Dispatches.{IsPlaced}
 use Rattle.cluster_steps.specs.Groups.{group_of, place_in, request_count}
 use Rattle.cluster_steps.specs.GroupRuns.{IsGroupPlaced, answered_at}
 use Rattle.cluster_calls.specs.Links.PipeReplies.{pipeline_result}
-use Rattle.cluster_steps.specs.Queues.{no_queues, queued}
 use Rattle.cluster_calls.specs.Links.World.{Node, World, nodes, tree_result}
-use Rattle.cluster_routing.specs.Lists.{draw}
 use Rattle.cluster_calls.proofs.LinkLaws.OneCommand.{not_begun, not_sent, relogged_untouched}
 use Rattle.cluster_steps.proofs.PipeGroups.{all_unmapped, groups_placed}
 use Rattle.cluster_steps.proofs.PipeOrder.{replies_are}
