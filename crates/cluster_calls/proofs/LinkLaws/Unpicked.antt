@@ -44,7 +44,7 @@ some_dispatch links part (Some first) later e = by (is_linked links first.node) 
     by true k = no_front (record { node = first.node; args = part.args }) (later first.picks) k
     by false k = cc
 
-no_parts : (client : Client) (picks : List Address) (parts : List Part) → dispatches client picks parts ≡ Ok [] → parts ≡ []
+pub no_parts : (client : Client) (picks : List Address) (parts : List Part) → dispatches client picks parts ≡ Ok [] → parts ≡ []
 no_parts client picks [] e = refl
 no_parts client picks (part ∷ parts) e = absurd (some_dispatch client.links part (first_of client.entries picks part.target) (λ left. dispatches client left parts) e)
 
