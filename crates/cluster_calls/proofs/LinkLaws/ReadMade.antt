@@ -1,6 +1,6 @@
 -- A read in parts, from the run of its parts and the record that is made of their replies.
 use Rattle.std.specs.Prelude.{MatchResult, filter}
-use Rattle.std.proofs.Common.{◌≡◌, ◌≢◌, ℕ, Bool, true, false, cond, List, [], ◌∷◌, ◌++◌, map, Option, Some, None, option_map, option_and_then, refl, sym, ap, ◌∙◌, subst, Result, Ok, Err}
+use Rattle.std.proofs.Common.{◌≡◌, ◌≢◌, false, cond, List, [], ◌∷◌, ◌++◌, map, Option, Some, None, option_map, option_and_then, refl, sym, ap, ◌∙◌, subst, Result, Ok, Err}
 use Rattle.resp_core.specs.Trees.{Tree}
 use Rattle.resp_core.specs.Errors.{Refusal, by_cause}
 use Rattle.resp_core.specs.declared.errors.redis_error.Cause.TheVariants.{Memory}
@@ -11,7 +11,7 @@ use Rattle.cluster_routing.specs.Policies.{or_bad_reply}
 use Rattle.stream_commands.specs.Join.{all_rows, join}
 use Rattle.stream_commands.specs.ReadReply.{Row, read_reply}
 use Rattle.stream_commands.specs.Settings.{ReadSettings}
-use Rattle.cluster_calls.specs.Links.Events.{taken_of, log_of, exchanges_of, faults_of}
+use Rattle.cluster_calls.specs.Links.Events.{taken_of, exchanges_of}
 use Rattle.cluster_calls.specs.Links.Faults.{LinkFault}
 use Rattle.cluster_calls.specs.Links.Happened.{client_of, is_refresh, log_with_replies, Answered, Happened, CallMade}
 use Rattle.cluster_calls.specs.Links.Log.{Exchange, is_answered, behind_answers}
@@ -28,7 +28,6 @@ use Rattle.cluster_calls.specs.Calls.Reads.{key_places, read_slot, readings, rea
 use Rattle.cluster_calls.specs.Calls.Refusals.{part_refusal, sent_refusal}
 use Rattle.cluster_calls.specs.Calls.Replies.{reply_or_nil}
 use Rattle.cluster_calls.specs.Calls.Task.{read_of, task_of, stream_keys, are_of_one_slot}
-use Rattle.cluster_calls.proofs.LinkLaws.FaultsAgree.{agrees}
 use Rattle.cluster_calls.proofs.LinkLaws.LinkCalls.{AreLinkCalls, link_calls_made}
 use Rattle.cluster_calls.proofs.LinkLaws.MovedLaws.{answered_plain}
 use Rattle.cluster_calls.proofs.LinkLaws.Unpicked.{no_parts}
