@@ -29,3 +29,4 @@ pub mod Stretched
 pub mod FirstCalls
 pub mod ClosedNodes
 pub mod Unpicked
+pub mod ReadMade

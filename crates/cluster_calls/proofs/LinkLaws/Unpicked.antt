@@ -1,7 +1,7 @@
 -- A command that was answered without a request has no parts, and so no picks.
 use Rattle.std.specs.Prelude.{MatchResult, ◌&&◌, filter_map, nat_eq, nat_lt, slice_get}
 use Rattle.std.specs.List.{list_all}
-use Rattle.std.proofs.Common.{arith, ◌≡◌, ◌<◌, ◌≤◌, inl, inr, ltb-true, ℕ, suc, Bool, true, false, cond, List, [], ◌∷◌, ◌++◌, length, Option, Some, None, refl, sym, ap, ◌∙◌, subst, Result, Ok, Err}
+use Rattle.std.proofs.Common.{arith, ◌≡◌, ◌<◌, ◌≤◌, inl, inr, ltb-true, ℕ, suc, Bool, true, false, cond, List, [], ◌∷◌, ◌++◌, length, Option, Some, None, refl, ap, ◌∙◌, subst, Result, Ok, Err}
 use Rattle.std.proofs.lemmas.Bool.{and_parts, false≢true}
 use Rattle.std.proofs.lemmas.Option.{slice_get_cases}
 use Rattle.resp_core.specs.Errors.{Refusal, by_cause}
@@ -44,7 +44,7 @@ some_dispatch links part (Some first) later e = by (is_linked links first.node) 
     by true k = no_front (record { node = first.node; args = part.args }) (later first.picks) k
     by false k = cc
 
-no_parts : (client : Client) (picks : List Address) (parts : List Part) → dispatches client picks parts ≡ Ok [] → parts ≡ []
+pub no_parts : (client : Client) (picks : List Address) (parts : List Part) → dispatches client picks parts ≡ Ok [] → parts ≡ []
 no_parts client picks [] e = refl
 no_parts client picks (part ∷ parts) e = absurd (some_dispatch client.links part (first_of client.entries picks part.target) (λ left. dispatches client left parts) e)
 
