@@ -1,5 +1,5 @@
--- What a client is asked, what it sends for it, and what it answers: from the call to its parts, their first nodes, the redirects
--- behind them, and the answer or the refusal that the replies make.
+-- What a client is asked, what it sends for it, and what it answers: from the call to its parts, their first
+-- nodes, the redirects behind them, and the answer or the refusal that the replies make.
 pub mod Call
 pub mod Task
 pub mod Parts

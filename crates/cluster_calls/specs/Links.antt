@@ -1,5 +1,5 @@
--- What happened at the links: requests and the bytes that go out for them, replies paired with requests, link calls, what became
--- of each node, and what one call and a run of calls did.
+-- What happened at the links: requests and the bytes that go out for them, replies paired with requests, link
+-- calls, what became of each node, and what one call and a run of calls did.
 pub mod Request
 pub mod Reply
 pub mod Log

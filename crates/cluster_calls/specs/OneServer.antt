@@ -1,5 +1,5 @@
--- The claim that a cluster answers like one server: operations and their responses, keyspaces, what commands mean on one server,
--- honest nodes, and the laws.
+-- The claim that a cluster answers like one server: operations and their responses, keyspaces, what commands
+-- mean on one server, honest nodes, and the laws.
 pub mod Operations
 pub mod Keyspace
 pub mod Meaning

@@ -9,6 +9,7 @@ use Rattle.cluster_calls.specs.Links.Happened.{Answered, Happened}
 use Rattle.cluster_calls.specs.Links.World.{World}
 
 -- what happened, and what was answered unless memory was refused
-pub record CommandEnded (strategy : Option Strategy) (old new : World) (call : Call) (answer : Result Answer Refusal) : Type 0 where
+pub record CommandEnded (strategy : Option Strategy) (old new : World) (call : Call)
+    (answer : Result Answer Refusal) : Type 0 where
   pub happened : Happened strategy old new call
   pub answered : answer ≢ Err (by_cause Memory) → Answered strategy old new call happened.events answer

@@ -60,20 +60,25 @@ abbrev pub one_outcome : Result (NodeAddress × Result Value Refusal) Refusal �
 one_outcome (Ok r) = Ok (outcome_of_reply r ∷ [])
 one_outcome (Err refusal) = Err refusal
 
-abbrev pub all_outcomes : Result (Vec (NodeAddress × Result Value Refusal) Global) Refusal → Result (List Outcome) Refusal
+abbrev pub all_outcomes : Result (Vec (NodeAddress × Result Value Refusal) Global) Refusal
+    → Result (List Outcome) Refusal
 all_outcomes (Ok rs) = Ok (map outcome_of_reply rs.items)
 all_outcomes (Err refusal) = Err refusal
 
 -- ---- the run of the nodes
 
--- Each node was sent its request once, in order, and the outcomes are those of its replies and of the links' faults.
-pub record NodesAnswered (ds : List Dispatch) (events : List Event) (result : Result (List Outcome) Refusal) : Type 0 where
+-- Each node was sent its request once, in order, and the outcomes are those of its replies and of the links'
+-- faults.
+pub record NodesAnswered (ds : List Dispatch) (events : List Event)
+    (result : Result (List Outcome) Refusal) : Type 0 where
   pub memory : lack_memory events ≡ false
   pub sent : log_of events ≡ map direct ds
-  pub tells : (faults : Address → LinkFault) → Agrees faults events → (place : ℕ) → result ≡ Ok (outcomes faults (exchanges_of place events))
+  pub tells : (faults : Address → LinkFault) → Agrees faults events → (place : ℕ)
+      → result ≡ Ok (outcomes faults (exchanges_of place events))
 
 -- What the link calls did, also where memory was refused: then their requests are the first of these.
-pub record NodesAsked (old new : World) (ds : List Dispatch) (result : Result (List Outcome) Refusal) : Type 0 where
+pub record NodesAsked (old new : World) (ds : List Dispatch)
+    (result : Result (List Outcome) Refusal) : Type 0 where
   pub events : List Event
   pub runs : Runs old.nodes new.nodes events
   pub stops : StopsAtMemory events
@@ -90,5 +95,6 @@ pub record NodesAsked (old new : World) (ds : List Dispatch) (result : Result (L
 
 -- The reply is made of the outcomes by the command's policy. Memory may be refused when all nodes were asked.
 abbrev pub IsMadeOfOutcomes : Command → Result (List Outcome) Refusal → Result Tree Refusal → Type 0
-IsMadeOfOutcomes command (Ok os) reply = reply ≢ Err (by_cause Memory) → reply ≡ reply_by_outcomes (policy_in (destination command.args [])) os
+IsMadeOfOutcomes command (Ok os) reply = reply ≢ Err (by_cause Memory)
+    → reply ≡ reply_by_outcomes (policy_in (destination command.args [])) os
 IsMadeOfOutcomes command (Err refusal) reply = reply ≡ Err refusal

@@ -8,7 +8,8 @@ use Rattle.cluster_calls.specs.Links.World.{Node, World, is_linked, open_links}
 -- the nodes with this link to one of them: in the place of the one that it has, else behind the others
 abbrev pub put_link : List Node → Address → Seen → List Node
 put_link [] a link = record { address = a; link = link } ∷ []
-put_link (n ∷ ns) a link = if same_address n.address a then record { address = n.address; link = link } ∷ ns else n ∷ put_link ns a link
+put_link (n ∷ ns) a link = if same_address n.address a then record { address = n.address; link = link } ∷ ns
+    else n ∷ put_link ns a link
 
 -- a client with this link to a node, and all else as it was
 abbrev pub with_link : World → Address → Seen → World

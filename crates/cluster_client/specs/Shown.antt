@@ -26,7 +26,8 @@ abbrev pub streams_in : List (Vec ℕ Global × Vec ℕ Global) → List Stream
 streams_in ps = map (λ p. record { key = p.0.items; id = p.1.items }) ps
 
 abbrev pub claimant_in : CodeClaimant → Claimant
-claimant_in c = record { key = c.key.items; group = c.group.items; consumer = c.consumer.items; min_idle = c.min_idle }
+claimant_in c = record
+    { key = c.key.items; group = c.group.items; consumer = c.consumer.items; min_idle = c.min_idle }
 
 abbrev pub call_in : CodeCall → Call
 call_in (calls.Refresh node) = Refresh (address node)
@@ -38,8 +39,10 @@ call_in (calls.Xadd key options id fields) = OnStreams (Xadd key.items options i
 call_in (calls.Xtrim key options) = OnStreams (Xtrim key.items options)
 call_in (calls.Xread streams options) = OnStreams (Xread (streams_in streams.items) options)
 call_in (calls.Xrange key start end) = OnStreams (Xrange key.items start.items end.items)
-call_in (calls.Xclaim claimant ids options) = OnStreams (Xclaim (claimant_in claimant) (texts ids.items) options)
-call_in (calls.Xautoclaim claimant start options) = OnStreams (Xautoclaim (claimant_in claimant) start.items options)
+call_in (calls.Xclaim claimant ids options) = OnStreams
+    (Xclaim (claimant_in claimant) (texts ids.items) options)
+call_in (calls.Xautoclaim claimant start options) = OnStreams
+    (Xautoclaim (claimant_in claimant) start.items options)
 call_in (calls.Xpending key group) = OnStreams (Xpending key.items group.items)
 call_in (calls.XinfoStream key) = OnStreams (XinfoStream key.items)
 call_in (calls.XinfoGroups key) = OnStreams (XinfoGroups key.items)

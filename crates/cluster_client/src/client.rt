@@ -87,8 +87,12 @@ impl<L: ConnectionLike + Drop> ClusterClient<L> {
         read_only: Vec<Vec<u8>>,
         budget: u16,
     ) -> Result<ClusterClient<L>, RedisError>
-        ensures made { IfOk result (λ client. whole L.seen client ≡ new_world (nodes L.seen links.items) (record { budget = budget; read_only = texts read_only.items })) }
-        ensures repeated { (result ≡ Err (by_cause RepeatedAddress)) ↔ (has_repeats (addresses_of (nodes L.seen links.items)) ≡ true) }
+        ensures made { IfOk result
+            (λ client. whole L.seen client
+            ≡ new_world (nodes L.seen links.items)
+            (record { budget = budget; read_only = texts read_only.items })) }
+        ensures repeated { (result ≡ Err (by_cause RepeatedAddress))
+            ↔ (has_repeats (addresses_of (nodes L.seen links.items)) ≡ true) }
         ensures only { IfErr result (λ e. e ≡ by_cause RepeatedAddress) }
     {
         let links = Links { nodes: links };
@@ -113,7 +117,8 @@ impl<L: ConnectionLike + Drop> ClusterClient<L> {
     /// holds one; `Io` and `Parse` where the link failed, which is closed then; `Memory`. Each
     /// leaves the slot map and `needs_refresh` as they were. No redirect is followed.
     pub fn refresh(&mut self, alloc: Global, node: &NodeAddress) -> Result<(), RedisError>
-        ensures made { CallMade None (whole L.seen self.old) (whole L.seen self.new) (Refresh (address node.now)) (refresh_answer result) }
+        ensures made { CallMade None (whole L.seen self.old) (whole L.seen self.new)
+            (Refresh (address node.now)) (refresh_answer result) }
         ensures picks { (whole L.seen self.new).picked ≡ [] }
     {
         self.asked = Vec::new(alloc);
@@ -174,10 +179,13 @@ impl<L: ConnectionLike + Drop> ClusterClient<L> {
         strategy: Option<&dyn ReadRoutingStrategy>,
     ) -> Result<T, RedisError>
         // What happened, also where memory is refused.
-        ensures happened { Happened (option_map (λ s. admits s.now) strategy.entry) (whole L.seen self.old) (whole L.seen self.new) (Query cmd.now number) }
+        ensures happened { Happened (option_map (λ s. admits s.now) strategy.entry) (whole L.seen self.old)
+            (whole L.seen self.new) (Query cmd.now number) }
         ensures answered { result ≢ Err (by_cause Memory)
-            → ValueMade (option_map (λ s. admits s.now) strategy.entry) (whole L.seen self.old) (whole L.seen self.new) (Query cmd.now number) T.meaning T.convert result }
-        ensures unpicked { result ≡ Err (by_cause Memory) → (whole L.seen self.new).log ≡ [] → (whole L.seen self.new).picked ≡ [] }
+            → ValueMade (option_map (λ s. admits s.now) strategy.entry) (whole L.seen self.old)
+            (whole L.seen self.new) (Query cmd.now number) T.meaning T.convert result }
+        ensures unpicked { result ≡ Err (by_cause Memory) → (whole L.seen self.new).log ≡ []
+            → (whole L.seen self.new).picked ≡ [] }
     {
         let reply = self.reply_to(alloc, cmd, number, strategy)?;
         Ok(from_redis_value(alloc, reply)?)
@@ -191,7 +199,8 @@ impl<L: ConnectionLike + Drop> ClusterClient<L> {
         number: u64,
         strategy: Option<&dyn ReadRoutingStrategy>,
     ) -> Result<Value, RedisError>
-        ensures { CallMade (option_map (λ s. admits s.now) strategy.entry) (whole L.seen self.old) (whole L.seen self.new) (Query cmd.now number) (value_answer (tree_result view result)) }
+        ensures { CallMade (option_map (λ s. admits s.now) strategy.entry) (whole L.seen self.old)
+            (whole L.seen self.new) (Query cmd.now number) (value_answer (tree_result view result)) }
     {
         self.reply_in_order(alloc, cmd, None, number, strategy)
     }
@@ -205,8 +214,10 @@ impl<L: ConnectionLike + Drop> ClusterClient<L> {
         number: u64,
         strategy: Option<&dyn ReadRoutingStrategy>,
     ) -> Result<Value, RedisError>
-        ensures { CallMade (option_map (λ s. admits s.now) strategy.entry) (whole L.seen self.old) (whole L.seen self.new)
-            (command_call cmd.now (option_map (λ o. o.now) order.entry) number) (value_answer (tree_result view result)) }
+        ensures { CallMade (option_map (λ s. admits s.now) strategy.entry) (whole L.seen self.old)
+            (whole L.seen self.new)
+            (command_call cmd.now (option_map (λ o. o.now) order.entry) number)
+            (value_answer (tree_result view result)) }
     {
         let reply = self.reply_with_picks(alloc, cmd, order, number, strategy);
         self.unpick(&reply);
@@ -222,8 +233,10 @@ impl<L: ConnectionLike + Drop> ClusterClient<L> {
         number: u64,
         strategy: Option<&dyn ReadRoutingStrategy>,
     ) -> Result<Value, RedisError>
-        ensures { CommandEnded (option_map (λ s. admits s.now) strategy.entry) (whole L.seen self.old) (whole L.seen self.new)
-            (command_call cmd.now (option_map (λ o. o.now) order.entry) number) (value_answer (tree_result view result)) }
+        ensures { CommandEnded (option_map (λ s. admits s.now) strategy.entry) (whole L.seen self.old)
+            (whole L.seen self.new)
+            (command_call cmd.now (option_map (λ o. o.now) order.entry) number)
+            (value_answer (tree_result view result)) }
     {
         let Prepared { dispatches, split } = self.prepare(alloc, cmd, order, number, strategy)?;
         let replies = self.follow_all(alloc, dispatches)?;
@@ -232,9 +245,12 @@ impl<L: ConnectionLike + Drop> ClusterClient<L> {
 
     /// Forgets the picks where memory was refused before a request was written down.
     fn unpick(&mut self, reply: &Result<Value, RedisError>)
-        ensures stays { whole L.seen self.new ≡ with_log (whole L.seen self.old) (whole L.seen self.old).log (addresses self.new.picked.items) }
-        ensures forgotten { reply.now ≡ Err (by_cause Memory) → (whole L.seen self.old).log ≡ [] → addresses self.new.picked.items ≡ [] }
-        ensures kept { (reply.now ≡ Err (by_cause Memory) → (whole L.seen self.old).log ≢ []) → addresses self.new.picked.items ≡ addresses self.old.picked.items }
+        ensures stays { whole L.seen self.new
+            ≡ with_log (whole L.seen self.old) (whole L.seen self.old).log (addresses self.new.picked.items) }
+        ensures forgotten { reply.now ≡ Err (by_cause Memory) → (whole L.seen self.old).log ≡ []
+            → addresses self.new.picked.items ≡ [] }
+        ensures kept { (reply.now ≡ Err (by_cause Memory) → (whole L.seen self.old).log ≢ [])
+            → addresses self.new.picked.items ≡ addresses self.old.picked.items }
     {
         if self.asked.is_empty() && lacks_memory(reply) {
             self.picked = Vec::new(*self.picked.allocator());
@@ -251,11 +267,18 @@ impl<L: ConnectionLike + Drop> ClusterClient<L> {
         number: u64,
         strategy: Option<&dyn ReadRoutingStrategy>,
     ) -> Result<Prepared, RedisError>
-        ensures stays { whole L.seen self.new ≡ with_log (whole L.seen self.old) [] (addresses self.new.picked.items) }
-        ensures planned { result ≢ Err (by_cause Memory) → IsPlanned (option_map (λ s. admits s.now) strategy.entry) (client_of (whole L.seen self.old)) (command_call cmd.now (option_map (λ o. o.now) order.entry) number)
+        ensures stays { whole L.seen self.new
+            ≡ with_log (whole L.seen self.old) [] (addresses self.new.picked.items) }
+        ensures planned { result ≢ Err (by_cause Memory)
+            → IsPlanned (option_map (λ s. admits s.now) strategy.entry) (client_of (whole L.seen self.old))
+            (command_call cmd.now (option_map (λ o. o.now) order.entry) number)
             (addresses self.new.picked.items) (prepared_by result) }
-        ensures placed { IfOk result (λ p. AllByRecursion (IsPlaced (nodes L.seen self.new.links.nodes.items)) p.dispatches.items) }
-        ensures split { IfOk result (λ p. option_map shown_split p.split ≡ option_map (routes_in_order (option_map (λ o. o.now) order.entry)) (parts_by_place cmd.now.args (texts self.new.read_only.items))) }
+        ensures placed { IfOk result
+            (λ p. AllByRecursion (IsPlaced (nodes L.seen self.new.links.nodes.items)) p.dispatches.items) }
+        ensures split { IfOk result
+            (λ p. option_map shown_split p.split
+            ≡ option_map (routes_in_order (option_map (λ o. o.now) order.entry))
+            (parts_by_place cmd.now.args (texts self.new.read_only.items))) }
     {
         self.asked = Vec::new(alloc);
         self.picked = Vec::new(alloc);
@@ -278,7 +301,8 @@ impl<L: ConnectionLike + Drop> ClusterClient<L> {
     /// that is refused.
     fn follow_all(&mut self, alloc: Global, parts: Vec<Dispatch>) -> Result<Vec<Value>, RedisError>
         requires { AllByRecursion (IsPlaced (nodes L.seen self.old.links.nodes.items)) parts.items }
-        ensures { PartsMade (whole L.seen self.old) (whole L.seen self.new) (map dispatch_of parts.items) (tree_results view result) }
+        ensures { PartsMade (whole L.seen self.old) (whole L.seen self.new) (map dispatch_of parts.items)
+            (tree_results view result) }
     {
         let requests = make_all_ready(alloc, &mut self.asked, parts)?;
         let mut unanswered = requests.len();
@@ -294,11 +318,13 @@ impl<L: ConnectionLike + Drop> ClusterClient<L> {
     /// The reply to one part that goes to its place first, behind its redirects. The log has room for so
     /// many parts, this one among them, and when it is answered for the others.
     fn follow(&mut self, alloc: Global, first: Ready, parts: usize) -> Result<Value, RedisError>
-        requires place { IsOpenAt (nodes L.seen self.old.links.nodes.items) (address first.dispatch.place.node) first.dispatch.place.which }
+        requires place { IsOpenAt (nodes L.seen self.old.links.nodes.items)
+            (address first.dispatch.place.node) first.dispatch.place.which }
         requires within { first.dispatch.place.which < vec_len self.old.links.nodes }
         requires some { 0 < parts }
         requires room { vec_len self.old.asked + parts ≤ vec_capacity self.old.asked }
-        ensures made { ChainMade (whole L.seen self.old) (whole L.seen self.new) (hop_to first.dispatch.place) (texts first.dispatch.args.items) (tree_result view result) }
+        ensures made { ChainMade (whole L.seen self.old) (whole L.seen self.new) (hop_to first.dispatch.place)
+            (texts first.dispatch.args.items) (tree_result view result) }
         ensures room { OnOk result (vec_len self.new.asked + parts ≤ vec_capacity self.new.asked + 1) }
     {
         let mut request = first;
@@ -360,7 +386,8 @@ impl<L: ConnectionLike + Drop> ClusterClient<L> {
 
     /// The link to a node.
     pub fn link(&self, node: &NodeAddress) -> Option<&L>
-        ensures { option_map (λ link. L.seen link.now) result ≡ link_at (whole L.seen self.now).nodes (address node.now) }
+        ensures { option_map (λ link. L.seen link.now) result
+            ≡ link_at (whole L.seen self.now).nodes (address node.now) }
     {
         match self.links.place_of(node) {
             Some(which) => Some(&self.links.nodes[which].1),
@@ -370,7 +397,9 @@ impl<L: ConnectionLike + Drop> ClusterClient<L> {
 
     /// The pushes that were set aside at a node's link; `None` where there is no such link.
     pub fn pushes(&self, node: &NodeAddress) -> Option<&[PushInfo]>
-        ensures { option_map (λ pushes. map push_view pushes.now) result ≡ option_map (λ (link : Seen). link.pushes) (link_at (whole L.seen self.now).nodes (address node.now)) }
+        ensures { option_map (λ pushes. map push_view pushes.now) result
+            ≡ option_map (λ (link : Seen). link.pushes)
+            (link_at (whole L.seen self.now).nodes (address node.now)) }
     {
         match self.link(node) {
             Some(link) => Some(link.pushes()),
@@ -380,7 +409,8 @@ impl<L: ConnectionLike + Drop> ClusterClient<L> {
 
     /// Whether a node's link is usable; `None` where there is no such link.
     pub fn link_state(&self, node: &NodeAddress) -> Option<bool>
-        ensures { result ≡ option_map (λ (link : Seen). link.usable) (link_at (whole L.seen self.now).nodes (address node.now)) }
+        ensures { result ≡ option_map (λ (link : Seen). link.usable)
+            (link_at (whole L.seen self.now).nodes (address node.now)) }
     {
         match self.link(node) {
             Some(link) => Some(link.is_open()),

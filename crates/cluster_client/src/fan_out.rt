@@ -48,7 +48,9 @@ fn nodes_named<'a>(
     slots: &'a SlotMap,
     info: &Option<RoutingInfo>,
 ) -> Result<Option<Vec<&'a NodeAddress>>, AllocError>
-    ensures { IfOk result (λ o. option_map (λ v. map (λ a. address a.now) v.items) o ≡ nodes_named slots.now (option_map shown_info info.now)) }
+    ensures { IfOk result
+        (λ o. option_map (λ v. map (λ a. address a.now) v.items) o
+        ≡ nodes_named slots.now (option_map shown_info info.now)) }
 {
     match info {
         Some(RoutingInfo::MultiNode((MultipleNodeRoutingInfo::AllNodes, _))) => Ok(Some(
@@ -81,7 +83,10 @@ fn dispatch_to<L: ConnectionLike>(
     node: &NodeAddress,
     cmd: &Cmd,
 ) -> Result<Dispatch, RedisError>
-    ensures node { result ≢ Err (by_cause Memory) → node_by (λ d. address d.place.node) result ≡ node_with_link (open_links (nodes L.seen links.now.nodes.items)) (first_of [] [] (at_node (address node.now))) }
+    ensures node { result ≢ Err (by_cause Memory)
+        → node_by (λ d. address d.place.node) result
+        ≡ node_with_link (open_links (nodes L.seen links.now.nodes.items))
+        (first_of [] [] (at_node (address node.now))) }
     ensures args { IfOk result (λ d. texts d.args.items ≡ sent cmd.now) }
     ensures placed { IfOk result (λ d. IsPlaced (nodes L.seen links.now.nodes.items) d) }
 {
@@ -109,9 +114,13 @@ fn dispatches_to<L: ConnectionLike>(
     addresses: Vec<&NodeAddress>,
     cmd: &Cmd,
 ) -> Result<Vec<Dispatch>, RedisError>
-    ensures dispatched { result ≢ Err (by_cause Memory) → (strategy : Option Strategy) (client : Client) → client.links ≡ open_links (nodes L.seen links.now.nodes.items)
-        → AreDispatched strategy client (parts_to_nodes (sent cmd.now) (map (λ a. address a.now) addresses.entry.items)) [] (dispatches_of result) }
-    ensures placed { IfOk result (λ v. AllByRecursion (IsPlaced (nodes L.seen links.now.nodes.items)) v.items) }
+    ensures dispatched { result ≢ Err (by_cause Memory) → (strategy : Option Strategy) (client : Client)
+        → client.links ≡ open_links (nodes L.seen links.now.nodes.items)
+        → AreDispatched strategy client
+        (parts_to_nodes (sent cmd.now) (map (λ a. address a.now) addresses.entry.items)) []
+        (dispatches_of result) }
+    ensures placed { IfOk result
+        (λ v. AllByRecursion (IsPlaced (nodes L.seen links.now.nodes.items)) v.items) }
 {
     let mut all = Vec::new(alloc);
     'nodes: for node in addresses {
@@ -142,9 +151,12 @@ fn node_dispatches<L: ConnectionLike>(
     read_only: &[Vec<u8>],
     cmd: &Cmd,
 ) -> Result<NodeDispatches, RedisError>
-    ensures planned { result ≢ Err (by_cause Memory) → (strategy : Option Strategy) (client : Client) → client.links ≡ open_links (nodes L.seen links.now.nodes.items)
-        → client.entries ≡ slots.now → client.settings.read_only ≡ texts read_only.now → IsPlanned strategy client (FanOut cmd.now) [] (listed_by result) }
-    ensures placed { IfOk result (λ n. AllByRecursion (IsPlaced (nodes L.seen links.now.nodes.items)) n.list.items) }
+    ensures planned { result ≢ Err (by_cause Memory) → (strategy : Option Strategy) (client : Client)
+        → client.links ≡ open_links (nodes L.seen links.now.nodes.items)
+        → client.entries ≡ slots.now → client.settings.read_only ≡ texts read_only.now
+        → IsPlanned strategy client (FanOut cmd.now) [] (listed_by result) }
+    ensures placed { IfOk result
+        (λ n. AllByRecursion (IsPlaced (nodes L.seen links.now.nodes.items)) n.list.items) }
     ensures policy { IfOk result (λ n. n.policy ≡ policy_in (destination cmd.now.args [])) }
 {
     if cmd.is_no_response() {
@@ -175,7 +187,8 @@ struct Question {
 /// The requests with the addresses of their nodes.
 fn questions(alloc: Global, requests: Vec<Ready>) -> Result<Vec<Question>, AllocError>
     ensures len { IfOk result (λ v. vec_len v ≡ vec_len requests) }
-    ensures same { IfOk result (λ v. map (λ q. q.request.dispatch) v.items ≡ map (λ r. r.dispatch) requests.items) }
+    ensures same { IfOk result
+        (λ v. map (λ q. q.request.dispatch) v.items ≡ map (λ r. r.dispatch) requests.items) }
 {
     let mut all = Vec::new(alloc);
     'requests: for request in requests {
@@ -251,7 +264,8 @@ fn reply_of_nodes(
     policy: Option<ResponsePolicy>,
     outcomes: Vec<(NodeAddress, Result<Value, RedisError>)>,
 ) -> Result<Value, RedisError>
-    ensures { result ≢ Err (by_cause Memory) → tree_or_refusal result ≡ reply_by_outcomes policy (outcomes_of outcomes.items) }
+    ensures { result ≢ Err (by_cause Memory)
+        → tree_or_refusal result ≡ reply_by_outcomes policy (outcomes_of outcomes.items) }
 {
     match policy {
         None => Err(RedisError::from(Cause::UnexpectedReturnType)),
@@ -277,7 +291,9 @@ impl<L: ConnectionLike + Drop> ClusterClient<L> {
     /// there is no policy or the replies have not the shape that becomes one. `Memory`, behind the first
     /// byte only in a link call, which asks no further node, or for the answer.
     pub fn fan_out(&mut self, alloc: Global, cmd: &Cmd) -> Result<Value, RedisError>
-        ensures { (strategy : Option Strategy) → CallMade strategy (whole L.seen self.old) (whole L.seen self.new) (FanOut cmd.now) (value_answer (tree_result view result)) }
+        ensures { (strategy : Option Strategy)
+            → CallMade strategy (whole L.seen self.old) (whole L.seen self.new) (FanOut cmd.now)
+            (value_answer (tree_result view result)) }
     {
         self.asked = Vec::new(alloc);
         self.picked = Vec::new(alloc);
@@ -299,9 +315,11 @@ impl<L: ConnectionLike + Drop> ClusterClient<L> {
         alloc: Global,
         dispatches: Vec<Dispatch>,
     ) -> Result<Vec<(NodeAddress, Result<Value, RedisError>)>, RedisError>
-        requires placed { AllByRecursion (IsPlaced (nodes L.seen self.old.links.nodes.items)) dispatches.items }
+        requires placed { AllByRecursion
+            (IsPlaced (nodes L.seen self.old.links.nodes.items)) dispatches.items }
         requires apart { IsDistinct same_address (map (λ d. address d.place.node) dispatches.items) }
-        ensures { NodesAsked (whole L.seen self.old) (whole L.seen self.new) (map dispatch_of dispatches.items) (all_outcomes result) }
+        ensures { NodesAsked (whole L.seen self.old) (whole L.seen self.new)
+            (map dispatch_of dispatches.items) (all_outcomes result) }
     {
         let requests = make_all_ready(alloc, &mut self.asked, dispatches)?;
         let questions = questions(alloc, requests)?;
@@ -321,7 +339,8 @@ impl<L: ConnectionLike + Drop> ClusterClient<L> {
     ) -> Result<(NodeAddress, Result<Value, RedisError>), RedisError>
         requires placed { IsPlaced (nodes L.seen self.old.links.nodes.items) question.request.dispatch }
         requires room { vec_len self.old.asked < vec_capacity self.old.asked }
-        ensures asked { NodesAsked (whole L.seen self.old) (whole L.seen self.new) (dispatch_of question.request.dispatch ∷ []) (one_outcome result) }
+        ensures asked { NodesAsked (whole L.seen self.old) (whole L.seen self.new)
+            (dispatch_of question.request.dispatch ∷ []) (one_outcome result) }
         ensures log_len { vec_len self.new.asked ≡ vec_len self.old.asked + 1 }
         ensures log_capacity { vec_capacity self.old.asked ≤ vec_capacity self.new.asked }
     {

@@ -76,7 +76,9 @@ impl ClusterPipeline {
     ///
     /// It is refused only for want of memory, and then changes nothing.
     pub fn add_command(&mut self, command: Cmd) -> Result<(), AllocError>
-        ensures { self.new ≡ (if is_ok result then self.old ++ record { command = command; ignored = false } ∷ [] else self.old) }
+        ensures { self.new ≡
+            (if is_ok result then self.old ++ record { command = command; ignored = false } ∷ []
+            else self.old) }
     {
         self.commands.push(PipelineCommand {
             command,
@@ -89,7 +91,10 @@ impl ClusterPipeline {
     ///
     /// It is refused only for want of memory, and then changes nothing.
     pub fn cmd(&mut self, alloc: Global, name: &str) -> Result<(), AllocError>
-        ensures { self.new ≡ (if is_ok result then self.old ++ record { command = record new_command { args = Simple name.now ∷ [] }; ignored = false } ∷ [] else self.old) }
+        ensures { self.new ≡
+            (if is_ok result then self.old
+            ++ record { command = record new_command { args = Simple name.now ∷ [] }; ignored = false } ∷ []
+            else self.old) }
     {
         self.add_command(command::cmd(alloc, name)?)
     }
@@ -101,7 +106,8 @@ impl ClusterPipeline {
     where
         T: Drop,
         requires { self.old ≢ [] }
-        ensures { self.new ≡ (if is_ok result then with_last (with_args (map Simple (T.args arg))) self.old else self.old) }
+        ensures { self.new ≡
+            (if is_ok result then with_last (with_args (map Simple (T.args arg))) self.old else self.old) }
     {
         let last = self.commands.len() - 1;
         self.commands[last].command.arg(arg)

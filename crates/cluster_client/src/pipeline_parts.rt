@@ -17,7 +17,8 @@ use std::alloc::Global;
 /// The route to the primary of the one slot that all of these parts go to; none where there are
 /// several parts, or where any node may serve the one.
 fn primary_route(parts: &[Part]) -> Option<Route>
-    ensures { (args : List (List ℕ)) → option_map (whole_by args) result ≡ whole_part args (Ok (map part_of parts.now)) }
+    ensures { (args : List (List ℕ))
+        → option_map (whole_by args) result ≡ whole_part args (Ok (map part_of parts.now)) }
 {
     match parts {
         [
@@ -32,7 +33,9 @@ fn primary_route(parts: &[Part]) -> Option<Route>
 
 /// The route to the primary of the one slot that a command goes to whole; none for any other command.
 fn whole_route(alloc: Global, command: &Cmd) -> Result<Option<Route>, RedisError>
-    ensures route { IfOk result (λ o. option_map (whole_by (sent command.now)) o ≡ whole_part (sent command.now) (parts_of [] command.now 0)) }
+    ensures route { IfOk result
+        (λ o. option_map (whole_by (sent command.now)) o
+        ≡ whole_part (sent command.now) (parts_of [] command.now 0)) }
     ensures only { IfErr result (λ e. e ≡ by_cause Memory) }
 {
     match parts_of(alloc, command, &[], 0) {
@@ -46,7 +49,8 @@ fn whole_route(alloc: Global, command: &Cmd) -> Result<Option<Route>, RedisError
 
 /// The part that a command is whole; none for one that does not go whole to one slot.
 fn whole_part(alloc: Global, command: &Cmd) -> Result<Option<Part>, RedisError>
-    ensures part { IfOk result (λ o. option_map part_of o ≡ whole_part (sent command.now) (parts_of [] command.now 0)) }
+    ensures part { IfOk result
+        (λ o. option_map part_of o ≡ whole_part (sent command.now) (parts_of [] command.now 0)) }
     ensures only { IfErr result (λ e. e ≡ by_cause Memory) }
 {
     let Some(route) = whole_route(alloc, command)? else {

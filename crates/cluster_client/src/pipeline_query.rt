@@ -38,8 +38,11 @@ impl<L: ConnectionLike + Drop> ClusterClient<L> {
         commands: &[PipelineCommand],
     ) -> Result<Vec<Dispatch>, RedisError>
         ensures stays { whole L.seen self.new ≡ with_log (whole L.seen self.old) [] [] }
-        ensures planned { result ≢ Err (by_cause Memory) → (strategy : Option Strategy) → IsPlanned strategy (client_of (whole L.seen self.old)) (Pipeline commands.now) [] (dispatches_of result) }
-        ensures placed { IfOk result (λ v. AllByRecursion (IsPlaced (nodes L.seen self.new.links.nodes.items)) v.items) }
+        ensures planned { result ≢ Err (by_cause Memory) → (strategy : Option Strategy)
+            → IsPlanned strategy (client_of (whole L.seen self.old)) (Pipeline commands.now) []
+            (dispatches_of result) }
+        ensures placed { IfOk result
+            (λ v. AllByRecursion (IsPlaced (nodes L.seen self.new.links.nodes.items)) v.items) }
         ensures room { IfOk result (λ v. vec_len self.new.asked + vec_len v ≤ vec_capacity self.new.asked) }
     {
         self.asked = Vec::new(alloc);
@@ -56,7 +59,8 @@ impl<L: ConnectionLike + Drop> ClusterClient<L> {
         requires within { group.which < vec_len self.old.links.nodes }
         requires room { vec_len self.old.asked + vec_len group.requests ≤ vec_capacity self.old.asked }
         ensures len { vec_len self.new.links.nodes ≡ vec_len self.old.links.nodes }
-        ensures exchanged { GroupExchanged (whole L.seen self.old) (whole L.seen self.new) group.which group.requests.items (tree_results view result) }
+        ensures exchanged { GroupExchanged (whole L.seen self.old)
+            (whole L.seen self.new) group.which group.requests.items (tree_results view result) }
         ensures log_len { vec_len self.new.asked ≡ vec_len self.old.asked + vec_len group.requests }
         ensures log_capacity { vec_capacity self.old.asked ≤ vec_capacity self.new.asked }
     {
@@ -71,9 +75,12 @@ impl<L: ConnectionLike + Drop> ClusterClient<L> {
         alloc: Global,
         groups: Vec<Group>,
     ) -> Result<Vec<Answered<Value>>, RedisError>
-        requires placed { AllByRecursion (λ g. IsGroupPlaced (nodes L.seen self.old.links.nodes.items) (group_of g)) groups.items }
-        requires room { vec_len self.old.asked + request_count (map group_of groups.items) ≤ vec_capacity self.old.asked }
-        ensures { GroupsMade (whole L.seen self.old) (whole L.seen self.new) (map group_of groups.items) (answers_of view result) }
+        requires placed { AllByRecursion
+            (λ g. IsGroupPlaced (nodes L.seen self.old.links.nodes.items) (group_of g)) groups.items }
+        requires room { vec_len self.old.asked
+            + request_count (map group_of groups.items) ≤ vec_capacity self.old.asked }
+        ensures { GroupsMade (whole L.seen self.old) (whole L.seen self.new) (map group_of groups.items)
+            (answers_of view result) }
     {
         let mut answered = Vec::with_capacity(alloc, groups.len())?;
         'groups: for group in groups {
@@ -90,7 +97,9 @@ impl<L: ConnectionLike + Drop> ClusterClient<L> {
         alloc: Global,
         commands: &[PipelineCommand],
     ) -> Result<Value, RedisError>
-        ensures { (strategy : Option Strategy) → CallMade strategy (whole L.seen self.old) (whole L.seen self.new) (Pipeline commands.now) (value_answer (tree_result view result)) }
+        ensures { (strategy : Option Strategy)
+            → CallMade strategy (whole L.seen self.old) (whole L.seen self.new) (Pipeline commands.now)
+            (value_answer (tree_result view result)) }
     {
         let dispatches = self.pipeline_dispatches(alloc, commands)?;
         let count = self.links.nodes.len();
@@ -132,10 +141,13 @@ impl ClusterPipeline {
         client: &mut ClusterClient<L>,
     ) -> Result<T, RedisError>
         // What happened, also where memory is refused. No strategy is asked: it holds for each.
-        ensures happened { (strategy : Option Strategy) → Happened strategy (whole L.seen client.old) (whole L.seen client.new) (Pipeline self.now) }
+        ensures happened { (strategy : Option Strategy)
+            → Happened strategy (whole L.seen client.old) (whole L.seen client.new) (Pipeline self.now) }
         ensures answered { result ≢ Err (by_cause Memory) → (strategy : Option Strategy)
-            → ValueMade strategy (whole L.seen client.old) (whole L.seen client.new) (Pipeline self.now) T.meaning T.convert result }
-        ensures unpicked { result ≡ Err (by_cause Memory) → (whole L.seen client.new).log ≡ [] → (whole L.seen client.new).picked ≡ [] }
+            → ValueMade strategy (whole L.seen client.old) (whole L.seen client.new)
+            (Pipeline self.now) T.meaning T.convert result }
+        ensures unpicked { result ≡ Err (by_cause Memory) → (whole L.seen client.new).log ≡ []
+            → (whole L.seen client.new).picked ≡ [] }
     {
         let reply = client.reply_to_pipeline(alloc, self.commands())?;
         Ok(from_redis_value(alloc, reply)?)

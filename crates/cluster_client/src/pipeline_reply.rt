@@ -42,7 +42,9 @@ fn add_error(
     position: usize,
     reply: &Value,
 ) -> Result<(), AllocError>
-    ensures { OnOk result (errors_at errors.new.items ≡ errors_at errors.old.items ++ with_error position (first_error (view reply.now)) []) }
+    ensures { OnOk result
+        (errors_at errors.new.items ≡ errors_at errors.old.items
+        ++ with_error position (first_error (view reply.now)) []) }
 {
     if let Some(error) = reply.first_error() {
         errors.push((position, error.clone()?))?;
@@ -62,7 +64,9 @@ fn errors_in(alloc: Global, replies: &[Value]) -> Result<Vec<(usize, ServerError
 }
 
 fn keep(replies: &mut Vec<Value>, reply: Value, ignored: bool) -> Result<(), AllocError>
-    ensures { OnOk result (map view replies.new.items ≡ (if ignored then map view replies.old.items else map view replies.old.items ++ view reply ∷ [])) }
+    ensures { OnOk result
+        (map view replies.new.items
+        ≡ (if ignored then map view replies.old.items else map view replies.old.items ++ view reply ∷ [])) }
 {
     if !ignored {
         replies.push(reply)?;
@@ -99,7 +103,8 @@ pub(crate) fn reply_of_pipeline(
     commands: &[PipelineCommand],
     replies: Vec<Value>,
 ) -> Result<Value, RedisError>
-    ensures { result ≢ Err (by_cause Memory) → tree_result view result ≡ pipeline_result commands.now (map view replies.items) }
+    ensures { result ≢ Err (by_cause Memory)
+        → tree_result view result ≡ pipeline_result commands.now (map view replies.items) }
 {
     let mut errors = errors_in(alloc, &replies)?;
     if !errors.is_empty() {

@@ -155,7 +155,8 @@ impl<L: ConnectionLike + Drop> ClusterClient<L> {
         call: &Call,
         strategy: Option<&dyn ReadRoutingStrategy>,
     ) -> Played
-        ensures { PlaysOne (option_map (λ s. admits s.now) strategy.entry) (whole L.seen self.old) (whole L.seen self.new) (call_in call.now) (shown result) }
+        ensures { PlaysOne (option_map (λ s. admits s.now) strategy.entry) (whole L.seen self.old)
+            (whole L.seen self.new) (call_in call.now) (shown result) }
     {
         let answer = self.answer_to(alloc, call, strategy);
         let asked = std::mem::replace(&mut self.asked, Vec::new(alloc));
@@ -169,7 +170,8 @@ impl<L: ConnectionLike + Drop> ClusterClient<L> {
         call: &Call,
         strategy: Option<&dyn ReadRoutingStrategy>,
     ) -> Result<Answer, RedisError>
-        ensures { CallMade (option_map (λ s. admits s.now) strategy.entry) (whole L.seen self.old) (whole L.seen self.new) (call_in call.now) (answer_result result) }
+        ensures { CallMade (option_map (λ s. admits s.now) strategy.entry) (whole L.seen self.old)
+            (whole L.seen self.new) (call_in call.now) (answer_result result) }
     {
         match call {
             Call::Refresh(node) => self.answer_to_refresh(alloc, node),
@@ -215,7 +217,9 @@ impl<L: ConnectionLike + Drop> ClusterClient<L> {
     }
 
     fn answer_to_refresh(&mut self, alloc: Global, node: &NodeAddress) -> Result<Answer, RedisError>
-        ensures { (strategy : Option Strategy) → CallMade strategy (whole L.seen self.old) (whole L.seen self.new) (Refresh (address node.now)) (answer_result result) }
+        ensures { (strategy : Option Strategy)
+            → CallMade strategy (whole L.seen self.old) (whole L.seen self.new) (Refresh (address node.now))
+            (answer_result result) }
     {
         self.refresh(alloc, node)?;
         Ok(Answer::Refreshed)
@@ -228,7 +232,8 @@ impl<L: ConnectionLike + Drop> ClusterClient<L> {
         number: u64,
         strategy: Option<&dyn ReadRoutingStrategy>,
     ) -> Result<Answer, RedisError>
-        ensures { CallMade (option_map (λ s. admits s.now) strategy.entry) (whole L.seen self.old) (whole L.seen self.new) (Query cmd.now number) (answer_result result) }
+        ensures { CallMade (option_map (λ s. admits s.now) strategy.entry) (whole L.seen self.old)
+            (whole L.seen self.new) (Query cmd.now number) (answer_result result) }
     {
         let reply = self.reply_to(alloc, cmd, number, strategy)?;
         Ok(Answer::Value(reply))
@@ -242,7 +247,8 @@ impl<L: ConnectionLike + Drop> ClusterClient<L> {
         number: u64,
         strategy: Option<&dyn ReadRoutingStrategy>,
     ) -> Result<Answer, RedisError>
-        ensures { CallMade (option_map (λ s. admits s.now) strategy.entry) (whole L.seen self.old) (whole L.seen self.new) (Ordered cmd.now order.now number) (answer_result result) }
+        ensures { CallMade (option_map (λ s. admits s.now) strategy.entry) (whole L.seen self.old)
+            (whole L.seen self.new) (Ordered cmd.now order.now number) (answer_result result) }
     {
         let reply = self.reply_in_order(alloc, cmd, Some(order), number, strategy)?;
         Ok(Answer::Value(reply))
@@ -253,14 +259,18 @@ impl<L: ConnectionLike + Drop> ClusterClient<L> {
         alloc: Global,
         pipeline: &ClusterPipeline,
     ) -> Result<Answer, RedisError>
-        ensures { (strategy : Option Strategy) → CallMade strategy (whole L.seen self.old) (whole L.seen self.new) (Pipeline pipeline.now) (answer_result result) }
+        ensures { (strategy : Option Strategy)
+            → CallMade strategy (whole L.seen self.old) (whole L.seen self.new) (Pipeline pipeline.now)
+            (answer_result result) }
     {
         let reply = self.reply_to_pipeline(alloc, pipeline.commands())?;
         Ok(Answer::Value(reply))
     }
 
     fn answer_to_fan_out(&mut self, alloc: Global, cmd: &Cmd) -> Result<Answer, RedisError>
-        ensures { (strategy : Option Strategy) → CallMade strategy (whole L.seen self.old) (whole L.seen self.new) (FanOut cmd.now) (answer_result result) }
+        ensures { (strategy : Option Strategy)
+            → CallMade strategy (whole L.seen self.old) (whole L.seen self.new) (FanOut cmd.now)
+            (answer_result result) }
     {
         let reply = self.fan_out(alloc, cmd)?;
         Ok(Answer::Value(reply))
@@ -283,7 +293,8 @@ pub fn play<L: ConnectionLike + Drop>(
     strategy: Option<&dyn ReadRoutingStrategy>,
     played: &mut Vec<Played>,
 ) -> Result<(), AllocError>
-    ensures { Plays (option_map (λ s. admits s.now) strategy.entry) (whole L.seen client.old) (whole L.seen client.new) (map call_in calls.now)
+    ensures { Plays (option_map (λ s. admits s.now) strategy.entry) (whole L.seen client.old)
+        (whole L.seen client.new) (map call_in calls.now)
         (map shown played.old.items) (map shown played.new.items) (is_ok result) }
 {
     'calls: for call in calls {

@@ -52,7 +52,11 @@ impl<L: ConnectionLike + Drop> ClusterClient<L> {
         fields: &[(F, V)],
         strategy: Option<&dyn ReadRoutingStrategy>,
     ) -> Result<Option<String>, RedisError>
-        ensures { CallMade (option_map (λ s. admits s.now) strategy.entry) (whole L.seen self.old) (whole L.seen self.new) (OnStreams (Xadd (K.arg key) options.now (I.arg id) (map (λ f. (F.arg f.0, V.arg f.1)) fields.now))) (record_answer (λ id. Added (option_map string_bytes id)) result) }
+        ensures { CallMade (option_map (λ s. admits s.now) strategy.entry) (whole L.seen self.old)
+            (whole L.seen self.new)
+            (OnStreams (Xadd (K.arg key) options.now (I.arg id)
+            (map (λ f. (F.arg f.0, V.arg f.1)) fields.now)))
+            (record_answer (λ id. Added (option_map string_bytes id)) result) }
     {
         let cmd = commands::xadd(alloc, &key, options, &id, fields);
         self.reply_as(alloc, cmd, strategy)
@@ -66,7 +70,9 @@ impl<L: ConnectionLike + Drop> ClusterClient<L> {
         options: &StreamTrimOptions,
         strategy: Option<&dyn ReadRoutingStrategy>,
     ) -> Result<usize, RedisError>
-        ensures { CallMade (option_map (λ s. admits s.now) strategy.entry) (whole L.seen self.old) (whole L.seen self.new) (OnStreams (Xtrim (K.arg key) options.now)) (record_answer (λ n. Trimmed (pos n)) result) }
+        ensures { CallMade (option_map (λ s. admits s.now) strategy.entry) (whole L.seen self.old)
+            (whole L.seen self.new) (OnStreams (Xtrim (K.arg key) options.now))
+            (record_answer (λ n. Trimmed (pos n)) result) }
     {
         let cmd = commands::xtrim(alloc, &key, options);
         self.reply_as(alloc, cmd, strategy)
@@ -86,7 +92,9 @@ impl<L: ConnectionLike + Drop> ClusterClient<L> {
         options: &StreamReadOptions,
         strategy: Option<&dyn ReadRoutingStrategy>,
     ) -> Result<StreamReadReply, RedisError>
-        ensures { CallMade (option_map (λ s. admits s.now) strategy.entry) (whole L.seen self.old) (whole L.seen self.new) (OnStreams (Xread (streams_by K.arg I.arg streams.now) options.now)) (record_answer (λ reply. Read (rows_view reply.keys.items)) result) }
+        ensures { CallMade (option_map (λ s. admits s.now) strategy.entry) (whole L.seen self.old)
+            (whole L.seen self.new) (OnStreams (Xread (streams_by K.arg I.arg streams.now) options.now))
+            (record_answer (λ reply. Read (rows_view reply.keys.items)) result) }
     {
         match read_refusal(alloc, streams, options) {
             Ok(None) => {
@@ -111,7 +119,9 @@ impl<L: ConnectionLike + Drop> ClusterClient<L> {
         end: E,
         strategy: Option<&dyn ReadRoutingStrategy>,
     ) -> Result<StreamRangeReply, RedisError>
-        ensures { CallMade (option_map (λ s. admits s.now) strategy.entry) (whole L.seen self.old) (whole L.seen self.new) (OnStreams (Xrange (K.arg key) (S.arg start) (E.arg end))) (record_answer (λ reply. Range (entries_view reply.ids.items)) result) }
+        ensures { CallMade (option_map (λ s. admits s.now) strategy.entry) (whole L.seen self.old)
+            (whole L.seen self.new) (OnStreams (Xrange (K.arg key) (S.arg start) (E.arg end)))
+            (record_answer (λ reply. Range (entries_view reply.ids.items)) result) }
     {
         let cmd = commands::xrange(alloc, &key, &start, &end);
         self.reply_as(alloc, cmd, strategy)
@@ -138,7 +148,12 @@ impl<L: ConnectionLike + Drop> ClusterClient<L> {
         options: &StreamClaimOptions,
         strategy: Option<&dyn ReadRoutingStrategy>,
     ) -> Result<StreamClaimReply, RedisError>
-        ensures { CallMade (option_map (λ s. admits s.now) strategy.entry) (whole L.seen self.old) (whole L.seen self.new) (OnStreams (Xclaim (record { key = K.arg key; group = G.arg group; consumer = C.arg consumer; min_idle = min_idle }) (map I.arg ids.now) options.now)) (record_answer (λ reply. Claim (entries_view reply.ids.items)) result) }
+        ensures { CallMade (option_map (λ s. admits s.now) strategy.entry) (whole L.seen self.old)
+            (whole L.seen self.new)
+            (OnStreams (Xclaim (record
+            { key = K.arg key; group = G.arg group; consumer = C.arg consumer; min_idle = min_idle })
+            (map I.arg ids.now) options.now))
+            (record_answer (λ reply. Claim (entries_view reply.ids.items)) result) }
     {
         if options.justid() {
             return Err(self.refuse(alloc, RedisError::from(Cause::ClaimsIdsAlone)));
@@ -165,7 +180,11 @@ impl<L: ConnectionLike + Drop> ClusterClient<L> {
         options: &StreamAutoClaimOptions,
         strategy: Option<&dyn ReadRoutingStrategy>,
     ) -> Result<StreamAutoClaimReply, RedisError>
-        ensures { CallMade (option_map (λ s. admits s.now) strategy.entry) (whole L.seen self.old) (whole L.seen self.new) (OnStreams (Xautoclaim (record { key = K.arg key; group = G.arg group; consumer = C.arg consumer; min_idle = min_idle }) (S.arg start) options.now)) (record_answer (λ reply. AutoClaim (autoclaim_view reply)) result) }
+        ensures { CallMade (option_map (λ s. admits s.now) strategy.entry) (whole L.seen self.old)
+            (whole L.seen self.new)
+            (OnStreams (Xautoclaim
+            (record { key = K.arg key; group = G.arg group; consumer = C.arg consumer; min_idle = min_idle })
+            (S.arg start) options.now)) (record_answer (λ reply. AutoClaim (autoclaim_view reply)) result) }
     {
         let cmd = commands::xautoclaim(alloc, &key, &group, &consumer, min_idle, &start, options);
         self.reply_as(alloc, cmd, strategy)
@@ -179,7 +198,9 @@ impl<L: ConnectionLike + Drop> ClusterClient<L> {
         group: G,
         strategy: Option<&dyn ReadRoutingStrategy>,
     ) -> Result<StreamPendingReply, RedisError>
-        ensures { CallMade (option_map (λ s. admits s.now) strategy.entry) (whole L.seen self.old) (whole L.seen self.new) (OnStreams (Xpending (K.arg key) (G.arg group))) (record_answer (λ reply. Pending (pending_view reply)) result) }
+        ensures { CallMade (option_map (λ s. admits s.now) strategy.entry) (whole L.seen self.old)
+            (whole L.seen self.new) (OnStreams (Xpending (K.arg key) (G.arg group)))
+            (record_answer (λ reply. Pending (pending_view reply)) result) }
     {
         let cmd = commands::xpending(alloc, &key, &group);
         self.reply_as(alloc, cmd, strategy)
@@ -192,7 +213,9 @@ impl<L: ConnectionLike + Drop> ClusterClient<L> {
         key: K,
         strategy: Option<&dyn ReadRoutingStrategy>,
     ) -> Result<StreamInfoStreamReply, RedisError>
-        ensures { CallMade (option_map (λ s. admits s.now) strategy.entry) (whole L.seen self.old) (whole L.seen self.new) (OnStreams (XinfoStream (K.arg key))) (record_answer (λ reply. Stream (stream_info_view reply)) result) }
+        ensures { CallMade (option_map (λ s. admits s.now) strategy.entry) (whole L.seen self.old)
+            (whole L.seen self.new) (OnStreams (XinfoStream (K.arg key)))
+            (record_answer (λ reply. Stream (stream_info_view reply)) result) }
     {
         let cmd = commands::xinfo_stream(alloc, &key);
         self.reply_as(alloc, cmd, strategy)
@@ -205,7 +228,9 @@ impl<L: ConnectionLike + Drop> ClusterClient<L> {
         key: K,
         strategy: Option<&dyn ReadRoutingStrategy>,
     ) -> Result<StreamInfoGroupsReply, RedisError>
-        ensures { CallMade (option_map (λ s. admits s.now) strategy.entry) (whole L.seen self.old) (whole L.seen self.new) (OnStreams (XinfoGroups (K.arg key))) (record_answer (λ reply. Groups (map group_view reply.groups.items)) result) }
+        ensures { CallMade (option_map (λ s. admits s.now) strategy.entry) (whole L.seen self.old)
+            (whole L.seen self.new) (OnStreams (XinfoGroups (K.arg key)))
+            (record_answer (λ reply. Groups (map group_view reply.groups.items)) result) }
     {
         let cmd = commands::xinfo_groups(alloc, &key);
         self.reply_as(alloc, cmd, strategy)
@@ -219,7 +244,9 @@ impl<L: ConnectionLike + Drop> ClusterClient<L> {
         group: G,
         strategy: Option<&dyn ReadRoutingStrategy>,
     ) -> Result<StreamInfoConsumersReply, RedisError>
-        ensures { CallMade (option_map (λ s. admits s.now) strategy.entry) (whole L.seen self.old) (whole L.seen self.new) (OnStreams (XinfoConsumers (K.arg key) (G.arg group))) (record_answer (λ reply. Consumers (map consumer_view reply.consumers.items)) result) }
+        ensures { CallMade (option_map (λ s. admits s.now) strategy.entry) (whole L.seen self.old)
+            (whole L.seen self.new) (OnStreams (XinfoConsumers (K.arg key) (G.arg group)))
+            (record_answer (λ reply. Consumers (map consumer_view reply.consumers.items)) result) }
     {
         let cmd = commands::xinfo_consumers(alloc, &key, &group);
         self.reply_as(alloc, cmd, strategy)
@@ -234,7 +261,9 @@ impl<L: ConnectionLike + Drop> ClusterClient<L> {
         policy: StreamDeletionPolicy,
         strategy: Option<&dyn ReadRoutingStrategy>,
     ) -> Result<Vec<XDelExStatusCode>, RedisError>
-        ensures { CallMade (option_map (λ s. admits s.now) strategy.entry) (whole L.seen self.old) (whole L.seen self.new) (OnStreams (XdelEx (K.arg key) (map I.arg ids.now) policy)) (record_answer (λ codes. Deleted (map deletion_of codes.items)) result) }
+        ensures { CallMade (option_map (λ s. admits s.now) strategy.entry) (whole L.seen self.old)
+            (whole L.seen self.new) (OnStreams (XdelEx (K.arg key) (map I.arg ids.now) policy))
+            (record_answer (λ codes. Deleted (map deletion_of codes.items)) result) }
     {
         let cmd = commands::xdel_ex(alloc, &key, ids, &policy);
         self.reply_as(alloc, cmd, strategy)
@@ -247,8 +276,11 @@ impl<L: ConnectionLike + Drop> ClusterClient<L> {
         cmd: Result<Cmd, AllocError>,
         strategy: Option<&dyn ReadRoutingStrategy>,
     ) -> Result<T, RedisError>
-        ensures { (call : StreamCall) (shown : T.Meaning → Answer) → stream_refusal call ≡ None → IfOk cmd (λ c. c ≡ plain_command (sentence call)) → IsReadBy call T.convert shown
-            → CallMade (option_map (λ s. admits s.now) strategy.entry) (whole L.seen self.old) (whole L.seen self.new) (OnStreams call) (record_answer (λ value. shown (T.meaning value)) result) }
+        ensures { (call : StreamCall) (shown : T.Meaning → Answer) → stream_refusal call ≡ None
+            → IfOk cmd (λ c. c ≡ plain_command (sentence call)) → IsReadBy call T.convert shown
+            → CallMade (option_map (λ s. admits s.now) strategy.entry) (whole L.seen self.old)
+            (whole L.seen self.new) (OnStreams call)
+            (record_answer (λ value. shown (T.meaning value)) result) }
     {
         match cmd {
             Ok(cmd) => {

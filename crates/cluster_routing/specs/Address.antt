@@ -51,7 +51,8 @@ address_with port (b ∷ bs) = Some (record { host = b ∷ bs; port = port })
 
 -- a host without the brackets around it, and a port that is a number below 2^16
 abbrev pub address_of : List ℕ × List ℕ → Option Address
-address_of p = option_and_then (λ port. address_with port (without_end 93 (without_front 91 p.0))) (number_below (2 ^ 16) p.1)
+address_of p = option_and_then (λ port. address_with port (without_end 93 (without_front 91 p.0)))
+    (number_below (2 ^ 16) p.1)
 
 -- the address that a text spells: it is cut at its last colon
 abbrev pub address_read : List ℕ → Option Address

@@ -29,20 +29,26 @@ IsAnyBy (Some admits) slot nodes address = IsAdmitted admits (any_node slot node
 abbrev pub IsChosenAmong : Option Strategy → ℕ → SlotAddr → ℕ → Address → List Address → Address → Type 0
 IsChosenAmong strategy slot role pick primary [] address = address ≡ primary
 IsChosenAmong strategy slot Master pick primary (r ∷ rs) address = address ≡ primary
-IsChosenAmong strategy slot ReplicaOptional pick primary (r ∷ rs) address = IsAnyBy strategy slot (record { primary = primary; replicas = r ∷ rs }) address
-IsChosenAmong strategy slot ReplicaRequired pick primary (r ∷ rs) address = IsReplicaBy strategy slot pick (r ∷ rs) address
+IsChosenAmong strategy slot ReplicaOptional pick primary (r ∷ rs) address = IsAnyBy strategy slot
+    (record { primary = primary; replicas = r ∷ rs }) address
+IsChosenAmong strategy slot ReplicaRequired pick primary (r ∷ rs) address = IsReplicaBy strategy slot pick
+    (r ∷ rs) address
 
--- the address may be the one that a role leads to; without replicas it is the primary, and no strategy is asked
+-- the address may be the one that a role leads to; without replicas it is the primary, and no strategy is
+-- asked
 abbrev pub IsChosen : Option Strategy → ℕ → SlotAddr → ℕ → Nodes → Address → Type 0
-IsChosen strategy slot role pick nodes address = IsChosenAmong strategy slot role pick nodes.primary nodes.replicas address
+IsChosen strategy slot role pick nodes address =
+    IsChosenAmong strategy slot role pick nodes.primary nodes.replicas address
 
 -- what a route may lead to: nothing exactly where no range serves its slot
 abbrev pub LeadsTo : Option Strategy → ℕ → SlotEntries → Route → Option Address → Type 0
 LeadsTo strategy pick entries route None = nodes_at route.slot entries ≡ None
-LeadsTo strategy pick entries route (Some address) = IsSomeAnd (nodes_at route.slot entries) (λ nodes. IsChosen strategy route.slot route.slot_addr pick nodes address)
+LeadsTo strategy pick entries route (Some address) = IsSomeAnd (nodes_at route.slot entries)
+    (λ nodes. IsChosen strategy route.slot route.slot_addr pick nodes address)
 
 -- what each of the routes may lead to, in their order
 abbrev pub EachLeadsTo : Option Strategy → ℕ → SlotEntries → List Route → List (Option Address) → Type 0
 EachLeadsTo strategy pick entries [] [] = ⊤
-EachLeadsTo strategy pick entries (route ∷ routes) (address ∷ addresses) = LeadsTo strategy pick entries route address × EachLeadsTo strategy pick entries routes addresses
+EachLeadsTo strategy pick entries (route ∷ routes) (address ∷ addresses) =
+    LeadsTo strategy pick entries route address × EachLeadsTo strategy pick entries routes addresses
 EachLeadsTo strategy pick entries _ _ = ⊥

@@ -54,7 +54,8 @@ args_in_items (Some items) = map arg_in items
 abbrev pub args_in : Tree → Args
 args_in reply = args_in_items (array_items reply)
 
--- a command's name by its first argument: the word, of a family with a space and the second argument behind it
+-- a command's name by its first argument: the word, of a family with a space and the second argument behind
+-- it
 abbrev pub name_by : List ℕ → Bool → Option (List ℕ) → List ℕ
 name_by word true (Some second) = word ++ 32 ∷ second
 name_by word _ _ = word

@@ -1,4 +1,5 @@
--- The order of routes and of their parts, and what they feed a hasher (documentation of Rust's `Ord` and `Hash`).
+-- The order of routes and of their parts, and what they feed a hasher (documentation of Rust's `Ord` and
+-- `Hash`).
 use Rattle.std.specs.Prelude.{ℕ, List, ◌++◌, pos}
 use Rattle.std.specs.Hash as fed
 use Rattle.std.specs.Ordering.{nat_cmp, ordering_then}

@@ -36,7 +36,8 @@ abbrev pub shown_splitting : MultiSlotArgPattern × ResponsePolicy → Splitting
 shown_splitting p = record { pattern = p.0; policy = p.1 }
 
 abbrev pub shown_split : SplitParts → PartsByPlace
-shown_split p = record { routes = map shown_part p.routes.items; splitting = record { pattern = p.pattern; policy = p.policy } }
+shown_split p = record
+    { routes = map shown_part p.routes.items; splitting = record { pattern = p.pattern; policy = p.policy } }
 
 -- lent arguments of which some are gaps
 abbrev pub lent_texts : List (Option (Bor (List ℕ))) → List (Option (List ℕ))

@@ -27,18 +27,21 @@ OrderAgrees = (a b : Address) → (address_cmp a b ≡ Equal) ↔ (same_address 
 
 -- keys with an equal tag that is not empty have an equal slot
 abbrev pub EqualTags : Type 0
-EqualTags = (key other : List ℕ) (b : ℕ) (bs : List ℕ) → tag key ≡ Some (b ∷ bs) → tag other ≡ Some (b ∷ bs) → hash_slot key ≡ hash_slot other
+EqualTags = (key other : List ℕ) (b : ℕ) (bs : List ℕ) → tag key ≡ Some (b ∷ bs) → tag other ≡ Some (b ∷ bs)
+    → hash_slot key ≡ hash_slot other
 
 -- the case of the word's ASCII letters changes no route
 abbrev pub CaseOfTheWord : Type 0
 CaseOfTheWord =
-    (word other : List ℕ) (args : Args) (read_only : List (List ℕ)) → str_to_ascii_lowercase word ≡ str_to_ascii_lowercase other
+    (word other : List ℕ) (args : Args) (read_only : List (List ℕ))
+    → str_to_ascii_lowercase word ≡ str_to_ascii_lowercase other
     → destination (Simple word ∷ args) read_only ≡ destination (Simple other ∷ args) read_only
 
 -- a command that goes anywhere goes there with its gaps filled, as its arguments stand on the wire
 abbrev pub RoutesAsOnTheWire : Type 0
 RoutesAsOnTheWire =
-    (args : Args) (cursor : ℕ) (read_only : List (List ℕ)) (to : Destination) → cursor < 2 ^ 64 → destination args read_only ≡ Some to
+    (args : Args) (cursor : ℕ) (read_only : List (List ℕ)) (to : Destination) → cursor < 2 ^ 64
+    → destination args read_only ≡ Some to
     → destination (map (λ bytes. Simple bytes) (wire cursor args)) read_only ≡ Some to
 
 -- no range is reversed, and each begins behind the end of the one before
@@ -52,8 +55,11 @@ AreApart (e ∷ es) = (e.1.0 ≤ e.0) × BeginsBehind e.0 es × AreApart es
 
 -- where ranges are apart, the value of a slot is that of the one range that holds it, if there is one
 pub record OneRange (V : Type 0) : Type 0 where
-  pub held : (entries : List (Entry V)) (i : ℕ) (e : Entry V) (slot : ℕ) → AreApart entries → slice_get entries i ≡ Some e → e.1.0 ≤ slot → slot ≤ e.0 → value_at slot entries ≡ Some e.1.1
-  pub free : (entries : List (Entry V)) (slot : ℕ) → AreApart entries → ((i : ℕ) (e : Entry V) → slice_get entries i ≡ Some e → e.1.0 ≤ slot → e.0 < slot) → value_at slot entries ≡ None
+  pub held : (entries : List (Entry V)) (i : ℕ) (e : Entry V) (slot : ℕ) → AreApart entries
+      → slice_get entries i ≡ Some e → e.1.0 ≤ slot → slot ≤ e.0 → value_at slot entries ≡ Some e.1.1
+  pub free : (entries : List (Entry V)) (slot : ℕ) → AreApart entries
+      → ((i : ℕ) (e : Entry V) → slice_get entries i ≡ Some e → e.1.0 ≤ slot → e.0 < slot)
+      → value_at slot entries ≡ None
 
 -- each name of the table is routed by its own row, and by no other
 abbrev pub is_routed_by : Rule → List ℕ → Bool
@@ -71,15 +77,20 @@ abbrev pub AddressesAscend : List Address → Type 0
 AddressesAscend [] = ⊤
 AddressesAscend (a ∷ as') = IsBelowFirst a as' × AddressesAscend as'
 
--- `ascending` answers a list that ascends, so that no address stands there twice, and that has the same addresses
+-- `ascending` answers a list that ascends, so that no address stands there twice, and that has the same
+-- addresses
 pub record EachAddressOnce : Type 0 where
   pub ascends : (addresses : List Address) → AddressesAscend (ascending addresses)
-  pub same : (addresses : List Address) (a : Address) → among same_address a (ascending addresses) ≡ among same_address a addresses
+  pub same : (addresses : List Address) (a : Address)
+      → among same_address a (ascending addresses) ≡ among same_address a addresses
 
 -- a map's topology has a shard for a slot exactly where the map has nodes for it, and these are its nodes
 pub record TopologyServes : Type 0 where
-  pub nodes : (entries : SlotEntries) (slot : ℕ) → IsAscending entries → option_map (λ s. s.nodes) (shard_at slot (shards_of entries)) ≡ nodes_at slot entries
-  pub primary : (entries : SlotEntries) (slot : ℕ) → IsAscending entries → option_map (λ s. s.nodes.primary) (shard_at slot (shards_of entries)) ≡ option_map (λ n. n.primary) (nodes_at slot entries)
+  pub nodes : (entries : SlotEntries) (slot : ℕ) → IsAscending entries
+      → option_map (λ s. s.nodes) (shard_at slot (shards_of entries)) ≡ nodes_at slot entries
+  pub primary : (entries : SlotEntries) (slot : ℕ) → IsAscending entries
+      → option_map (λ s. s.nodes.primary) (shard_at slot (shards_of entries))
+      ≡ option_map (λ n. n.primary) (nodes_at slot entries)
 
 -- whether this place of a list holds the number
 abbrev pub holds_at : List ℕ → ℕ → ℕ → Bool
@@ -100,10 +111,12 @@ abbrev pub StandOnce : List ℕ → Type 0
 StandOnce [] = ⊤
 StandOnce (x ∷ xs) = (among nat_eq x xs ≡ false) × StandOnce xs
 
--- the parts of a split share its places: each place stands in the part of its own slot and in no other, places ascend, each slot has
--- its part, and no slot has two
+-- the parts of a split share its places: each place stands in the part of its own slot and in no other,
+-- places ascend, each slot has its part, and no slot has two
 pub record PartsShareThePlaces : Type 0 where
-  pub own : (slots : List ℕ) (slot place : ℕ) → among nat_eq place (places_from slot 0 slots) ≡ holds_at slots place slot
+  pub own : (slots : List ℕ) (slot place : ℕ)
+      → among nat_eq place (places_from slot 0 slots) ≡ holds_at slots place slot
   pub ascending : (slots : List ℕ) (slot : ℕ) → NumbersAscend (places_from slot 0 slots)
-  pub each : (slots : List ℕ) (slot : ℕ) → among nat_eq slot (map (λ g. g.0) (groups slots)) ≡ among nat_eq slot slots
+  pub each : (slots : List ℕ) (slot : ℕ)
+      → among nat_eq slot (map (λ g. g.0) (groups slots)) ≡ among nat_eq slot slots
   pub once : (slots : List ℕ) → StandOnce (map (λ g. g.0) (groups slots))

@@ -16,7 +16,8 @@ width_of KeyValuePairs = 2
 width_of KeysAndLastArg = 1
 width_of KeyWithTwoArgTriples = 3
 
--- how many of so many arguments behind the word stand in tuples: all, or all but the last, which the parts share
+-- how many of so many arguments behind the word stand in tuples: all, or all but the last, which the parts
+-- share
 abbrev pub len_in_tuples : MultiSlotArgPattern → ℕ → ℕ
 len_in_tuples KeysAndLastArg len = len - 1
 len_in_tuples _ len = len
@@ -48,7 +49,8 @@ argument_slots tuples = flat_map (λ t. map (λ _. tuple_slot t) t) tuples
 -- the places from n on that have the slot
 abbrev pub places_from : ℕ → ℕ → List ℕ → List ℕ
 places_from slot n [] = []
-places_from slot n (s ∷ ss) = if slot == s then n ∷ places_from slot (suc n) ss else places_from slot (suc n) ss
+places_from slot n (s ∷ ss) = if slot == s then n ∷ places_from slot (suc n) ss
+    else places_from slot (suc n) ss
 
 abbrev pub group : List ℕ → ℕ → ℕ × List ℕ
 group slots slot = (slot, places_from slot 0 slots)

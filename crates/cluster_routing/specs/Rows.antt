@@ -21,8 +21,10 @@ shown_rule (AllNodes policy) = all_nodes policy
 shown_rule Nowhere = nowhere
 
 abbrev pub shown_rows : List coded_row.Row → List Row
-shown_rows rows = map (λ (r : coded_row.Row). record { names = names_of r.names.now; rule = shown_rule r.rule }) rows
+shown_rows rows = map
+    (λ (r : coded_row.Row). record { names = names_of r.names.now; rule = shown_rule r.rule }) rows
 
 -- the rule is that of the first row that lists the name
-pub record IsRuleAmong (rows : List coded_row.Row) (name : List ℕ) (other rule : coded_rule.Rule) : Type 0 where
+pub record IsRuleAmong (rows : List coded_row.Row) (name : List ℕ)
+    (other rule : coded_rule.Rule) : Type 0 where
   pub first : shown_rule rule ≡ rule_in (shown_rows rows) name (shown_rule other)

@@ -18,7 +18,8 @@ abbrev pub small_number : Tree → Option ℕ
 small_number (int (pos n)) = if nat_lt n (2 ^ 16) then Some n else None
 small_number _ = None
 
--- the host that a node is listed with: that of the node that answers where it is left out; none where it is unknown
+-- the host that a node is listed with: that of the node that answers where it is left out; none where it is
+-- unknown
 abbrev pub host_in : List ℕ → List ℕ → Option (List ℕ)
 host_in asked [] = Some asked
 host_in asked (b ∷ bs) = if bytes_eq (b ∷ bs) (63 ∷ []) then None else Some (utf8_lossy (b ∷ bs))
@@ -46,14 +47,16 @@ listed_nodes asked nodes = filter_map (listed_node asked) nodes
 -- a range whose first node is the primary; none without a node
 abbrev pub range_with : ℕ → ℕ → List Address → Option Range
 range_with start last [] = None
-range_with start last (a ∷ as') = Some (record { start = start; last = last; nodes = record { primary = a; replicas = as' } })
+range_with start last (a ∷ as') = Some
+    (record { start = start; last = last; nodes = record { primary = a; replicas = as' } })
 
 abbrev pub range_of : Option ℕ → Option ℕ → List Address → Option Range
 range_of start last nodes = option_and_then (λ s. option_and_then (λ l. range_with s l nodes) last) start
 
 -- a row: start, end, and nodes; none where the row is skipped
 abbrev pub listed_range : List ℕ → List Tree → Option Range
-listed_range asked (start ∷ last ∷ nodes) = range_of (small_number start) (small_number last) (listed_nodes asked nodes)
+listed_range asked (start ∷ last ∷ nodes) = range_of (small_number start) (small_number last)
+    (listed_nodes asked nodes)
 listed_range asked _ = None
 
 abbrev pub with_range : Option Range → List Range → List Range

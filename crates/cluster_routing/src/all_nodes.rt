@@ -49,7 +49,9 @@ fn put_nodes<'a>(
     sorted: &mut BTreeSet<&'a NodeAddress>,
     nodes: &'a SlotAddrs,
 ) -> Result<(), AllocError>
-    ensures { IfOk result (λ _. map (λ a. address a.now) sorted.new.keys ≡ put_addresses (map (λ a. address a.now) sorted.old.keys) (node_list nodes.now)) }
+    ensures { IfOk result
+        (λ _. map (λ a. address a.now) sorted.new.keys
+        ≡ put_addresses (map (λ a. address a.now) sorted.old.keys) (node_list nodes.now)) }
 {
     'nodes: for node in nodes {
         put_address(sorted, node)?;
@@ -62,7 +64,9 @@ fn put_address<'a>(
     sorted: &mut BTreeSet<&'a NodeAddress>,
     node: &'a NodeAddress,
 ) -> Result<(), AllocError>
-    ensures { IfOk result (λ _. map (λ a. address a.now) sorted.new.keys ≡ put_address (address node.now) (map (λ a. address a.now) sorted.old.keys)) }
+    ensures { IfOk result
+        (λ _. map (λ a. address a.now) sorted.new.keys
+        ≡ put_address (address node.now) (map (λ a. address a.now) sorted.old.keys)) }
 {
     sorted.insert(node)?;
     Ok(())

@@ -91,13 +91,15 @@ impl<'a> Model for AnyNodeCandidates<'a> {
 
     ghost Value = { AnyNodeOf };
 
-    ghost view = { λ c. record { slot = c.slot; nodes = record { primary = address c.primary.now; replicas = c.replicas } } };
+    ghost view = { λ c. record
+        { slot = c.slot; nodes = record { primary = address c.primary.now; replicas = c.replicas } } };
 }
 
 impl<'a> AnyNodeCandidates<'a> {
     /// The candidates of the slot of this number with these nodes.
     pub fn new(slot: u16, primary: &'a NodeAddress, replicas: Replicas<'a>) -> AnyNodeCandidates<'a>
-        ensures { result ≡ record { slot = slot; nodes = record { primary = address primary.now; replicas = replicas.entry } } }
+        ensures { result ≡ record
+            { slot = slot; nodes = record { primary = address primary.now; replicas = replicas.entry } } }
     {
         AnyNodeCandidates {
             slot,

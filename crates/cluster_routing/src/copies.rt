@@ -52,7 +52,9 @@ impl MultipleNodeRoutingInfo {
     /// # Errors
     /// `AllocError` where memory is refused.
     pub fn clone(&self) -> Result<MultipleNodeRoutingInfo, AllocError>
-        ensures { IfOk result (λ copy. (policy : Option ResponsePolicy) → shown_multiple policy copy ≡ shown_multiple policy self.now) }
+        ensures { IfOk result
+            (λ copy. (policy : Option ResponsePolicy)
+            → shown_multiple policy copy ≡ shown_multiple policy self.now) }
     {
         match self {
             MultipleNodeRoutingInfo::AllNodes => Ok(MultipleNodeRoutingInfo::AllNodes),

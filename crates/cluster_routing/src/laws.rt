@@ -58,7 +58,8 @@ pub fn hashes_of_addresses<H: Hasher>(
 )
     ensures first { first.new ≡ fold H.write first.old (hashed_address (address a.now)) }
     ensures second { second.new ≡ fold H.write second.old (hashed_address (address b.now)) }
-    ensures alike { same_address (address a.now) (address b.now) ≡ true → first.old ≡ second.old → first.new ≡ second.new }
+    ensures alike { same_address (address a.now) (address b.now) ≡ true → first.old ≡ second.old
+        → first.new ≡ second.new }
 {
     a.hash(first);
     b.hash(second);
@@ -90,9 +91,12 @@ pub fn equal_arguments_have_equal_routes<A: Routable, B: Routable>(
     b: &B,
     read_only: &[Vec<u8>],
 ) -> Result<(Option<RoutingInfo>, Option<RoutingInfo>), AllocError>
-    ensures first { IfOk result (λ both. option_map shown_info both.0 ≡ destination (A.args a.now) (texts read_only.now)) }
-    ensures second { IfOk result (λ both. option_map shown_info both.1 ≡ destination (B.args b.now) (texts read_only.now)) }
-    ensures equal { A.args a.now ≡ B.args b.now → IfOk result (λ both. option_map shown_info both.0 ≡ option_map shown_info both.1) }
+    ensures first { IfOk result
+        (λ both. option_map shown_info both.0 ≡ destination (A.args a.now) (texts read_only.now)) }
+    ensures second { IfOk result
+        (λ both. option_map shown_info both.1 ≡ destination (B.args b.now) (texts read_only.now)) }
+    ensures equal { A.args a.now ≡ B.args b.now
+        → IfOk result (λ both. option_map shown_info both.0 ≡ option_map shown_info both.1) }
 {
     let first = RoutingInfo::for_routable(alloc, a, read_only)?;
     let second = RoutingInfo::for_routable(alloc, b, read_only)?;

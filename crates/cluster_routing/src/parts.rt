@@ -37,7 +37,9 @@ pub(crate) fn routes_of(
     role: SlotAddr,
     pattern: MultiSlotArgPattern,
 ) -> Result<Option<Vec<(Route, Vec<usize>)>>, AllocError>
-    ensures { IfOk result (λ o. option_map (λ v. shown_parts v.items) o ≡ option_map (tuple_routes role) (cut pattern (drop 1 (lent args.now)))) }
+    ensures { IfOk result
+        (λ o. option_map (λ v. shown_parts v.items) o
+        ≡ option_map (tuple_routes role) (cut pattern (drop 1 (lent args.now)))) }
 {
     match args {
         [_, behind @ ..] => routes_behind(alloc, behind, role, pattern),
@@ -52,7 +54,9 @@ fn routes_behind(
     role: SlotAddr,
     pattern: MultiSlotArgPattern,
 ) -> Result<Option<Vec<(Route, Vec<usize>)>>, AllocError>
-    ensures { IfOk result (λ o. option_map (λ v. shown_parts v.items) o ≡ option_map (tuple_routes role) (cut pattern (lent args.now))) }
+    ensures { IfOk result
+        (λ o. option_map (λ v. shown_parts v.items) o
+        ≡ option_map (tuple_routes role) (cut pattern (lent args.now))) }
 {
     routes_of_tuples(alloc, in_tuples(pattern, args), role, pattern)
 }
@@ -81,7 +85,9 @@ fn routes_of_tuples(
     role: SlotAddr,
     pattern: MultiSlotArgPattern,
 ) -> Result<Option<Vec<(Route, Vec<usize>)>>, AllocError>
-    ensures { IfOk result (λ o. option_map (λ v. shown_parts v.items) o ≡ option_map (tuple_routes role) (tuples_of (width_of pattern) (lent args.now))) }
+    ensures { IfOk result
+        (λ o. option_map (λ v. shown_parts v.items) o
+        ≡ option_map (tuple_routes role) (tuples_of (width_of pattern) (lent args.now))) }
 {
     let width = width_of(pattern);
     match tuple_count(width, args.len()) {
@@ -189,7 +195,8 @@ fn put_place(
 ) -> Result<(), AllocError>
     requires { seen.old.keys ≡ part_slots (map shown_part parts.old.items) }
     ensures seen { IfOk result (λ _. seen.new.keys ≡ part_slots (map shown_part parts.new.items)) }
-    ensures parts { IfOk result (λ _. map shown_part parts.new.items ≡ put_place route place (map shown_part parts.old.items)) }
+    ensures parts { IfOk result
+        (λ _. map shown_part parts.new.items ≡ put_place route place (map shown_part parts.old.items)) }
 {
     let (part, is_new) = seen.insert_full(route.slot())?;
     if is_new {

@@ -87,7 +87,8 @@ impl SlotAddrs {
         pick: u64,
         strategy: Option<&dyn ReadRoutingStrategy>,
     ) -> &NodeAddress
-        ensures { IsChosen (option_map (λ s. admits s.now) strategy.entry) route.slot route.slot_addr pick self.now (address result.now) }
+        ensures { IsChosen (option_map (λ s. admits s.now) strategy.entry) route.slot route.slot_addr pick
+            self.now (address result.now) }
     {
         match Replicas::new(&self.replicas) {
             None => &self.primary,
@@ -115,7 +116,8 @@ impl Model for SlotRange {
 impl SlotRange {
     /// The slots from `s` to `e` with the primary `m` and the replicas `r`. It takes no memory.
     pub fn new(s: u16, e: u16, m: NodeAddress, r: Vec<NodeAddress>) -> SlotRange
-        ensures { result ≡ record { start = s; last = e; nodes = record { primary = address m; replicas = addresses r.items } } }
+        ensures { result ≡ record
+            { start = s; last = e; nodes = record { primary = address m; replicas = addresses r.items } } }
     {
         SlotRange {
             start: s,

@@ -44,7 +44,8 @@ impl<V: Drop> SlotRangeMap<V> {
     /// # Errors
     /// `AllocError` where memory is refused; then the map is as it was, and the value is gone.
     pub fn insert(&mut self, start: u16, end: u16, value: V) -> Result<(), AllocError>
-        ensures { MatchResult result (λ _. self.new ≡ put self.old (end, (start, value))) (λ _. self.new ≡ self.old) }
+        ensures { MatchResult result (λ _. self.new ≡ put self.old (end, (start, value)))
+            (λ _. self.new ≡ self.old) }
     {
         let place = self.place_from(end);
         if self.ends_at(place, end) {

@@ -39,7 +39,8 @@ pub trait Routable {
     /// # Errors
     /// `AllocError` where memory is refused.
     fn arguments(&self, alloc: Global) -> Result<Option<Vec<&[u8]>>, AllocError>
-        ensures { IfOk result (λ o. option_map (λ v. map (λ a. a.now) v.items) o ≡ all_bytes (args self.now)) };
+        ensures { IfOk result
+            (λ o. option_map (λ v. map (λ a. a.now) v.items) o ≡ all_bytes (args self.now)) };
 
     /// All arguments in order: the bytes of each, `None` for a gap.
     ///
@@ -54,7 +55,8 @@ pub trait Routable {
     /// # Errors
     /// `AllocError` where memory is refused.
     final fn command(&self, alloc: Global) -> Result<Option<Vec<u8>>, AllocError>
-        ensures { IfOk result (λ o. option_map (λ v. v.items) o ≡ option_map str_to_ascii_uppercase (name_of (args self.now))) }
+        ensures { IfOk result
+            (λ o. option_map (λ v. v.items) o ≡ option_map str_to_ascii_uppercase (name_of (args self.now))) }
     {
         match self.arg_idx(0) {
             None => Ok(None),
@@ -64,7 +66,9 @@ pub trait Routable {
 }
 
 fn upper_name(alloc: Global, word: &[u8], second: Option<&[u8]>) -> Result<Vec<u8>, AllocError>
-    ensures { IfOk result (λ v. v.items ≡ str_to_ascii_uppercase (name_by word.now (is_family word.now) (option_map (λ a. a.now) second.entry))) }
+    ensures { IfOk result
+        (λ v. v.items ≡ str_to_ascii_uppercase
+        (name_by word.now (is_family word.now) (option_map (λ a. a.now) second.entry))) }
 {
     Ok(in_upper_case(spelled_name(alloc, word, second)?))
 }
@@ -81,7 +85,8 @@ pub(crate) fn spelled_name(
     word: &[u8],
     second: Option<&[u8]>,
 ) -> Result<Vec<u8>, AllocError>
-    ensures { IfOk result (λ v. v.items ≡ name_by word.now (is_family word.now) (option_map (λ a. a.now) second.entry)) }
+    ensures { IfOk result
+        (λ v. v.items ≡ name_by word.now (is_family word.now) (option_map (λ a. a.now) second.entry)) }
 {
     if !is_family(word) {
         return Vec::from_slice(alloc, word);
@@ -235,7 +240,8 @@ fn first_word(items: &[Value], word: &[u8]) -> Option<usize>
 }
 
 fn all_of(alloc: Global, items: &[Value]) -> Result<Option<Vec<&[u8]>>, AllocError>
-    ensures { IfOk result (λ o. option_map (λ v. map (λ a. a.now) v.items) o ≡ all_bytes (map arg_in (map view items.now))) }
+    ensures { IfOk result
+        (λ o. option_map (λ v. map (λ a. a.now) v.items) o ≡ all_bytes (map arg_in (map view items.now))) }
 {
     let mut all = Vec::new(alloc);
     for item in items {

@@ -95,7 +95,8 @@ impl RoutingInfo {
         r: &R,
         read_only: &[Vec<u8>],
     ) -> Result<Option<RoutingInfo>, AllocError>
-        ensures { IfOk result (λ o. option_map shown_info o ≡ destination (R.args r.now) (texts read_only.now)) }
+        ensures { IfOk result
+            (λ o. option_map shown_info o ≡ destination (R.args r.now) (texts read_only.now)) }
     {
         match r.arg_idx(0) {
             None => Ok(None),
@@ -110,7 +111,9 @@ fn info_by_word<R: Routable>(
     word: &[u8],
     read_only: &[Vec<u8>],
 ) -> Result<Option<RoutingInfo>, AllocError>
-    ensures { IfOk result (λ o. option_map shown_info o ≡ destination_of_word (Some word.now) (R.args r.now) (texts read_only.now)) }
+    ensures { IfOk result
+        (λ o. option_map shown_info o
+        ≡ destination_of_word (Some word.now) (R.args r.now) (texts read_only.now)) }
 {
     let family = is_family(word);
     let name = spelled_name(alloc, word, r.arg_idx(1))?;
@@ -124,7 +127,9 @@ fn info_by_name<R: Routable>(
     family: bool,
     read_only: &[Vec<u8>],
 ) -> Result<Option<RoutingInfo>, AllocError>
-    ensures { IfOk result (λ o. option_map shown_info o ≡ destination_by (role_of name.now (texts read_only.now)) (R.args r.now) (rule_of name.now family)) }
+    ensures { IfOk result
+        (λ o. option_map shown_info o
+        ≡ destination_by (role_of name.now (texts read_only.now)) (R.args r.now) (rule_of name.now family)) }
 {
     info_by_rule(alloc, r, role_of(name, read_only), rule_for(name, family))
 }
@@ -157,7 +162,8 @@ fn info_by_rule<R: Routable>(
     role: SlotAddr,
     rule: Rule,
 ) -> Result<Option<RoutingInfo>, AllocError>
-    ensures { IfOk result (λ o. option_map shown_info o ≡ destination_by role (R.args r.now) (shown_rule rule)) }
+    ensures { IfOk result
+        (λ o. option_map shown_info o ≡ destination_by role (R.args r.now) (shown_rule rule)) }
 {
     match rule {
         Rule::Split(pattern, policy) => info_by_tuples(alloc, r, role, pattern, policy),
@@ -201,7 +207,9 @@ fn counted_key<R: Routable>(
     place: u8,
     elsewhere: Option<RoutingInfo>,
 ) -> Option<RoutingInfo>
-    ensures { option_map shown_info result ≡ to_counted_key role (option_map shown_info elsewhere) (slice_get (R.args r.now) place) (slice_get (R.args r.now) (place + 1)) }
+    ensures { option_map shown_info result
+        ≡ to_counted_key role (option_map shown_info elsewhere) (slice_get (R.args r.now) place)
+        (slice_get (R.args r.now) (place + 1)) }
 {
     match number_at(r, place as usize) {
         None => None,
@@ -229,7 +237,8 @@ fn number(bytes: &[u8]) -> Option<u64>
 }
 
 fn key_behind_streams<R: Routable>(r: &R, role: SlotAddr) -> Option<RoutingInfo>
-    ensures { option_map shown_info result ≡ to_key_behind role (R.args r.now) (place_of (codes "STREAMS") (R.args r.now)) }
+    ensures { option_map shown_info result
+        ≡ to_key_behind role (R.args r.now) (place_of (codes "STREAMS") (R.args r.now)) }
 {
     match r.position(b"STREAMS") {
         None => None,
@@ -251,7 +260,9 @@ fn info_by_tuples<R: Routable>(
     pattern: MultiSlotArgPattern,
     policy: ResponsePolicy,
 ) -> Result<Option<RoutingInfo>, AllocError>
-    ensures { IfOk result (λ o. option_map shown_info o ≡ option_and_then (to_split role pattern policy) (all_bytes (R.args r.now))) }
+    ensures { IfOk result
+        (λ o. option_map shown_info o
+        ≡ option_and_then (to_split role pattern policy) (all_bytes (R.args r.now))) }
 {
     match r.arguments(alloc)? {
         None => Ok(None),

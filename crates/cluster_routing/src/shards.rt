@@ -27,7 +27,8 @@ impl SlotMap {
     /// `AllocError` where memory is refused.
     pub fn topology(&self, alloc: Global) -> Result<ClusterTopology, AllocError>
         ensures shards { IfOk result (λ t. t ≡ shards_of self.now) }
-        ensures serves { IfOk result (λ t. (slot : ℕ) → option_map (λ s. s.nodes) (shard_at slot t) ≡ nodes_at slot self.now) }
+        ensures serves { IfOk result
+            (λ t. (slot : ℕ) → option_map (λ s. s.nodes) (shard_at slot t) ≡ nodes_at slot self.now) }
     {
         let sets = distinct_nodes(alloc, self.slot_ranges())?;
         ClusterTopology::from_shards(alloc, shards_with(alloc, self.slot_ranges(), &sets)?)

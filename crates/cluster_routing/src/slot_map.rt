@@ -59,7 +59,8 @@ impl SlotMap {
     /// # Errors
     /// `AllocError` where memory is refused; then some first of the ranges are put in.
     pub fn fill_slots(&mut self, slots: Vec<SlotRange>) -> Result<(), AllocError>
-        ensures { MatchResult result (λ _. self.new ≡ put_all self.old slots.items) (λ _. PutsSome self.old slots.items self.new) }
+        ensures { MatchResult result (λ _. self.new ≡ put_all self.old slots.items)
+            (λ _. PutsSome self.old slots.items self.new) }
     {
         put_each(&mut self.slots, slots)
     }
@@ -72,7 +73,8 @@ impl SlotMap {
         pick: u64,
         strategy: Option<&dyn ReadRoutingStrategy>,
     ) -> Option<&NodeAddress>
-        ensures { LeadsTo (option_map (λ s. admits s.now) strategy.entry) pick self.now route (option_map (λ a. address a.now) result) }
+        ensures { LeadsTo (option_map (λ s. admits s.now) strategy.entry) pick self.now route
+            (option_map (λ a. address a.now) result) }
     {
         match self.slots.get(route.slot()) {
             None => None,
@@ -92,7 +94,9 @@ impl SlotMap {
         pick: u64,
         strategy: Option<&dyn ReadRoutingStrategy>,
     ) -> Result<Vec<Option<&NodeAddress>>, AllocError>
-        ensures { IfOk result (λ v. EachLeadsTo (option_map (λ s. admits s.now) strategy.entry) pick self.now (map (λ r. r.0) routes.now) (map (λ o. option_map (λ a. address a.now) o) v.items)) }
+        ensures { IfOk result
+            (λ v. EachLeadsTo (option_map (λ s. admits s.now) strategy.entry) pick self.now
+            (map (λ r. r.0) routes.now) (map (λ o. option_map (λ a. address a.now) o) v.items)) }
     {
         let mut answers = Vec::new(alloc);
         'routes: for route in routes {
@@ -134,7 +138,8 @@ impl SlotMap {
 }
 
 fn put_each(map: &mut SlotRangeMap<SlotAddrs>, slots: Vec<SlotRange>) -> Result<(), AllocError>
-    ensures { MatchResult result (λ _. map.new ≡ put_all map.old slots.items) (λ _. PutsSome map.old slots.items map.new) }
+    ensures { MatchResult result (λ _. map.new ≡ put_all map.old slots.items)
+        (λ _. PutsSome map.old slots.items map.new) }
 {
     'ranges: for range in slots {
         put_one(map, range)?;

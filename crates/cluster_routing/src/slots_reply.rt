@@ -18,7 +18,12 @@ use std::alloc::{AllocError, Global};
 /// # Errors
 /// `AllocError` where memory is refused.
 pub fn slot_cmd(alloc: Global) -> Result<Cmd, AllocError>
-    ensures { IfOk result (λ c. c ≡ record { args = Simple (codes "CLUSTER") ∷ Simple (codes "SLOTS") ∷ []; cursor = None; no_response = false }) }
+    ensures { IfOk result
+        (λ c. c ≡ record {
+          args = Simple (codes "CLUSTER") ∷ Simple (codes "SLOTS") ∷ [];
+          cursor = None;
+          no_response = false;
+        }) }
 {
     let mut cmd = Cmd::new(alloc);
     cmd.arg("CLUSTER")?;
@@ -77,7 +82,9 @@ fn push_row(
     items: &[Value],
     host: &str,
 ) -> Result<(), AllocError>
-    ensures { IfOk result (λ _. listed.new.items ≡ listed.old.items ++ with_range (listed_range host.now (map view items.now)) []) }
+    ensures { IfOk result
+        (λ _. listed.new.items ≡ listed.old.items
+        ++ with_range (listed_range host.now (map view items.now)) []) }
 {
     match range_in(alloc, items, host)? {
         None => {}
@@ -145,7 +152,9 @@ fn push_node(
     node: &Value,
     host: &str,
 ) -> Result<(), AllocError>
-    ensures { IfOk result (λ _. addresses listed.new.items ≡ addresses listed.old.items ++ listed_nodes host.now (view node.now ∷ [])) }
+    ensures { IfOk result
+        (λ _. addresses listed.new.items ≡ addresses listed.old.items
+        ++ listed_nodes host.now (view node.now ∷ [])) }
 {
     match node_in(alloc, node, host)? {
         None => {}

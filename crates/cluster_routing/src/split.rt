@@ -44,7 +44,8 @@ impl SplitParts {
         r: &R,
         read_only: &[Vec<u8>],
     ) -> Result<Option<SplitParts>, AllocError>
-        ensures { IfOk result (λ o. option_map shown_split o ≡ parts_by_place (R.args r.now) (texts read_only.now)) }
+        ensures { IfOk result
+            (λ o. option_map shown_split o ≡ parts_by_place (R.args r.now) (texts read_only.now)) }
     {
         match r.arg_idx(0) {
             None => Ok(None),
@@ -58,7 +59,9 @@ impl SplitParts {
     /// # Errors
     /// `AllocError` where memory is refused.
     pub fn commands<R: Routable>(&self, alloc: Global, original: &R) -> Result<Vec<Cmd>, AllocError>
-        ensures { IfOk result (λ v. v.items ≡ map (λ p. with_texts new_command (sub_at (R.args original.now) p.1)) (shown_parts self.now.routes.items)) }
+        ensures { IfOk result
+            (λ v. v.items ≡ map (λ p. with_texts new_command (sub_at (R.args original.now) p.1))
+            (shown_parts self.now.routes.items)) }
     {
         let args = original.each_argument(alloc)?;
         commands_at(alloc, &args, &self.routes)
@@ -71,7 +74,10 @@ fn parts_by_word<R: Routable>(
     word: &[u8],
     read_only: &[Vec<u8>],
 ) -> Result<Option<SplitParts>, AllocError>
-    ensures { IfOk result (λ o. option_map shown_split o ≡ option_and_then (λ s. option_and_then (parts_by_role (role_of word.now (texts read_only.now)) s) (all_bytes (R.args r.now))) (splitting_of word.now)) }
+    ensures { IfOk result
+        (λ o. option_map shown_split o
+        ≡ option_and_then (λ s. option_and_then (parts_by_role (role_of word.now (texts read_only.now)) s)
+        (all_bytes (R.args r.now))) (splitting_of word.now)) }
 {
     match splitting_of(word) {
         None => Ok(None),
@@ -98,7 +104,9 @@ fn parts_by_tuples<R: Routable>(
     pattern: MultiSlotArgPattern,
     policy: ResponsePolicy,
 ) -> Result<Option<SplitParts>, AllocError>
-    ensures { IfOk result (λ o. option_map shown_split o ≡ option_and_then (parts_by_role role (shown_splitting (pattern, policy))) (all_bytes (R.args r.now))) }
+    ensures { IfOk result
+        (λ o. option_map shown_split o
+        ≡ option_and_then (parts_by_role role (shown_splitting (pattern, policy))) (all_bytes (R.args r.now))) }
 {
     match r.arguments(alloc)? {
         None => Ok(None),
@@ -113,7 +121,9 @@ fn parts_of_bytes(
     pattern: MultiSlotArgPattern,
     policy: ResponsePolicy,
 ) -> Result<Option<SplitParts>, AllocError>
-    ensures { IfOk result (λ o. option_map shown_split o ≡ parts_by_role role (shown_splitting (pattern, policy)) (lent args.now)) }
+    ensures { IfOk result
+        (λ o. option_map shown_split o
+        ≡ parts_by_role role (shown_splitting (pattern, policy)) (lent args.now)) }
 {
     match routes_of(alloc, args, role, pattern)? {
         None => Ok(None),
@@ -127,7 +137,8 @@ fn some_parts(
     pattern: MultiSlotArgPattern,
     policy: ResponsePolicy,
 ) -> Option<SplitParts>
-    ensures { option_map shown_split result ≡ parts_with_routes (shown_splitting (pattern, policy)) (shown_parts routes.items) }
+    ensures { option_map shown_split result
+        ≡ parts_with_routes (shown_splitting (pattern, policy)) (shown_parts routes.items) }
 {
     match routes.as_slice() {
         [] => None,
@@ -164,7 +175,9 @@ fn commands_at(
     args: &[Option<&[u8]>],
     routes: &[(Route, Vec<usize>)],
 ) -> Result<Vec<Cmd>, AllocError>
-    ensures { IfOk result (λ v. v.items ≡ map (λ p. with_texts new_command (sub_of (lent_texts args.now) p.1)) (shown_parts routes.now)) }
+    ensures { IfOk result
+        (λ v. v.items ≡ map (λ p. with_texts new_command (sub_of (lent_texts args.now) p.1))
+        (shown_parts routes.now)) }
 {
     let mut commands = Vec::new(alloc);
     'routes: for part in routes {
@@ -187,7 +200,8 @@ fn command_at(alloc: Global, args: &[Option<&[u8]>], places: &[usize]) -> Result
 
 /// Writes an argument, if it is no gap.
 fn write(cmd: &mut Cmd, arg: Option<&[u8]>) -> Result<(), AllocError>
-    ensures { IfOk result (λ _. cmd.new ≡ with_texts cmd.old (text_list (Some (option_map (λ a. a.now) arg.entry)))) }
+    ensures { IfOk result
+        (λ _. cmd.new ≡ with_texts cmd.old (text_list (Some (option_map (λ a. a.now) arg.entry)))) }
 {
     match arg {
         Some(bytes) => cmd.arg(bytes),
@@ -206,7 +220,8 @@ fn write_at(cmd: &mut Cmd, args: &[Option<&[u8]>], place: usize) -> Result<(), A
 }
 
 fn write_all_at(cmd: &mut Cmd, args: &[Option<&[u8]>], places: &[usize]) -> Result<(), AllocError>
-    ensures { IfOk result (λ _. cmd.new ≡ with_texts cmd.old (flat_map (text_at (lent_texts args.now)) places.now)) }
+    ensures { IfOk result
+        (λ _. cmd.new ≡ with_texts cmd.old (flat_map (text_at (lent_texts args.now)) places.now)) }
 {
     'places: for place in places {
         write_at(cmd, args, *place)?;
@@ -220,7 +235,10 @@ fn write_shared(
     word: Option<&[u8]>,
     behind: &[Option<&[u8]>],
 ) -> Result<(), AllocError>
-    ensures { IfOk result (λ _. cmd.new ≡ with_texts cmd.old (shared_text (option_and_then splitting_of (option_map (λ a. a.now) word.entry)) (lent_texts behind.now))) }
+    ensures { IfOk result
+        (λ _. cmd.new ≡ with_texts cmd.old
+        (shared_text (option_and_then splitting_of (option_map (λ a. a.now) word.entry))
+        (lent_texts behind.now))) }
 {
     match splitting_in(word) {
         None => Ok(()),
@@ -229,7 +247,8 @@ fn write_shared(
 }
 
 fn splitting_in(word: Option<&[u8]>) -> Option<(MultiSlotArgPattern, ResponsePolicy)>
-    ensures { option_map shown_splitting result ≡ option_and_then splitting_of (option_map (λ a. a.now) word.entry) }
+    ensures { option_map shown_splitting result
+        ≡ option_and_then splitting_of (option_map (λ a. a.now) word.entry) }
 {
     match word {
         None => None,

@@ -51,7 +51,8 @@ pub(crate) fn node_among<'a>(
     pick: u64,
     strategy: Option<&dyn ReadRoutingStrategy>,
 ) -> &'a NodeAddress
-    ensures { IsChosenAmong (option_map (λ s. admits s.now) strategy.entry) route.slot route.slot_addr pick (address primary.now) replicas.entry (address result.now) }
+    ensures { IsChosenAmong (option_map (λ s. admits s.now) strategy.entry) route.slot route.slot_addr pick
+        (address primary.now) replicas.entry (address result.now) }
 {
     let slot = route.slot();
     match route.slot_addr() {
@@ -69,7 +70,8 @@ fn any_node<'a>(
     any: AnyNodeCandidates<'a>,
     strategy: Option<&dyn ReadRoutingStrategy>,
 ) -> &'a NodeAddress
-    ensures { IsAnyBy (option_map (λ s. admits s.now) strategy.entry) any.entry.slot any.entry.nodes (address result.now) }
+    ensures { IsAnyBy (option_map (λ s. admits s.now) strategy.entry) any.entry.slot any.entry.nodes
+        (address result.now) }
 {
     match strategy {
         None => any.primary(),
@@ -82,7 +84,9 @@ fn replica<'a>(
     pick: u64,
     strategy: Option<&dyn ReadRoutingStrategy>,
 ) -> &'a NodeAddress
-    ensures { IsReplicaBy (option_map (λ s. admits s.now) strategy.entry) only.entry.slot pick only.entry.replicas (address result.now) }
+    ensures { IsReplicaBy
+        (option_map (λ s. admits s.now) strategy.entry) only.entry.slot pick only.entry.replicas
+        (address result.now) }
 {
     match strategy {
         None => only.replicas().choose_random(pick),

@@ -35,7 +35,10 @@ impl Shard {
         primary: NodeAddress,
         replicas: Vec<NodeAddress>,
     ) -> Shard
-        ensures { result ≡ record { ranges = slot_ranges.items; nodes = record { primary = address primary; replicas = addresses replicas.items } } }
+        ensures { result ≡ record {
+          ranges = slot_ranges.items;
+          nodes = record { primary = address primary; replicas = addresses replicas.items };
+        } }
     {
         Shard {
             slot_ranges,

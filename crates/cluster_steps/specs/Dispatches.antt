@@ -33,7 +33,8 @@ ArePicksFor None client parts picks = picks ≡ []
 ArePicksFor (Some admits) client parts picks = ArePartPicks admits client parts picks
 
 -- these are the parts' dispatches by these picks, or why there are none
-pub record AreDispatched (strategy : Option Strategy) (client : Client) (parts : List Part) (picks : List Address) (made : Result (List Dispatch) Refusal) : Type 0 where
+pub record AreDispatched (strategy : Option Strategy) (client : Client) (parts : List Part)
+    (picks : List Address) (made : Result (List Dispatch) Refusal) : Type 0 where
   pub picked : ArePicksFor strategy client parts picks
   pub planned : made ≡ dispatches client picks parts
 
@@ -51,6 +52,7 @@ prepared_by (Ok p) = Ok (map dispatch_of p.dispatches.items)
 prepared_by (Err refusal) = Err refusal
 
 -- this is the plan of the call by these picks, and they are picks of the call
-pub record IsPlanned (strategy : Option Strategy) (client : Client) (call : Call) (picks : List Address) (made : Result (List Dispatch) Refusal) : Type 0 where
+pub record IsPlanned (strategy : Option Strategy) (client : Client) (call : Call) (picks : List Address)
+    (made : Result (List Dispatch) Refusal) : Type 0 where
   pub planned : plan client picks call ≡ made
   pub picked : ArePicks strategy client call picks

@@ -48,7 +48,8 @@ node_by_place (Some node) = Ok node
 -- the same, where an open link leads to it
 abbrev pub node_with_link : List Address → Option First → Result Address Refusal
 node_with_link links None = Err (by_cause NoNode)
-node_with_link links (Some first) = if is_linked links first.node then Ok first.node else Err (by_cause NoLink)
+node_with_link links (Some first) = if is_linked links first.node then Ok first.node
+    else Err (by_cause NoLink)
 
 abbrev pub node_by : {A : Type 0} → (A → Address) → Result A Refusal → Result Address Refusal
 node_by node (Ok a) = Ok (node a)
@@ -69,7 +70,8 @@ IsPickOf (Some admits) (Some candidates) None = ⊥
 IsPickOf (Some admits) (Some candidates) (Some pick) = IsAdmitted admits candidates pick
 
 -- Where a target leads, by picks of its own, which stand behind those that were made before.
-pub record FindsFirst (strategy : Option Strategy) (entries : SlotEntries) (target : Target) (old new : List Address) (Leads : Option First → Type 0) : Type 0 where
+pub record FindsFirst (strategy : Option Strategy) (entries : SlotEntries) (target : Target)
+    (old new : List Address) (Leads : Option First → Type 0) : Type 0 where
   pub own : List Address
   pub behind : new ≡ old ++ own
   pub picks : ArePicksAt strategy entries target own

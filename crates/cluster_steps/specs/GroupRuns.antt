@@ -30,7 +30,8 @@ moved_by (Ok trees) = list_any is_moved_tree trees
 moved_by (Err refusal) = false
 
 -- a group was exchanged, and a refresh is needed where one of its replies is MOVED
-pub record GroupExchanged (old new : World) (which : ℕ) (qs : List Request) (result : Result (List Tree) Refusal) : Type 0 where
+pub record GroupExchanged (old new : World) (which : ℕ) (qs : List Request)
+    (result : Result (List Tree) Refusal) : Type 0 where
   pub exchange : Exchanges old.nodes new.nodes which old.log new.log qs 0 (length qs) result
   pub flag : new.needs_refresh ≡ (old.needs_refresh || moved_by result)
   pub entries : new.entries ≡ old.entries
@@ -63,40 +64,49 @@ abbrev pub GroupByGroup : List (List Request) → List Exchange → Type 0
 GroupByGroup [] xs = xs ≡ []
 GroupByGroup (qs ∷ qss) xs =
     (requests (take (length qs) xs) ≡ qs)
-    × MatchBool (list_any is_unanswered (take (length qs) xs)) (drop (length qs) xs ≡ []) (GroupByGroup qss (drop (length qs) xs))
+    × MatchBool (list_any is_unanswered (take (length qs) xs)) (drop (length qs) xs ≡ [])
+    (GroupByGroup qss (drop (length qs) xs))
 
 -- what came from each place, as the code has it
 abbrev pub answered_at : {V : Type 0} → (V → Tree) → CodeAnswered V → ℕ × List Tree
 answered_at view a = (a.which, map view a.items.items)
 
-abbrev pub answers_of : {V : Type 0} → (V → Tree) → Result (Vec (CodeAnswered V) Global) Refusal → Result (List (ℕ × List Tree)) Refusal
+abbrev pub answers_of : {V : Type 0} → (V → Tree) → Result (Vec (CodeAnswered V) Global) Refusal
+    → Result (List (ℕ × List Tree)) Refusal
 answers_of view (Ok answers) = Ok (map (answered_at view) answers.items)
 answers_of view (Err refusal) = Err refusal
 
--- All requests have a reply, and these are they, group by group; or the refusal is by the first unanswered request, whatever errors
--- there are.
-abbrev pub AreGroupResults : (Address → LinkFault) → List Group → List Exchange → Result (List (ℕ × List Tree)) Refusal → Type 0
+-- All requests have a reply, and these are they, group by group; or the refusal is by the first unanswered
+-- request, whatever errors there are.
+abbrev pub AreGroupResults : (Address → LinkFault) → List Group → List Exchange
+    → Result (List (ℕ × List Tree)) Refusal → Type 0
 AreGroupResults faults gs xs (Ok answers) =
     (map (λ (a : ℕ × List Tree). a.0) answers ≡ map (λ (g : Group). g.which) gs)
     × (map (λ (a : ℕ × List Tree). length a.1) answers ≡ map (λ (g : Group). length g.requests) gs)
     × (requests xs ≡ concat (request_lists gs))
-    × (map (λ (x : Exchange). x.reply) xs ≡ map (λ tree. Some tree) (concat (map (λ (a : ℕ × List Tree). a.1) answers)))
-AreGroupResults faults gs xs (Err refusal) = (errors : List (ℕ × ErrorText)) → pipeline_refusal faults xs errors ≡ Some refusal
+    × (map (λ (x : Exchange). x.reply) xs
+    ≡ map (λ tree. Some tree) (concat (map (λ (a : ℕ × List Tree). a.1) answers)))
+AreGroupResults faults gs xs (Err refusal) = (errors : List (ℕ × ErrorText))
+    → pipeline_refusal faults xs errors ≡ Some refusal
 
-pub record GroupsAnswered (gs : List Group) (events : List Event) (result : Result (List (ℕ × List Tree)) Refusal) : Type 0 where
+pub record GroupsAnswered (gs : List Group) (events : List Event)
+    (result : Result (List (ℕ × List Tree)) Refusal) : Type 0 where
   pub memory : lack_memory events ≡ false
   pub whole : (place : ℕ) → GroupByGroup (request_lists gs) (exchanges_of place events)
-  pub tells : (faults : Address → LinkFault) → Agrees faults events → (place : ℕ) → AreGroupResults faults gs (exchanges_of place events) result
+  pub tells : (faults : Address → LinkFault) → Agrees faults events → (place : ℕ)
+      → AreGroupResults faults gs (exchanges_of place events) result
 
 -- What the link calls of all groups did, also where memory was refused: then they begin such a run.
-pub record GroupsMade (old new : World) (gs : List Group) (result : Result (List (ℕ × List Tree)) Refusal) : Type 0 where
+pub record GroupsMade (old new : World) (gs : List Group)
+    (result : Result (List (ℕ × List Tree)) Refusal) : Type 0 where
   pub events : List Event
   pub runs : Runs old.nodes new.nodes events
   pub stops : StopsAtMemory events
   pub logged : new.log ≡ old.log ++ log_of events
   pub unasked : List Address
   pub in_order : map (λ (x : Event). x.node) events ++ unasked ≡ group_nodes gs
-  pub begins : (place : ℕ) → (later : List Exchange) × GroupByGroup (request_lists gs) (exchanges_of place events ++ later)
+  pub begins : (place : ℕ) → (later : List Exchange)
+      × GroupByGroup (request_lists gs) (exchanges_of place events ++ later)
   pub flag : new.needs_refresh ≡ (old.needs_refresh || answered_moved events)
   pub entries : new.entries ≡ old.entries
   pub settings : new.settings ≡ old.settings

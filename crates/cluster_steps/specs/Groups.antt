@@ -43,8 +43,10 @@ request_count (g ∷ groups) = length g.requests + request_count groups
 
 -- whether nothing goes to a place yet
 abbrev pub TellsUnused : List Group → ℕ → Bool → Type 0
-TellsUnused groups which result = (group : Group) → slice_get groups which ≡ Some group → result ≡ (length group.requests == 0)
+TellsUnused groups which result = (group : Group) → slice_get groups which ≡ Some group
+    → result ≡ (length group.requests == 0)
 
 -- a request was put behind those to its place
 abbrev pub Puts : List Group → List Group → ℕ → Request → Type 0
-Puts old new which request = (group : Group) → slice_get old which ≡ Some group → new ≡ slice_set old which (with_request group request)
+Puts old new which request = (group : Group) → slice_get old which ≡ Some group
+    → new ≡ slice_set old which (with_request group request)

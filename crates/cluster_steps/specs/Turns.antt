@@ -37,9 +37,11 @@ LeadsOn nodes _ = ⊤
 
 -- What becomes of a reply: it is data and the answer, it refuses its part, or its request goes on.
 abbrev pub TurnsBy : Next → Tree → Result Turn Refusal → Type 0
-TurnsBy next tree (Ok (turns.Answered value)) = (next ≡ Stays) × (view value ≡ tree) × (is_data (sort_of tree) ≡ true)
+TurnsBy next tree (Ok (turns.Answered value)) = (next ≡ Stays) × (view value ≡ tree)
+    × (is_data (sort_of tree) ≡ true)
 TurnsBy next tree (Ok (turns.On place)) = next ≡ Goes (hop_to place)
-TurnsBy next tree (Err refusal) = (is_going next ≡ false) × (is_data (sort_of tree) ≡ false) × (stop_refusal next tree ≡ Some refusal)
+TurnsBy next tree (Err refusal) = (is_going next ≡ false) × (is_data (sort_of tree) ≡ false)
+    × (stop_refusal next tree ≡ Some refusal)
 
 abbrev pub turns_on : Turn → Bool
 turns_on (turns.On place) = true

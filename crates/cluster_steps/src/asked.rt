@@ -28,7 +28,8 @@ impl Model for Asked {
 
     ghost Value = { Request };
 
-    ghost view = { λ a. record { node = address a.node; args = map (λ arg. arg.items) a.args.items; asking = a.asking } };
+    ghost view = { λ a. record
+        { node = address a.node; args = map (λ arg. arg.items) a.args.items; asking = a.asking } };
 }
 
 /// The last request of the log once more, to this place; its arguments are copied.

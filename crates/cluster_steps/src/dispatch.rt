@@ -60,9 +60,12 @@ pub fn dispatches<L: ConnectionLike>(
     picked: &mut Vec<NodeAddress>,
 ) -> Result<Vec<Dispatch>, RedisError>
     requires { picked.old.items ≡ [] }
-    ensures dispatched { result ≢ Err (by_cause Memory) → (settings : Settings) → AreDispatched (option_map (λ s. admits s.now) strategy.entry)
-        (client_with settings slots.now (nodes L.seen links.now.nodes.items)) (map part_of parts.items) (addresses picked.new.items) (dispatches_of result) }
-    ensures placed { IfOk result (λ v. AllByRecursion (IsPlaced (nodes L.seen links.now.nodes.items)) v.items) }
+    ensures dispatched { result ≢ Err (by_cause Memory) → (settings : Settings)
+        → AreDispatched (option_map (λ s. admits s.now) strategy.entry)
+        (client_with settings slots.now (nodes L.seen links.now.nodes.items)) (map part_of parts.items)
+        (addresses picked.new.items) (dispatches_of result) }
+    ensures placed { IfOk result
+        (λ v. AllByRecursion (IsPlaced (nodes L.seen links.now.nodes.items)) v.items) }
 {
     let mut all = Vec::new(alloc);
     'parts: for part in parts {

@@ -30,7 +30,9 @@ fn empty_queues<T: Drop>(alloc: Global, count: usize) -> Result<Vec<VecDeque<T>>
 fn put<T: Drop>(queues: &mut Vec<VecDeque<T>>, which: usize, items: Vec<T>)
     requires { which < vec_len queues.old }
     ensures len { vec_len queues.new ≡ vec_len queues.old }
-    ensures put { (k : ℕ) → queue_in (map (λ q. q.items) queues.new.items) k ≡ (if k == which then items.items else queue_in (map (λ q. q.items) queues.old.items) k) }
+    ensures put { (k : ℕ)
+        → queue_in (map (λ q. q.items) queues.new.items) k
+        ≡ (if k == which then items.items else queue_in (map (λ q. q.items) queues.old.items) k) }
 {
     queues[which] = VecDeque::from(items);
 }
@@ -43,7 +45,9 @@ fn queues_of<T: Drop>(
 ) -> Result<Vec<VecDeque<T>>, AllocError>
     requires { AllByRecursion (λ a. a.which < count) answered.items }
     ensures len { IfOk result (λ v. vec_len v ≡ count) }
-    ensures queued { IfOk result (λ v. (k : ℕ) → queue_in (map (λ q. q.items) v.items) k ≡ queued no_queues (map items_at answered.items) k) }
+    ensures queued { IfOk result
+        (λ v. (k : ℕ) → queue_in (map (λ q. q.items) v.items) k
+        ≡ queued no_queues (map items_at answered.items) k) }
 {
     let mut queues = empty_queues(alloc, count)?;
     'answered: for answer in answered {
@@ -57,7 +61,9 @@ fn next<T: Drop>(queues: &mut Vec<VecDeque<T>>, place: usize) -> Option<T>
     requires { place < vec_len queues.old }
     ensures len { vec_len queues.new ≡ vec_len queues.old }
     ensures front { option_to_list result ≡ front (queue_in (map (λ q. q.items) queues.old.items) place) }
-    ensures rest { (k : ℕ) → queue_in (map (λ q. q.items) queues.new.items) k ≡ without_front_of place (queue_in (map (λ q. q.items) queues.old.items)) k }
+    ensures rest { (k : ℕ)
+        → queue_in (map (λ q. q.items) queues.new.items) k
+        ≡ without_front_of place (queue_in (map (λ q. q.items) queues.old.items)) k }
 {
     queues[place].pop_front()
 }

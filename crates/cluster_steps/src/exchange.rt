@@ -30,7 +30,8 @@ pub fn exchange<L: ConnectionLike>(
     ensures len { vec_len links.new.nodes ≡ vec_len links.old.nodes }
     ensures log_len { vec_len log.new ≡ vec_len log.old + vec_len group.requests }
     ensures log_capacity { vec_capacity log.old ≤ vec_capacity log.new }
-    ensures exchange { Exchanges (nodes L.seen links.old.nodes.items) (nodes L.seen links.new.nodes.items) group.which log.old.items log.new.items
+    ensures exchange { Exchanges (nodes L.seen links.old.nodes.items)
+        (nodes L.seen links.new.nodes.items) group.which log.old.items log.new.items
         group.requests.items 0 (vec_len group.requests) (tree_results view result) }
 {
     let Group {
@@ -55,8 +56,10 @@ pub fn exchange_one<L: ConnectionLike>(
     ensures len { vec_len links.new.nodes ≡ vec_len links.old.nodes }
     ensures log_len { vec_len log.new ≡ vec_len log.old + 1 }
     ensures log_capacity { vec_capacity log.old ≤ vec_capacity log.new }
-    ensures exchange { Exchanges (nodes L.seen links.old.nodes.items) (nodes L.seen links.new.nodes.items) ready.dispatch.place.which log.old.items log.new.items
-        (request_in ready.dispatch ∷ []) (skipped ready.dispatch.place.asking) 1 (one_reply (tree_result view result)) }
+    ensures exchange { Exchanges (nodes L.seen links.old.nodes.items)
+        (nodes L.seen links.new.nodes.items) ready.dispatch.place.which log.old.items log.new.items
+        (request_in ready.dispatch ∷ []) (skipped ready.dispatch.place.asking) 1
+        (one_reply (tree_result view result)) }
 {
     let Ready { dispatch, bytes } = ready;
     let which = dispatch.place.which;

@@ -53,7 +53,8 @@ fn is_unused(groups: &[Gathered], which: usize) -> bool
 
 /// Puts a place behind those in use, where it is used for the first time.
 fn mark(order: &mut Vec<usize>, which: usize, is_first: bool) -> Result<(), AllocError>
-    ensures { OnOk result (order.new.items ≡ (if is_first then order.old.items ++ which ∷ [] else order.old.items)) }
+    ensures { OnOk result
+        (order.new.items ≡ (if is_first then order.old.items ++ which ∷ [] else order.old.items)) }
 {
     if is_first {
         order.push(which)?;
@@ -65,7 +66,8 @@ fn mark(order: &mut Vec<usize>, which: usize, is_first: bool) -> Result<(), Allo
 fn put(groups: &mut Vec<Gathered>, which: usize, request: Asked) -> Result<(), AllocError>
     requires { which < vec_len groups.old }
     ensures len { vec_len groups.new ≡ vec_len groups.old }
-    ensures put { OnOk result (Puts (map gathered_of groups.old.items) (map gathered_of groups.new.items) which request) }
+    ensures put { OnOk result
+        (Puts (map gathered_of groups.old.items) (map gathered_of groups.new.items) which request) }
 {
     groups[which].requests.push(request)?;
     Ok(())
@@ -96,7 +98,9 @@ pub fn grouped(
     dispatches: Vec<Dispatch>,
 ) -> Result<Vec<Group>, AllocError>
     requires { AllByRecursion (λ d. place_in d < count) dispatches.items }
-    ensures { IfOk result (λ v. map group_of v.items ≡ map (group_at dispatches.items) (firsts nat_eq (map place_in dispatches.items))) }
+    ensures { IfOk result
+        (λ v. map group_of v.items
+        ≡ map (group_at dispatches.items) (firsts nat_eq (map place_in dispatches.items))) }
 {
     let mut groups = empty_groups(alloc, count)?;
     let mut order = Vec::new(alloc);

@@ -106,7 +106,8 @@ fn place_of<L: ConnectionLike>(links: &[(NodeAddress, L)], node: &NodeAddress) -
 }
 
 fn is_among<L: ConnectionLike>(links: &[(NodeAddress, L)], node: &NodeAddress) -> bool
-    ensures { result ≡ list_any (λ known. same_address known (address node.now)) (addresses_of (nodes L.seen links.now)) }
+    ensures { result ≡ list_any (λ known. same_address known (address node.now))
+        (addresses_of (nodes L.seen links.now)) }
 {
     place_of(links, node).is_some()
 }

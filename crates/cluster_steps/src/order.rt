@@ -35,10 +35,16 @@ pub fn prepared_in_order(
     prepared: Prepared,
     order: Option<&[usize]>,
 ) -> Result<Prepared, AllocError>
-    requires dispatches { fits_order (option_map (λ o. o.now) order) (length prepared.dispatches.items) ≡ true }
-    requires routes { IfSome prepared.split (λ s. fits_order (option_map (λ o. o.now) order) (length s.routes.items) ≡ true) }
-    ensures dispatches { IfOk result (λ p. p.dispatches.items ≡ in_order (option_map (λ o. o.now) order.entry) prepared.dispatches.items) }
-    ensures split { IfOk result (λ p. option_map shown_split p.split ≡ option_map (routes_in_order (option_map (λ o. o.now) order.entry)) (option_map shown_split prepared.split)) }
+    requires dispatches { fits_order (option_map (λ o. o.now) order) (length prepared.dispatches.items)
+        ≡ true }
+    requires routes { IfSome prepared.split
+        (λ s. fits_order (option_map (λ o. o.now) order) (length s.routes.items) ≡ true) }
+    ensures dispatches { IfOk result
+        (λ p. p.dispatches.items ≡ in_order (option_map (λ o. o.now) order.entry) prepared.dispatches.items) }
+    ensures split { IfOk result
+        (λ p. option_map shown_split p.split
+        ≡ option_map (routes_in_order (option_map (λ o. o.now) order.entry))
+        (option_map shown_split prepared.split)) }
 {
     let Some(order) = order else {
         return Ok(prepared);
@@ -56,7 +62,9 @@ fn split_in_order(
     order: &[usize],
 ) -> Result<Option<SplitParts>, AllocError>
     requires { IfSome split (λ s. is_permutation (length s.routes.items) order.now ≡ true) }
-    ensures { IfOk result (λ o. option_map shown_split o ≡ option_map (routes_in_order (Some order.now)) (option_map shown_split split)) }
+    ensures { IfOk result
+        (λ o. option_map shown_split o
+        ≡ option_map (routes_in_order (Some order.now)) (option_map shown_split split)) }
 {
     let Some(split) = split else {
         return Ok(None);

@@ -46,7 +46,8 @@ fn pick<'a>(
     route: Route,
     strategy: Option<&dyn ReadRoutingStrategy>,
 ) -> Option<&'a NodeAddress>
-    ensures { IsPickOf (option_map (λ s. admits s.now) strategy.entry) (target_candidates slots.now (at_slot route)) (option_map (λ a. address a.now) result) }
+    ensures { IsPickOf (option_map (λ s. admits s.now) strategy.entry)
+        (target_candidates slots.now (at_slot route)) (option_map (λ a. address a.now) result) }
 {
     if strategy.is_none() || !is_asked(slots, route) {
         return None;
@@ -57,7 +58,8 @@ fn pick<'a>(
 
 /// The primary of a route's slot.
 fn primary(slots: &SlotMap, route: Route) -> Option<&NodeAddress>
-    ensures { option_map (λ a. address a.now) result ≡ option_map (λ n. n.primary) (nodes_at route.slot slots.now) }
+    ensures { option_map (λ a. address a.now) result
+        ≡ option_map (λ n. n.primary) (nodes_at route.slot slots.now) }
 {
     let write = Route::new(route.slot(), SlotAddr::Master);
     slots.slot_addr_for_route(write, 0, None)
@@ -71,7 +73,9 @@ fn node_at_slot<'a>(
     strategy: Option<&dyn ReadRoutingStrategy>,
     picked: &mut Vec<NodeAddress>,
 ) -> Result<&'a NodeAddress, RedisError>
-    ensures { result ≢ Err (by_cause Memory) → FindsFirst (option_map (λ s. admits s.now) strategy.entry) slots.now (at_slot route) (addresses picked.old.items) (addresses picked.new.items)
+    ensures { result ≢ Err (by_cause Memory)
+        → FindsFirst (option_map (λ s. admits s.now) strategy.entry) slots.now (at_slot route)
+        (addresses picked.old.items) (addresses picked.new.items)
         (λ first. node_by (λ node. address node.now) result ≡ node_in first) }
 {
     if let Some(node) = pick(slots, route, strategy) {
@@ -100,7 +104,8 @@ fn node_by_number<'a>(
     slots: &'a SlotMap,
     number: u64,
 ) -> Result<&'a NodeAddress, RedisError>
-    ensures { result ≢ Err (by_cause Memory) → node_by (λ node. address node.now) result ≡ node_by_place (by_number number (all_nodes slots.now)) }
+    ensures { result ≢ Err (by_cause Memory)
+        → node_by (λ node. address node.now) result ≡ node_by_place (by_number number (all_nodes slots.now)) }
 {
     let all = slots.addresses_for_all_nodes(alloc)?;
     match node_among(&all, number) {
@@ -117,7 +122,9 @@ fn first_node<'a>(
     strategy: Option<&dyn ReadRoutingStrategy>,
     picked: &mut Vec<NodeAddress>,
 ) -> Result<&'a NodeAddress, RedisError>
-    ensures { result ≢ Err (by_cause Memory) → FindsFirst (option_map (λ s. admits s.now) strategy.entry) slots.now (target_of target.now) (addresses picked.old.items) (addresses picked.new.items)
+    ensures { result ≢ Err (by_cause Memory)
+        → FindsFirst (option_map (λ s. admits s.now) strategy.entry) slots.now (target_of target.now)
+        (addresses picked.old.items) (addresses picked.new.items)
         (λ first. node_by (λ node. address node.now) result ≡ node_in first) }
 {
     match target {
@@ -138,9 +145,13 @@ pub fn first_place<L: ConnectionLike>(
     strategy: Option<&dyn ReadRoutingStrategy>,
     picked: &mut Vec<NodeAddress>,
 ) -> Result<Place, RedisError>
-    ensures found { result ≢ Err (by_cause Memory) → FindsFirst (option_map (λ s. admits s.now) strategy.entry) slots.now (target_of target.now) (addresses picked.old.items) (addresses picked.new.items)
-        (λ first. node_by (λ p. address p.node) result ≡ node_with_link (open_links (nodes L.seen links.now.nodes.items)) first) }
-    ensures place { IfOk result (λ p. IsOpenAt (nodes L.seen links.now.nodes.items) (address p.node) p.which) }
+    ensures found { result ≢ Err (by_cause Memory)
+        → FindsFirst (option_map (λ s. admits s.now) strategy.entry) slots.now (target_of target.now)
+        (addresses picked.old.items) (addresses picked.new.items)
+        (λ first. node_by (λ p. address p.node) result
+        ≡ node_with_link (open_links (nodes L.seen links.now.nodes.items)) first) }
+    ensures place { IfOk result
+        (λ p. IsOpenAt (nodes L.seen links.now.nodes.items) (address p.node) p.which) }
     ensures direct { IfOk result (λ p. p.asking ≡ false) }
     ensures within { IfOk result (λ p. p.which < vec_len links.now.nodes) }
 {

@@ -19,7 +19,8 @@ pub fn read_refusal<K: ToSingleRedisArg, I>(
     streams: &[(K, I)],
     options: &StreamReadOptions,
 ) -> Result<Option<Cause>, AllocError>
-    ensures { IfOk result (λ why. option_map by_cause why ≡ tasks.read_refusal (map (λ s. K.arg s.0) streams.now) options.now) }
+    ensures { IfOk result
+        (λ why. option_map by_cause why ≡ tasks.read_refusal (map (λ s. K.arg s.0) streams.now) options.now) }
 {
     if streams.is_empty() {
         return Ok(Some(Cause::NoKeys));

@@ -45,8 +45,11 @@ pub fn reply_of_parts(
     split: Option<SplitParts>,
     replies: Vec<Value>,
 ) -> Result<Value, RedisError>
-    ensures { (client : Client) (picks : List Address) (command : Command) (order : Option (List ℕ)) (number : ℕ) (ds : List Dispatch) → plan client picks (command_call command order number) ≡ Ok ds
-        → option_map shown_split split ≡ option_map (routes_in_order order) (parts_by_place command.args client.settings.read_only) → length replies.items ≡ length ds
+    ensures { (client : Client) (picks : List Address) (command : Command) (order : Option (List ℕ))
+        (number : ℕ) (ds : List Dispatch) → plan client picks (command_call command order number) ≡ Ok ds
+        → option_map shown_split split
+        ≡ option_map (routes_in_order order) (parts_by_place command.args client.settings.read_only)
+        → length replies.items ≡ length ds
         → IsMadeOfParts (sent command) ds (Ok (map view replies.items)) (tree_result view result) }
 {
     match split {

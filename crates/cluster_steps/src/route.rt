@@ -55,8 +55,10 @@ pub fn parts_of(
     read_only: &[Vec<u8>],
     number: u64,
 ) -> Result<Parts, RedisError>
-    ensures parts { result ≢ Err (by_cause Memory) → parts_by result ≡ parts_of (texts read_only.now) cmd.now number }
-    ensures split { IfOk result (λ p. option_map shown_split p.split ≡ parts_by_place cmd.now.args (texts read_only.now)) }
+    ensures parts { result ≢ Err (by_cause Memory)
+        → parts_by result ≡ parts_of (texts read_only.now) cmd.now number }
+    ensures split { IfOk result
+        (λ p. option_map shown_split p.split ≡ parts_by_place cmd.now.args (texts read_only.now)) }
 {
     if cmd.is_no_response() {
         return Err(RedisError::from(Cause::NoResponse));
@@ -105,8 +107,10 @@ fn is_gap(arg: Arg<&[u8]>) -> bool
 fn split_parts(alloc: Global, cmd: &Cmd, read_only: &[Vec<u8>]) -> Result<Parts, RedisError>
     requires word { has_split_word cmd.now.args ≡ true }
     requires response { cmd.now.no_response ≡ false }
-    ensures parts { result ≢ Err (by_cause Memory) → (number : ℕ) → parts_by result ≡ parts_of (texts read_only.now) cmd.now number }
-    ensures split { IfOk result (λ p. option_map shown_split p.split ≡ parts_by_place cmd.now.args (texts read_only.now)) }
+    ensures parts { result ≢ Err (by_cause Memory) → (number : ℕ)
+        → parts_by result ≡ parts_of (texts read_only.now) cmd.now number }
+    ensures split { IfOk result
+        (λ p. option_map shown_split p.split ≡ parts_by_place cmd.now.args (texts read_only.now)) }
 {
     if has_gap(cmd.args_iter()) {
         return Err(RedisError::from(Cause::CursorInSplit));
@@ -128,7 +132,8 @@ fn parts_at(
     routes: &[(Route, Vec<usize>)],
     commands: &[Cmd],
 ) -> Result<Vec<Part>, AllocError>
-    ensures { IfOk result (λ v. map part_of v.items ≡ map part_at (zip (shown_parts routes.now) commands.now)) }
+    ensures { IfOk result
+        (λ v. map part_of v.items ≡ map part_at (zip (shown_parts routes.now) commands.now)) }
 {
     let mut parts = Vec::new(alloc);
     let mut left = routes;
@@ -167,7 +172,8 @@ fn only_part(
     read_only: &[Vec<u8>],
     number: u64,
 ) -> Result<Part, RedisError>
-    ensures { result ≢ Err (by_cause Memory) → one_part result ≡ only_part (sent cmd.now) number (destination cmd.now.args (texts read_only.now)) }
+    ensures { result ≢ Err (by_cause Memory)
+        → one_part result ≡ only_part (sent cmd.now) number (destination cmd.now.args (texts read_only.now)) }
 {
     let info = RoutingInfo::for_routable(alloc, cmd, read_only)?;
     let Some(target) = target_in(info, number) else {

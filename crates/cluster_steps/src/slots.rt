@@ -22,7 +22,8 @@ pub fn slots_dispatch(
     node: &NodeAddress,
     which: usize,
 ) -> Result<Dispatch, AllocError>
-    ensures request { IfOk result (λ d. request_in d ≡ record { node = address node.now; args = slots_command; asking = false }) }
+    ensures request { IfOk result
+        (λ d. request_in d ≡ record { node = address node.now; args = slots_command; asking = false }) }
     ensures place { IfOk result (λ d. d.place.which ≡ which) }
 {
     let place = Place {

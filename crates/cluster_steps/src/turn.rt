@@ -62,7 +62,8 @@ fn redirect_target(alloc: Global, error: &ServerError) -> Result<Option<NodeAddr
 }
 
 fn to_link<L: ConnectionLike>(links: &Links<L>, node: NodeAddress, asking: bool) -> Onward
-    ensures next { next_by result ≡ hop_by_link (open_links (nodes L.seen links.now.nodes.items)) asking (Some (address node)) }
+    ensures next { next_by result
+        ≡ hop_by_link (open_links (nodes L.seen links.now.nodes.items)) asking (Some (address node)) }
     ensures on { LeadsOn (nodes L.seen links.now.nodes.items) result }
 {
     match links.open_place(&node) {
@@ -81,7 +82,9 @@ fn to_target<L: ConnectionLike>(
     error: &ServerError,
     asking: bool,
 ) -> Result<Onward, RedisError>
-    ensures next { IfOk result (λ o. next_by o ≡ hop_by_link (open_links (nodes L.seen links.now.nodes.items)) asking (redirect_target (error_text error.now))) }
+    ensures next { IfOk result
+        (λ o. next_by o ≡ hop_by_link (open_links (nodes L.seen links.now.nodes.items)) asking
+        (redirect_target (error_text error.now))) }
     ensures on { IfOk result (λ o. LeadsOn (nodes L.seen links.now.nodes.items) o) }
     ensures only { IfErr result (λ e. e ≡ by_cause Memory) }
 {
@@ -97,7 +100,9 @@ fn behind_error<L: ConnectionLike>(
     links: &Links<L>,
     error: &ServerError,
 ) -> Result<Onward, RedisError>
-    ensures next { IfOk result (λ o. next_by o ≡ sort_next (open_links (nodes L.seen links.now.nodes.items)) (error_sort (error_text error.now) (server_kind (error_text error.now).code))) }
+    ensures next { IfOk result
+        (λ o. next_by o ≡ sort_next (open_links (nodes L.seen links.now.nodes.items))
+        (error_sort (error_text error.now) (server_kind (error_text error.now).code))) }
     ensures on { IfOk result (λ o. LeadsOn (nodes L.seen links.now.nodes.items) o) }
     ensures only { IfErr result (λ e. e ≡ by_cause Memory) }
 {
@@ -115,7 +120,9 @@ fn next_place<L: ConnectionLike>(
     left: u16,
     reply: &Value,
 ) -> Result<Onward, RedisError>
-    ensures next { IfOk result (λ o. next_by o ≡ next_of (open_links (nodes L.seen links.now.nodes.items)) left (Some (view reply.now))) }
+    ensures next { IfOk result
+        (λ o. next_by o ≡ next_of (open_links (nodes L.seen links.now.nodes.items)) left
+        (Some (view reply.now))) }
     ensures on { IfOk result (λ o. LeadsOn (nodes L.seen links.now.nodes.items) o) }
     ensures some { IfOk result (λ o. goes_on o ≡ true → left ≢ 0) }
     ensures only { IfErr result (λ e. e ≡ by_cause Memory) }
@@ -136,7 +143,9 @@ pub fn turn_by<L: ConnectionLike>(
     left: u16,
     reply: Value,
 ) -> Result<Turn, RedisError>
-    ensures turns { result ≢ Err (by_cause Memory) → TurnsBy (next_of (open_links (nodes L.seen links.now.nodes.items)) left (Some (view reply))) (view reply) result }
+    ensures turns { result ≢ Err (by_cause Memory)
+        → TurnsBy (next_of (open_links (nodes L.seen links.now.nodes.items)) left (Some (view reply)))
+        (view reply) result }
     ensures on { IfOk result (λ turn. TurnsOn (nodes L.seen links.now.nodes.items) turn) }
     ensures some { IfOk result (λ turn. turns_on turn ≡ true → left ≢ 0) }
 {

@@ -1,5 +1,6 @@
--- What a reply is read as. Each reading is a partial function of the reply's tree; where it gives nothing, the conversion is refused.
--- Source: the documentation of the crate `redis`, `FromRedisValue`; numbers and texts are not made of doubles and big numbers.
+-- What a reply is read as. Each reading is a partial function of the reply's tree; where it gives nothing,
+-- the conversion is refused. Source: the documentation of the crate `redis`, `FromRedisValue`; numbers and
+-- texts are not made of doubles and big numbers.
 use Rattle.std.specs.Prelude.{◌≡◌, ℕ, ℤ, pos, negsuc, List, [], ◌∷◌, Bool, true, false, Option, Some, None, Result, Ok, Err, option_map, option_and_then, map as each, codes, ⊤, not, if◌then◌else◌, ◌==◌}
 use Rattle.std.specs.Str.{is_utf8}
 use Rattle.std.specs.Fmt.{signed_decimal}
@@ -9,7 +10,8 @@ use Rattle.resp_core.specs.Parts.{pair_list, pairs_in}
 use Rattle.resp_core.specs.Errors.{Unreadable, refused, no_memory}
 use Rattle.resp_args.specs.Numbers.{unsigned_number, unsigned_text, signed_number, signed_text}
 
--- what a conversion answers: the value that the tree is read as, a refusal exactly where there is none, or want of memory
+-- what a conversion answers: the value that the tree is read as, a refusal exactly where there is none, or
+-- want of memory
 abbrev pub Answers : {M S : Type 0} → (S → M) → Option M → Result S Unreadable → Type 0
 Answers meaning wanted (Ok value) = wanted ≡ Some (meaning value)
 Answers meaning wanted (Err (refused text)) = wanted ≡ None
@@ -116,24 +118,29 @@ both (Some m) None = None
 both None n = None
 
 -- both parts of a pair
-abbrev pub part_by_part : {M N : Type 0} → (Tree → Option M) → (Tree → Option N) → Tree × Tree → Option (M × N)
+abbrev pub part_by_part : {M N : Type 0} → (Tree → Option M) → (Tree → Option N) → Tree × Tree
+    → Option (M × N)
 part_by_part f g p = both (f p.0) (g p.1)
 
 -- every pair is read; a repeated name keeps its first place and its last value
-abbrev pub fields_of : {M N : Type 0} → (Tree → Option M) → (Tree → Option N) → (M → M → Bool) → List (Tree × Tree) → Option (List (M × N))
+abbrev pub fields_of : {M N : Type 0} → (Tree → Option M) → (Tree → Option N) → (M → M → Bool)
+    → List (Tree × Tree) → Option (List (M × N))
 fields_of f g same ps = option_map (insert_all same []) (traverse (part_by_part f g) ps)
 
-abbrev pub fields : {M N : Type 0} → (Tree → Option M) → (Tree → Option N) → (M → M → Bool) → Tree → Option (List (M × N))
+abbrev pub fields : {M N : Type 0} → (Tree → Option M) → (Tree → Option N) → (M → M → Bool) → Tree
+    → Option (List (M × N))
 fields f g same nil = Some []
 fields f g same t = option_and_then (fields_of f g same) (pairs_in t)
 
--- Tuple: an array of exactly that length, for two parts also a map of one pair; its own attributes are not looked through
+-- Tuple: an array of exactly that length, for two parts also a map of one pair; its own attributes are not
+-- looked through
 
 abbrev pub pair_of : {M N : Type 0} → (Tree → Option M) → (Tree → Option N) → List Tree → Option (M × N)
 pair_of f g (a ∷ b ∷ []) = both (f a) (g b)
 pair_of f g ts = None
 
-abbrev pub lone_pair : {M N : Type 0} → (Tree → Option M) → (Tree → Option N) → List (Tree × Tree) → Option (M × N)
+abbrev pub lone_pair : {M N : Type 0} → (Tree → Option M) → (Tree → Option N) → List (Tree × Tree)
+    → Option (M × N)
 lone_pair f g (p ∷ []) = both (f p.0) (g p.1)
 lone_pair f g ps = None
 
@@ -146,11 +153,13 @@ abbrev pub three : {M N O : Type 0} → Option M → Option N → Option O → O
 three (Some m) (Some n) (Some o) = Some (m, n, o)
 three m n o = None
 
-abbrev pub triple_of : {M N O : Type 0} → (Tree → Option M) → (Tree → Option N) → (Tree → Option O) → List Tree → Option (M × N × O)
+abbrev pub triple_of : {M N O : Type 0} → (Tree → Option M) → (Tree → Option N) → (Tree → Option O)
+    → List Tree → Option (M × N × O)
 triple_of f g h (a ∷ b ∷ c ∷ []) = three (f a) (g b) (h c)
 triple_of f g h ts = None
 
-abbrev pub tuple3 : {M N O : Type 0} → (Tree → Option M) → (Tree → Option N) → (Tree → Option O) → Tree → Option (M × N × O)
+abbrev pub tuple3 : {M N O : Type 0} → (Tree → Option M) → (Tree → Option N) → (Tree → Option O) → Tree
+    → Option (M × N × O)
 tuple3 f g h (array ts) = triple_of f g h (items ts)
 tuple3 f g h t = None
 
@@ -158,10 +167,12 @@ abbrev pub four : {M N O P : Type 0} → Option M → Option N → Option O → 
 four (Some m) (Some n) (Some o) (Some p) = Some (m, n, o, p)
 four m n o p = None
 
-abbrev pub quadruple_of : {M N O P : Type 0} → (Tree → Option M) → (Tree → Option N) → (Tree → Option O) → (Tree → Option P) → List Tree → Option (M × N × O × P)
+abbrev pub quadruple_of : {M N O P : Type 0} → (Tree → Option M) → (Tree → Option N) → (Tree → Option O)
+    → (Tree → Option P) → List Tree → Option (M × N × O × P)
 quadruple_of f g h k (a ∷ b ∷ c ∷ d ∷ []) = four (f a) (g b) (h c) (k d)
 quadruple_of f g h k ts = None
 
-abbrev pub tuple4 : {M N O P : Type 0} → (Tree → Option M) → (Tree → Option N) → (Tree → Option O) → (Tree → Option P) → Tree → Option (M × N × O × P)
+abbrev pub tuple4 : {M N O P : Type 0} → (Tree → Option M) → (Tree → Option N) → (Tree → Option O)
+    → (Tree → Option P) → Tree → Option (M × N × O × P)
 tuple4 f g h k (array ts) = quadruple_of f g h k (items ts)
 tuple4 f g h k t = None

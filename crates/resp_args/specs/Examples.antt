@@ -10,7 +10,11 @@ use Rattle.resp_args.specs.Packed.{packed, sent}
 use Rattle.resp_args.specs.Convert.{plain, truth, text, signed_count, unsigned_count, sequence, fields, tuple2}
 
 abbrev pub scan : Command
-scan = record { args = Simple (codes "SSCAN") ∷ Simple (codes "a") ∷ Cursor ∷ []; cursor = Some 42; no_response = false }
+scan = record {
+  args = Simple (codes "SSCAN") ∷ Simple (codes "a") ∷ Cursor ∷ [];
+  cursor = Some 42;
+  no_response = false;
+}
 
 pub sends_the_number_in_the_gap : sent scan ≡ codes "SSCAN" ∷ codes "a" ∷ codes "42" ∷ []
 unfolding digits
@@ -20,21 +24,25 @@ pub packs_a_scan : packed (sent scan) ≡ codes "*3\r\n$5\r\nSSCAN\r\n$1\r\na\r\
 unfolding digits
 packs_a_scan = refl
 
-pub packs_three_arguments : packed (codes "SET" ∷ codes "my_key" ∷ codes "42" ∷ []) ≡ codes "*3\r\n$3\r\nSET\r\n$6\r\nmy_key\r\n$2\r\n42\r\n"
+pub packs_three_arguments : packed (codes "SET" ∷ codes "my_key" ∷ codes "42" ∷ [])
+    ≡ codes "*3\r\n$3\r\nSET\r\n$6\r\nmy_key\r\n$2\r\n42\r\n"
 unfolding digits
 packs_three_arguments = refl
 
 abbrev pub two : Tree → Tree → Trees
 two a b = tree a (tree b no_trees)
 
-pub keeps_the_last_value_of_a_name : fields text (signed_count 64) bytes_eq (array (tree (bulk (codes "a")) (tree (int (pos 1)) (two (bulk (codes "a")) (int (pos 2)))))) ≡ Some ((codes "a", pos 2) ∷ [])
+pub keeps_the_last_value_of_a_name : fields text (signed_count 64) bytes_eq
+    (array (tree (bulk (codes "a")) (tree (int (pos 1)) (two (bulk (codes "a")) (int (pos 2))))))
+    ≡ Some ((codes "a", pos 2) ∷ [])
 unfolding is_utf8 chars encode
 keeps_the_last_value_of_a_name = refl
 
 pub looks_through_attributes : signed_count 64 (plain (attribute (int (pos 5)) no_pairs)) ≡ Some (pos 5)
 looks_through_attributes = refl
 
-pub looks_not_through_them_for_a_tuple : tuple2 (signed_count 64) (signed_count 64) (attribute (array (two (int (pos 1)) (int (pos 2)))) no_pairs) ≡ None
+pub looks_not_through_them_for_a_tuple : tuple2 (signed_count 64) (signed_count 64)
+    (attribute (array (two (int (pos 1)) (int (pos 2)))) no_pairs) ≡ None
 looks_not_through_them_for_a_tuple = refl
 
 pub refuses_a_number_that_does_not_fit : unsigned_count 8 (int (pos 300)) ≡ None
@@ -46,18 +54,22 @@ reads_okay_as_a_text = refl
 pub reads_two_as_true : truth (int (pos 2)) ≡ Some true
 reads_two_as_true = refl
 
-pub reads_a_map_of_one_pair_as_a_tuple : tuple2 text (signed_count 64) (map (pair okay (int (pos 1)) no_pairs)) ≡ Some (codes "OK", pos 1)
+pub reads_a_map_of_one_pair_as_a_tuple : tuple2 text (signed_count 64)
+    (map (pair okay (int (pos 1)) no_pairs)) ≡ Some (codes "OK", pos 1)
 reads_a_map_of_one_pair_as_a_tuple = refl
 
 abbrev pub any : Tree → Option Tree
 any t = Some t
 
-pub reads_a_map_as_its_pairs : sequence any None (map (pair okay (int (pos 1)) (pair okay (int (pos 2)) no_pairs))) ≡ Some (map (pair okay (int (pos 1)) no_pairs) ∷ map (pair okay (int (pos 2)) no_pairs) ∷ [])
+pub reads_a_map_as_its_pairs : sequence any None
+    (map (pair okay (int (pos 1)) (pair okay (int (pos 2)) no_pairs)))
+    ≡ Some (map (pair okay (int (pos 1)) no_pairs) ∷ map (pair okay (int (pos 2)) no_pairs) ∷ [])
 reads_a_map_as_its_pairs = refl
 
 pub reads_a_bulk_alone_as_a_list_of_one : sequence text None (bulk (codes "ab")) ≡ Some (codes "ab" ∷ [])
 unfolding is_utf8 chars encode
 reads_a_bulk_alone_as_a_list_of_one = refl
 
-pub reads_a_bulk_as_its_bytes : sequence (unsigned_count 8) (Some pos) (bulk (codes "ab")) ≡ Some (pos 97 ∷ pos 98 ∷ [])
+pub reads_a_bulk_as_its_bytes : sequence (unsigned_count 8) (Some pos) (bulk (codes "ab"))
+    ≡ Some (pos 97 ∷ pos 98 ∷ [])
 reads_a_bulk_as_its_bytes = refl

@@ -1,5 +1,5 @@
--- Laws on arguments, and on reading back what was written.
--- Source: the documentation of the crate `redis`, `ToSingleRedisArg`; Redis serialization protocol specification, "Sending commands to a Redis server".
+-- Laws on arguments, and on reading back what was written. Source: the documentation of the crate `redis`,
+-- `ToSingleRedisArg`; Redis serialization protocol specification, "Sending commands to a Redis server".
 use Rattle.std.specs.Prelude.{◌≡◌, ℕ, ◌<◌, ◌^◌, List, [], ◌∷◌, Option, Some, length}
 use Rattle.std.specs.List.{AllByRecursion, flat_map}
 use Rattle.resp_core.specs.Trees.{Tree, bulk}
@@ -19,8 +19,10 @@ Sendable args = (length args < 2 ^ 64) × AllByRecursion (λ arg. length arg < 2
 
 -- equal packed bytes come from equal arguments
 abbrev pub PackedOnce : Type 0
-PackedOnce = (args others : List (List ℕ)) → Sendable args → Sendable others → packed args ≡ packed others → args ≡ others
+PackedOnce = (args others : List (List ℕ)) → Sendable args → Sendable others → packed args ≡ packed others
+    → args ≡ others
 
 -- equal bytes of commands, one after another, come from the same commands
 abbrev pub AllPackedOnce : Type 0
-AllPackedOnce = (commands others : List (List (List ℕ))) → AllByRecursion Sendable commands → AllByRecursion Sendable others → flat_map packed commands ≡ flat_map packed others → commands ≡ others
+AllPackedOnce = (commands others : List (List (List ℕ))) → AllByRecursion Sendable commands
+    → AllByRecursion Sendable others → flat_map packed commands ≡ flat_map packed others → commands ≡ others

@@ -8,9 +8,12 @@ use Rattle.std.proofs.lemmas.Bool.Decides.{same_from_decides, Decides-eqb, Decid
 pub nat_eq-int_eq : (a b : ℕ) → (a == b) ≡ int_eq (pos a) (pos b)
 nat_eq-int_eq a b =
     let same = Decides-int_eq (pos a) (pos b) in
-    same_from_decides {P = a ≡ b} (a == b) (int_eq (pos a) (pos b)) (Decides-eqb a b) ((λ e. let both = same.0 e in cc), (λ e. same.1 (ap pos e)))
+    same_from_decides {P = a ≡ b} (a == b) (int_eq (pos a) (pos b)) (Decides-eqb a b)
+    ((λ e. let both = same.0 e in cc), (λ e. same.1 (ap pos e)))
 
-pub pointwise-map : {A B : Type 0} (eq : A → A → Bool) (same : B → B → Bool) (f : A → B) → ((a b : A) → eq a b ≡ same (f a) (f b)) → (xs ys : List A) → pointwise eq xs ys ≡ pointwise same (map f xs) (map f ys)
+pub pointwise-map : {A B : Type 0} (eq : A → A → Bool) (same : B → B → Bool) (f : A → B)
+    → ((a b : A) → eq a b ≡ same (f a) (f b)) → (xs ys : List A)
+    → pointwise eq xs ys ≡ pointwise same (map f xs) (map f ys)
 pointwise-map eq same f agrees [] [] = refl
 pointwise-map eq same f agrees [] (y ∷ ys) = refl
 pointwise-map eq same f agrees (x ∷ xs) [] = refl

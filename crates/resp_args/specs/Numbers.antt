@@ -1,5 +1,6 @@
--- Which numbers an integer type of so many bits holds, and which number it reads of a text.
--- Source: the documentation of Rust's `str::parse` for the integer types: a sign `+`, for signed types also `-`, then one decimal digit or more, and nothing else.
+-- Which numbers an integer type of so many bits holds, and which number it reads of a text. Source: the
+-- documentation of Rust's `str::parse` for the integer types: a sign `+`, for signed types also `-`, then one
+-- decimal digit or more, and nothing else.
 use Rattle.std.specs.Prelude.{ℕ, ℤ, pos, negsuc, List, Bool, false, Option, Some, None, if◌then◌else◌, ◌&&◌, ◌-◌, ◌^◌, nat_lt, length}
 use Rattle.std.specs.List.{list_all}
 use Rattle.std.specs.Char.{digit_value}
@@ -28,8 +29,10 @@ signed_number bits z = if fits_signed bits z then Some z else None
 abbrev pub unsigned_text : ℕ → List ℕ → Option ℤ
 unsigned_text bits bs =
     let digits = without_leading_plus bs in
-    if is_numeral digits && nat_lt (digits_value 10 digits) (2 ^ bits) then Some (pos (digits_value 10 digits)) else None
+    if is_numeral digits && nat_lt (digits_value 10 digits) (2 ^ bits)
+    then Some (pos (digits_value 10 digits)) else None
 
 abbrev pub signed_text : ℕ → List ℕ → Option ℤ
 signed_text bits bs =
-    if is_numeral (without_leading_sign bs) && fits_signed bits (signed_digits_value 10 bs) then Some (signed_digits_value 10 bs) else None
+    if is_numeral (without_leading_sign bs) && fits_signed bits (signed_digits_value 10 bs)
+    then Some (signed_digits_value 10 bs) else None

@@ -27,6 +27,7 @@ packed_args (a ∷ rest) = packed_arg a ++ packed_args rest
 abbrev pub packed : List (List ℕ) → List ℕ
 packed args = codes "*" ++ decimal (length args) ++ codes "\r\n" ++ packed_args args
 
--- the arguments of a command as they are sent: its gaps are the number set last, and where none was set there is no gap
+-- the arguments of a command as they are sent: its gaps are the number set last, and where none was set there
+-- is no gap
 abbrev pub sent : Command → List (List ℕ)
 sent c = wire (unwrap_or c.cursor 0) c.args

@@ -98,7 +98,9 @@ impl Cmd {
     pub fn arg<T: ToRedisArgs>(&mut self, arg: T) -> Result<(), AllocError>
     where
         T: Drop,
-        ensures { self.new ≡ (if is_ok result then record self.old { args = self.old.args ++ map Simple (T.args arg) } else self.old) }
+        ensures { self.new ≡
+            (if is_ok result then record self.old { args = self.old.args ++ map Simple (T.args arg) }
+            else self.old) }
     {
         let len = self.args.len();
         match arg.write_redis_args(&mut self.args) {
@@ -114,7 +116,9 @@ impl Cmd {
     ///
     /// It is refused only for want of memory, and then changes nothing.
     pub fn cursor_arg(&mut self, cursor: u64) -> Result<(), AllocError>
-        ensures { self.new ≡ (if is_ok result then record self.old { args = self.old.args ++ Cursor ∷ []; cursor = Some cursor } else self.old) }
+        ensures { self.new ≡
+            (if is_ok result then record self.old
+            { args = self.old.args ++ Cursor ∷ []; cursor = Some cursor } else self.old) }
     {
         self.args.push_gap()?;
         self.cursor = Some(cursor);
@@ -179,7 +183,8 @@ impl Cmd {
     ///
     /// It is refused only for want of memory, and then leaves the bytes of the buffer as they were.
     pub fn write_packed_command(&self, out: &mut Vec<u8>) -> Result<(), AllocError>
-        ensures { out.new.items ≡ (if is_ok result then out.old.items ++ packed (sent self.now) else out.old.items) }
+        ensures { out.new.items
+            ≡ (if is_ok result then out.old.items ++ packed (sent self.now) else out.old.items) }
     {
         let len = out.len();
         match pack(out, &self.args, self.cursor.unwrap_or(0)) {
@@ -203,7 +208,9 @@ impl RedisWrite for Cmd {
     ghost beside = { λ c. record c { args = [] } };
 
     fn write_arg(&mut self, arg: &[u8]) -> Result<(), AllocError>
-        ensures { self.new ≡ (if is_ok result then record self.old { args = self.old.args ++ Simple arg.now ∷ [] } else self.old) }
+        ensures { self.new ≡
+            (if is_ok result then record self.old { args = self.old.args ++ Simple arg.now ∷ [] }
+            else self.old) }
     {
         self.args.write_arg(arg)
     }

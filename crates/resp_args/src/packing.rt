@@ -31,14 +31,16 @@ fn pack_each(out: &mut Vec<u8>, args: &[Vec<u8>]) -> Result<(), AllocError>
 
 // Where memory is refused, some more bytes stand behind those of the buffer.
 pub(crate) fn pack(out: &mut Vec<u8>, args: &Arguments, cursor: u64) -> Result<(), AllocError>
-    ensures { MatchResult result (λ _. out.new.items ≡ out.old.items ++ packed (wire cursor args.now)) (λ _. (more : List ℕ) × (out.new.items ≡ out.old.items ++ more)) }
+    ensures { MatchResult result (λ _. out.new.items ≡ out.old.items ++ packed (wire cursor args.now))
+        (λ _. (more : List ℕ) × (out.new.items ≡ out.old.items ++ more)) }
 {
     write_count(out, b"*", args.len())?;
     pack_all(out, args.iter(), cursor)
 }
 
 fn pack_all(out: &mut Vec<u8>, args: ArgsIter<'_>, cursor: u64) -> Result<(), AllocError>
-    ensures { MatchResult result (λ _. out.new.items ≡ out.old.items ++ packed_args (wire cursor args.entry)) (λ _. (more : List ℕ) × (out.new.items ≡ out.old.items ++ more)) }
+    ensures { MatchResult result (λ _. out.new.items ≡ out.old.items ++ packed_args (wire cursor args.entry))
+        (λ _. (more : List ℕ) × (out.new.items ≡ out.old.items ++ more)) }
 {
     for arg in args {
         pack_one(out, arg, cursor)?;
@@ -47,7 +49,9 @@ fn pack_all(out: &mut Vec<u8>, args: ArgsIter<'_>, cursor: u64) -> Result<(), Al
 }
 
 fn pack_one(out: &mut Vec<u8>, arg: Arg<&[u8]>, cursor: u64) -> Result<(), AllocError>
-    ensures { MatchResult result (λ _. out.new.items ≡ out.old.items ++ packed_arg (wire_arg cursor (shown arg.entry))) (λ _. (more : List ℕ) × (out.new.items ≡ out.old.items ++ more)) }
+    ensures { MatchResult result
+        (λ _. out.new.items ≡ out.old.items ++ packed_arg (wire_arg cursor (shown arg.entry)))
+        (λ _. (more : List ℕ) × (out.new.items ≡ out.old.items ++ more)) }
 {
     match arg {
         Arg::Simple(bytes) => pack_arg(out, bytes),
@@ -57,7 +61,9 @@ fn pack_one(out: &mut Vec<u8>, arg: Arg<&[u8]>, cursor: u64) -> Result<(), Alloc
 
 // A kind of length, the length in decimal and the end of its line.
 fn write_count(out: &mut Vec<u8>, kind: &[u8], count: usize) -> Result<(), AllocError>
-    ensures { MatchResult result (λ _. out.new.items ≡ out.old.items ++ (kind.now ++ decimal count ++ codes "\r\n")) (λ _. (more : List ℕ) × (out.new.items ≡ out.old.items ++ more)) }
+    ensures { MatchResult result
+        (λ _. out.new.items ≡ out.old.items ++ (kind.now ++ decimal count ++ codes "\r\n"))
+        (λ _. (more : List ℕ) × (out.new.items ≡ out.old.items ++ more)) }
 {
     out.extend_from_slice(kind)?;
     out.extend_from_slice(Buffer::new().format(count).as_bytes())?;
@@ -65,7 +71,8 @@ fn write_count(out: &mut Vec<u8>, kind: &[u8], count: usize) -> Result<(), Alloc
 }
 
 fn pack_arg(out: &mut Vec<u8>, arg: &[u8]) -> Result<(), AllocError>
-    ensures { MatchResult result (λ _. out.new.items ≡ out.old.items ++ packed_arg arg.now) (λ _. (more : List ℕ) × (out.new.items ≡ out.old.items ++ more)) }
+    ensures { MatchResult result (λ _. out.new.items ≡ out.old.items ++ packed_arg arg.now)
+        (λ _. (more : List ℕ) × (out.new.items ≡ out.old.items ++ more)) }
 {
     write_count(out, b"$", arg.len())?;
     out.extend_from_slice(arg)?;

@@ -41,7 +41,8 @@ pub trait ToRedisArgs: Sized {
         items: &[Self],
         out: &mut W,
     ) -> Result<(), AllocError>
-        ensures writes { Writes result (W.written out.old) (slice_args args (slice_bytes items.now) items.now) (W.written out.new) }
+        ensures writes { Writes result (W.written out.old) (slice_args args (slice_bytes items.now) items.now)
+            (W.written out.new) }
         ensures keeps { W.beside out.new ≡ W.beside out.old }
     {
         match Self::slice_as_bytes(items) {

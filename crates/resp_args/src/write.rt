@@ -20,7 +20,8 @@ pub trait RedisWrite {
     /// Appends one argument, and changes nothing beside it. It is refused only for want of memory,
     /// and then changes nothing.
     fn write_arg(&mut self, arg: &[u8]) -> Result<(), AllocError>
-        ensures writes { written self.new ≡ (if is_ok result then written self.old ++ Simple arg.now ∷ [] else written self.old) }
+        ensures writes { written self.new
+            ≡ (if is_ok result then written self.old ++ Simple arg.now ∷ [] else written self.old) }
         ensures keeps { beside self.new ≡ beside self.old };
 }
 

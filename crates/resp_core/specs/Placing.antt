@@ -41,8 +41,10 @@ Puts k bs (Err e) f read = Refuses e read
 
 -- a value is whole and no row is left, or what is read next is behind the head
 abbrev pub Settles : ℕ → Result Progress Stop → (List ℕ → Read Tree) → List Frame → List Frame → Type 0
-Settles l (Ok (progress.Whole v)) read old new = (new ≡ []) × ((bs : List ℕ) → closing l old (read bs) ≡ Ok (view v, bs))
-Settles l (Ok (progress.On h)) read old new = (bs : List ℕ) → closing l old (read bs) ≡ closing l new (head_at (l - length new) h bs)
+Settles l (Ok (progress.Whole v)) read old new = (new ≡ [])
+    × ((bs : List ℕ) → closing l old (read bs) ≡ Ok (view v, bs))
+Settles l (Ok (progress.On h)) read old new = (bs : List ℕ)
+    → closing l old (read bs) ≡ closing l new (head_at (l - length new) h bs)
 Settles l (Err e) read old new = (bs : List ℕ) → Refuses e (closing l old (read bs))
 
 -- what is read next is no line

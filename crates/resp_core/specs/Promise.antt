@@ -12,8 +12,8 @@ abbrev pub refuses_at : ℕ → Promise
 refuses_at zero = refuses_none
 refuses_at (suc n) = refuses_only (suc n)
 
--- None was refused of those behind the first `before` as far as the one with the number `last`: the one to refuse, if any, is not
--- among them.
+-- None was refused of those behind the first `before` as far as the one with the number `last`: the one to
+-- refuse, if any, is not among them.
 abbrev pub RefusesNone : Promise → ℕ → ℕ → Type 0
 RefusesNone nothing before last = Unit {0}
 RefusesNone refuses_none before last = Unit {0}

@@ -1,5 +1,5 @@
--- The words of a redirect: the number of a slot, and the address of a node.
--- Source: the Redis Cluster specification, "MOVED redirection" and "ASK redirection"; documentation of the crate `redis`,
+-- The words of a redirect: the number of a slot, and the address of a node. Source: the Redis Cluster
+-- specification, "MOVED redirection" and "ASK redirection"; documentation of the crate `redis`,
 -- `RedisError::redirect_node`.
 use Rattle.std.specs.Prelude.{ℕ, ◌^◌, if◌then◌else◌, not, ◌==◌, List, length, drop, take_while, Option, Some, None, option_map, option_and_then}
 use Rattle.std.specs.Char.{is_ascii_whitespace}
@@ -39,7 +39,8 @@ abbrev pub redirect_words : List ℕ → Option RedirectWords
 redirect_words detail =
     let number = behind_space detail in
     let address = behind_space (behind_word number) in
-    option_and_then (λ n. option_map (λ text. record { address = text; slot = n }) (text_word (front_word address))) (number_word (front_word number))
+    option_and_then (λ n. option_map (λ text. record { address = text; slot = n })
+    (text_word (front_word address))) (number_word (front_word number))
 
 -- ---- of a refusal
 

@@ -1,6 +1,6 @@
--- How a refused call may be tried again.
--- Sources: the Redis Cluster specification (MOVED, ASK, TRYAGAIN, CLUSTERDOWN), the Redis documentation of LOADING and MASTERDOWN,
--- and the documentation of the crate `redis`, `RedisError::retry_method`.
+-- How a refused call may be tried again. Sources: the Redis Cluster specification (MOVED, ASK, TRYAGAIN,
+-- CLUSTERDOWN), the Redis documentation of LOADING and MASTERDOWN, and the documentation of the crate
+-- `redis`, `RedisError::retry_method`.
 use Rattle.resp_core.specs.declared.errors.redis_error.ErrorKind.{ErrorKind}
 use Rattle.resp_core.specs.declared.errors.redis_error.ErrorKind.TheVariants as kinds
 use Rattle.resp_core.specs.declared.errors.server_error.ServerErrorKind.{ServerErrorKind}

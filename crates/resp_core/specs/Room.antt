@@ -1,5 +1,5 @@
--- The room that is kept for values and bytes. A count in the input is a server's word: no room is kept for what it
--- announces before that is there.
+-- The room that is kept for values and bytes. A count in the input is a server's word: no room is kept for
+-- what it announces before that is there.
 use Rattle.std.specs.Prelude.{ℕ}
 use Rattle.std.specs.Vec.{vec_capacity}
 use Rattle.resp_core.specs.declared.parser.frame.Frame.{Frame}

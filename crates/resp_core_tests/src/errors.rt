@@ -45,7 +45,7 @@ const CAUSES: &[(Cause, &str)] = &[
     ),
     (
         Cause::NoLink,
-        "no usable link to a node (refusal 8): no usable link leads to the node",
+        "no usable link to a node (refusal 8): no link leads to the node, or a closed one",
     ),
     (
         Cause::NoKeys,
@@ -61,17 +61,17 @@ const CAUSES: &[(Cause, &str)] = &[
     ),
     (
         Cause::Io,
-        "input or output failed (refusal 14): input or output failed",
+        "input or output failed (refusal 14): a read, a write or a flush failed, or the bytes ended early",
     ),
     (
         Cause::Parse,
-        "the reply is no RESP (refusal 15): the reply is no RESP",
+        "the reply is no RESP (refusal 15): the bytes spell no value",
     ),
     (
         Cause::UnexpectedReturnType,
-        "the reply has an unexpected type (refusal 16): the reply has an unexpected type",
+        "the reply has an unexpected type (refusal 16): the reply has not the shape that was asked for",
     ),
-    (Cause::Memory, "out of memory (refusal 17): out of memory"),
+    (Cause::Memory, "out of memory (refusal 17): memory was refused"),
     (
         Cause::ClaimsIdsAlone,
         "the command can not be sent so (refusal 18): a claim of ids alone has another reply",

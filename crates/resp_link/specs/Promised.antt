@@ -8,16 +8,21 @@ use Rattle.resp_core.specs.Standing.{BeginsFaulty}
 use Rattle.resp_core.specs.declared.errors.redis_error.Cause.TheVariants.{NoLink, Io, Parse, Memory}
 use Rattle.resp_link.specs.Call.{Seen, Fails}
 
--- Why a call is refused whose devices keep this promise: the link was closed; a write found no room in memory; the bytes ended;
--- 2^32 reads gave as many bytes or more, and too few; the bytes are faulty; or memory was refused.
+-- Why a call is refused whose devices keep this promise: the link was closed; a write found no room in
+-- memory; the bytes ended; 2^32 reads gave as many bytes or more, and too few; the bytes are faulty; or
+-- memory was refused.
 pub data WhyRefused (old new : Seen) (refusal : Refusal) : Type 0 where
   was_closed : old.usable ≡ false → new ≡ old → refusal ≡ by_cause NoLink → WhyRefused old new refusal
-  no_room_to_write : new.write_counts.no_room ≡ counted old.write_counts.no_room → refusal ≡ by_cause Io → WhyRefused old new refusal
+  no_room_to_write : new.write_counts.no_room ≡ counted old.write_counts.no_room → refusal ≡ by_cause Io
+      → WhyRefused old new refusal
   bytes_ended : IsAtEnd new.left → refusal ≡ by_cause Io → WhyRefused old new refusal
-  reads_ran_out : (got : List ℕ) → Consumes old.left new.left got → 2 ^ 32 ≤ length got → refusal ≡ by_cause Io → WhyRefused old new refusal
-  bytes_faulty : (held : List ℕ) → BeginsFaulty old.limit held → refusal ≡ by_cause Parse → WhyRefused old new refusal
+  reads_ran_out : (got : List ℕ) → Consumes old.left new.left got → 2 ^ 32 ≤ length got
+      → refusal ≡ by_cause Io → WhyRefused old new refusal
+  bytes_faulty : (held : List ℕ) → BeginsFaulty old.limit held → refusal ≡ by_cause Parse
+      → WhyRefused old new refusal
   no_memory : refusal ≡ by_cause Memory → WhyRefused old new refusal
 
 abbrev pub FaultsHaveACause : Type 0
 FaultsHaveACause = (old new : Seen) (bytes : List ℕ) (wanted : ℕ) (refusal : Refusal)
-    → old.counts.promise ≡ refuses_none → old.write_counts.promise ≡ refuses_none → Fails old new bytes wanted refusal → WhyRefused old new refusal
+    → old.counts.promise ≡ refuses_none → old.write_counts.promise ≡ refuses_none
+    → Fails old new bytes wanted refusal → WhyRefused old new refusal

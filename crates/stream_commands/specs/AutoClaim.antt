@@ -1,5 +1,6 @@
--- Replies to XAUTOCLAIM: where to go on, what was claimed, and ids that are gone. Arrays are arrays here, with no attribute round them.
--- Source: the Redis documentation of XAUTOCLAIM (Return information); old servers leave null in the place of a deleted entry.
+-- Replies to XAUTOCLAIM: where to go on, what was claimed, and ids that are gone. Arrays are arrays here,
+-- with no attribute round them. Source: the Redis documentation of XAUTOCLAIM (Return information); old
+-- servers leave null in the place of a deleted entry.
 use Rattle.std.specs.Prelude.{ℕ, List, [], ◌∷◌, Bool, Option, Some, None, option_map, nat_lt, length, map as each}
 use Rattle.resp_core.specs.Trees.{Tree, nil, bulk, array}
 use Rattle.resp_args.specs.Convert.{items}
@@ -35,7 +36,8 @@ id_alone id = record { id = id; fields = []; milliseconds = None; deliveries = N
 -- the first item that is no null says which form the list has: ids, or entries
 abbrev pub entries_by_first : Option Tree → Tree → Option (List Entry)
 entries_by_first None t = Some []
-entries_by_first (Some (bulk id)) t = option_map (λ ids. each id_alone (keep_present ids)) (list_of (perhaps a_text) t)
+entries_by_first (Some (bulk id)) t = option_map (λ ids. each id_alone (keep_present ids))
+    (list_of (perhaps a_text) t)
 entries_by_first (Some (array ts)) t = entries t
 entries_by_first (Some other) t = None
 
@@ -44,7 +46,8 @@ abbrev pub claimed_from : List Tree → List Entry → Claimed
 claimed_from ts es = record { entries = es; some_invalid = nat_lt (length es) (length ts) }
 
 abbrev pub claimed : Tree → Option Claimed
-claimed (array ts) = option_map (claimed_from (items ts)) (entries_by_first (first_no_null (items ts)) (array ts))
+claimed (array ts) = option_map (claimed_from (items ts))
+    (entries_by_first (first_no_null (items ts)) (array ts))
 claimed t = None
 
 abbrev pub autoclaim : List ℕ → Claimed → List (List ℕ) → AutoClaim
@@ -53,7 +56,8 @@ autoclaim next claimed deleted = record { next = next; claimed = claimed; delete
 -- two items, or three where the server tells deleted ids
 abbrev pub autoclaim_of : List Tree → Option AutoClaim
 autoclaim_of (next ∷ list ∷ []) = Some autoclaim and a_text next and claimed list and Some []
-autoclaim_of (next ∷ list ∷ deleted ∷ []) = Some autoclaim and a_text next and claimed list and list_of a_text deleted
+autoclaim_of (next ∷ list ∷ deleted ∷ []) =
+    Some autoclaim and a_text next and claimed list and list_of a_text deleted
 autoclaim_of ts = None
 
 abbrev pub autoclaim_reply : Tree → Option AutoClaim

@@ -15,7 +15,8 @@ abbrev pub consumer : List ℕ → ℤ → ℤ → Consumer
 consumer name pending idle = record { name = name; pending = pending; idle = idle }
 
 abbrev pub consumer_of : Fields → Option Consumer
-consumer_of fields = Some consumer and text_at (codes "name") fields and count_at (codes "pending") fields and count_at (codes "idle") fields
+consumer_of fields = Some consumer and text_at (codes "name") fields and count_at
+    (codes "pending") fields and count_at (codes "idle") fields
 
 abbrev pub a_consumer : Tree → Option Consumer
 a_consumer t = option_and_then consumer_of (some_fields t)

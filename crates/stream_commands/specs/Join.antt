@@ -1,6 +1,6 @@
--- A read of streams whose parts were sent to several nodes: one reply from the replies to the parts.
--- Source: the Redis documentation of XREAD (Return information): a row for each stream that has entries, in the order of the keys
--- of the request, and a null where none has.
+-- A read of streams whose parts were sent to several nodes: one reply from the replies to the parts. Source:
+-- the Redis documentation of XREAD (Return information): a row for each stream that has entries, in the order
+-- of the keys of the request, and a null where none has.
 use Rattle.std.specs.Prelude.{ℕ, zero, suc, Bool, true, false, not, ◌&&◌, nat_eq, nat_lt, if◌then◌else◌, List, [], ◌∷◌, ◌++◌, map as each, filter, Option, Some, None, slice_index_or}
 use Rattle.std.specs.List.{flat_map, list_all, list_any}
 use Rattle.std.specs.Str.{bytes_eq}
@@ -21,7 +21,8 @@ name_only keys rows = list_all (λ (r : Row). list_any (bytes_eq r.key) keys) ro
 -- whether the rows of each reply name keys of its part alone
 abbrev pub name_own_keys : List (List ℕ) → List (List ℕ) → List (List Row) → Bool
 name_own_keys keys [] [] = true
-name_own_keys keys (part ∷ parts) (rows ∷ replies) = name_only (keys_at keys part) rows && name_own_keys keys parts replies
+name_own_keys keys (part ∷ parts) (rows ∷ replies) = name_only (keys_at keys part) rows
+    && name_own_keys keys parts replies
 name_own_keys keys _ _ = false
 
 -- the rows that name a key
@@ -44,9 +45,11 @@ all_rows replies = flat_map (λ rows. rows) replies
 abbrev pub in_key_order : List (List ℕ) → List Row → List Row
 in_key_order keys rows = flat_map (rows_of rows) keys
 
--- The rows of the replies to the parts, in the order of the keys. None where a row names no key of its part, or a key is named twice.
+-- The rows of the replies to the parts, in the order of the keys. None where a row names no key of its part,
+-- or a key is named twice.
 abbrev pub join : List (List ℕ) → List (List ℕ) → List (List Row) → Option (List Row)
-join keys parts replies = if name_own_keys keys parts replies && name_none_twice keys (all_rows replies) then Some (in_key_order keys (all_rows replies)) else None
+join keys parts replies = if name_own_keys keys parts replies && name_none_twice keys (all_rows replies)
+    then Some (in_key_order keys (all_rows replies)) else None
 
 -- the numbers below n, ascending
 abbrev pub positions_below : ℕ → List ℕ
@@ -61,4 +64,5 @@ are_distinct (p ∷ ps) = not (list_any (nat_eq p) ps) && are_distinct ps
 abbrev pub share : List (List ℕ) → ℕ → Bool
 share parts n =
     let all : List ℕ = flat_map (λ part. part) parts in
-    list_all (λ p. nat_lt p n) all && list_all (λ p. list_any (nat_eq p) all) (positions_below n) && are_distinct all
+    list_all (λ p. nat_lt p n) all && list_all (λ p. list_any (nat_eq p) all) (positions_below n)
+    && are_distinct all

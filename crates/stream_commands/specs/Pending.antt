@@ -18,16 +18,25 @@ pub data Pending : Type 0 where
   none_pending : Pending
   some_pending : PendingData → Pending
 
--- a consumer's name and its number as a text, which counts as 0 where it is no number; nothing is said of idleness
+-- a consumer's name and its number as a text, which counts as 0 where it is no number; nothing is said of
+-- idleness
 abbrev pub pending_consumer : List ℕ × List ℕ → Consumer
 pending_consumer c = record { name = c.0; pending = unwrap_or (unsigned_text 64 c.1) (pos 0); idle = pos 0 }
 
 abbrev pub pending_data : ℤ → List (Option (List ℕ × List ℕ)) → List ℕ → List ℕ → Pending
-pending_data count consumers start end = some_pending (record { count = count; start = start; end = end; consumers = each pending_consumer (keep_present consumers) })
+pending_data count consumers start end = some_pending
+    (record {
+      count = count;
+      start = start;
+      end = end;
+      consumers = each pending_consumer (keep_present consumers);
+    })
 
 -- with a number of 0 the rest says nothing; else both ids must be there
-abbrev pub pending_of : ℤ × Option (List ℕ) × Option (List ℕ) × List (Option (List ℕ × List ℕ)) → Option Pending
+abbrev pub pending_of : ℤ × Option (List ℕ) × Option (List ℕ) × List (Option (List ℕ × List ℕ))
+    → Option Pending
 pending_of p = if is_zero p.0 then Some none_pending else (Some (pending_data p.0 p.3) and p.1 and p.2)
 
 abbrev pub pending_reply : Tree → Option Pending
-pending_reply t = option_and_then pending_of (tuple4 a_count (perhaps a_text) (perhaps a_text) (list_of (perhaps (tuple2 a_text a_text))) t)
+pending_reply t = option_and_then pending_of
+    (tuple4 a_count (perhaps a_text) (perhaps a_text) (list_of (perhaps (tuple2 a_text a_text))) t)

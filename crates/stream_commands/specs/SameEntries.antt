@@ -22,11 +22,18 @@ abbrev pub same_entry : StreamId → StreamId → Bool
 same_entry =
     eq_of_both (on (λ s. string_bytes s.id) (pointwise nat_eq))
     (eq_of_both (on (λ s. s.map.entries) (pointwise same_field))
-    (eq_of_both (on (λ s. s.milliseconds_elapsed_from_delivery) (option_eq nat_eq)) (on (λ s. s.delivered_count) (option_eq nat_eq))))
+    (eq_of_both (on (λ s. s.milliseconds_elapsed_from_delivery) (option_eq nat_eq))
+    (on (λ s. s.delivered_count) (option_eq nat_eq))))
 
 -- it is symmetric and transitive
 pub same_entry_laws : IsPartialEquivalence same_entry
 same_entry_laws =
     and_per (on_per (λ (s : StreamId). string_bytes s.id) (partial_equiv_from_equiv nat_list_eq_equiv))
-    (and_per (on_per (λ (s : StreamId). s.map.entries) (lists_per (and_per (on_per (λ (f : String Global × Value). string_bytes f.0) (partial_equiv_from_equiv nat_list_eq_equiv)) (on_per (λ (f : String Global × Value). f.1) value_laws.laws-law))))
-    (and_per (on_per (λ (s : StreamId). s.milliseconds_elapsed_from_delivery) (partial_equiv_from_equiv (options_equiv nat_eq_equiv))) (on_per (λ (s : StreamId). s.delivered_count) (partial_equiv_from_equiv (options_equiv nat_eq_equiv)))))
+    (and_per (on_per (λ (s : StreamId). s.map.entries)
+    (lists_per (and_per (on_per (λ (f : String Global × Value). string_bytes f.0)
+    (partial_equiv_from_equiv nat_list_eq_equiv))
+    (on_per (λ (f : String Global × Value). f.1) value_laws.laws-law))))
+    (and_per (on_per (λ (s : StreamId). s.milliseconds_elapsed_from_delivery)
+    (partial_equiv_from_equiv (options_equiv nat_eq_equiv)))
+    (on_per (λ (s : StreamId). s.delivered_count)
+    (partial_equiv_from_equiv (options_equiv nat_eq_equiv)))))

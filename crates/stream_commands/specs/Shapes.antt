@@ -1,5 +1,5 @@
--- The conversions of replies that the records of stream commands are read with, each looking through attributes first.
--- Source: the documentation of the crate `redis`, `FromRedisValue`.
+-- The conversions of replies that the records of stream commands are read with, each looking through
+-- attributes first. Source: the documentation of the crate `redis`, `FromRedisValue`.
 use Rattle.std.specs.Prelude.{ℕ, ℤ, List, Option, Some, None}
 use Rattle.std.specs.Str.{bytes_eq}
 use Rattle.resp_core.specs.Trees.{Tree}

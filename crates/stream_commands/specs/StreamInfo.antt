@@ -14,7 +14,8 @@ no_entry = record { id = []; fields = []; milliseconds = None; deliveries = None
 abbrev pub entry : List ℕ → Fields → Entry
 entry id fields = record { id = id; fields = fields; milliseconds = None; deliveries = None }
 
--- an array's first item is the id and its second the fields; what is missing is empty, and what is no array is no entry
+-- an array's first item is the id and its second the fields; what is missing is empty, and what is no array
+-- is no entry
 abbrev pub entry_of : List Tree → Option Entry
 entry_of [] = Some no_entry
 entry_of (id ∷ []) = Some entry and a_text id and Some []

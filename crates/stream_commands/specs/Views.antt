@@ -13,7 +13,8 @@ trim_of (MaxLen mode n limit) = record { mode = mode; threshold = max_entries n;
 trim_of (MinId mode id limit) = record { mode = mode; threshold = min_id (string_bytes id); limit = limit }
 
 abbrev pub idempotency_of : StreamIdempotencyMode → Idempotency
-idempotency_of (Manual producer_id idempotent_id) = manual (string_bytes producer_id) (string_bytes idempotent_id)
+idempotency_of (Manual producer_id idempotent_id) = manual (string_bytes producer_id)
+    (string_bytes idempotent_id)
 idempotency_of (Automatic producer_id) = automatic (string_bytes producer_id)
 
 -- the bytes of each byte list

@@ -26,7 +26,10 @@ pub fn xadd<K: ToSingleRedisArg, I: ToSingleRedisArg, F: ToSingleRedisArg, V: To
     id: &I,
     fields: &[(F, V)],
 ) -> Result<Cmd, AllocError>
-    ensures { IfOk result (λ c. c ≡ plain_command (sentence.xadd (K.arg key.now) options.now (I.arg id.now) (map (λ f. (F.arg f.0, V.arg f.1)) fields.now))) }
+    ensures { IfOk result
+        (λ c. c ≡ plain_command
+        (sentence.xadd (K.arg key.now) options.now (I.arg id.now)
+        (map (λ f. (F.arg f.0, V.arg f.1)) fields.now))) }
 {
     command_of(alloc, (("XADD", key), options, id, fields))
 }
@@ -48,7 +51,9 @@ pub fn xread<K: ToSingleRedisArg, I: ToSingleRedisArg>(
     streams: &[(K, I)],
     options: &StreamReadOptions,
 ) -> Result<Cmd, AllocError>
-    ensures { IfOk result (λ c. c ≡ plain_command (sentence.xread options.now (map (λ s. K.arg s.0) streams.now) (map (λ s. I.arg s.1) streams.now))) }
+    ensures { IfOk result
+        (λ c. c ≡ plain_command
+        (sentence.xread options.now (map (λ s. K.arg s.0) streams.now) (map (λ s. I.arg s.1) streams.now))) }
 {
     let mut cmd = command_of(alloc, (read_word(options), options, "STREAMS"))?;
     add_keys(&mut cmd, streams)?;
@@ -63,7 +68,8 @@ pub fn xrange<K: ToSingleRedisArg, S: ToSingleRedisArg, E: ToSingleRedisArg>(
     start: &S,
     end: &E,
 ) -> Result<Cmd, AllocError>
-    ensures { IfOk result (λ c. c ≡ plain_command (sentence.xrange (K.arg key.now) (S.arg start.now) (E.arg end.now))) }
+    ensures { IfOk result
+        (λ c. c ≡ plain_command (sentence.xrange (K.arg key.now) (S.arg start.now) (E.arg end.now))) }
 {
     command_of(alloc, ("XRANGE", key, start, end))
 }
@@ -78,7 +84,10 @@ pub fn xclaim<K: ToSingleRedisArg, G: ToSingleRedisArg, C: ToSingleRedisArg, I: 
     ids: &[I],
     options: &StreamClaimOptions,
 ) -> Result<Cmd, AllocError>
-    ensures { IfOk result (λ c. c ≡ plain_command (sentence.xclaim (K.arg key.now) (G.arg group.now) (C.arg consumer.now) min_idle (map I.arg ids.now) options.now)) }
+    ensures { IfOk result
+        (λ c. c ≡ plain_command
+        (sentence.xclaim (K.arg key.now) (G.arg group.now) (C.arg consumer.now) min_idle
+        (map I.arg ids.now) options.now)) }
 {
     let mut cmd = command_of(alloc, (("XCLAIM", key), group, consumer, min_idle))?;
     add_each(&mut cmd, ids)?;
@@ -101,7 +110,10 @@ pub fn xautoclaim<
     start: &S,
     options: &StreamAutoClaimOptions,
 ) -> Result<Cmd, AllocError>
-    ensures { IfOk result (λ c. c ≡ plain_command (sentence.xautoclaim (K.arg key.now) (G.arg group.now) (C.arg consumer.now) min_idle (S.arg start.now) options.now)) }
+    ensures { IfOk result
+        (λ c. c ≡ plain_command
+        (sentence.xautoclaim (K.arg key.now) (G.arg group.now) (C.arg consumer.now) min_idle
+        (S.arg start.now) options.now)) }
 {
     command_of(
         alloc,
@@ -145,7 +157,8 @@ pub fn xinfo_consumers<K: ToSingleRedisArg, G: ToSingleRedisArg>(
     key: &K,
     group: &G,
 ) -> Result<Cmd, AllocError>
-    ensures { IfOk result (λ c. c ≡ plain_command (sentence.xinfo_consumers (K.arg key.now) (G.arg group.now))) }
+    ensures { IfOk result
+        (λ c. c ≡ plain_command (sentence.xinfo_consumers (K.arg key.now) (G.arg group.now))) }
 {
     command_of(alloc, ("XINFO", "CONSUMERS", key, group))
 }
@@ -157,7 +170,8 @@ pub fn xdel_ex<K: ToSingleRedisArg, I: ToSingleRedisArg>(
     ids: &[I],
     policy: &StreamDeletionPolicy,
 ) -> Result<Cmd, AllocError>
-    ensures { IfOk result (λ c. c ≡ plain_command (sentence.xdelex (K.arg key.now) policy.now (map I.arg ids.now))) }
+    ensures { IfOk result
+        (λ c. c ≡ plain_command (sentence.xdelex (K.arg key.now) policy.now (map I.arg ids.now))) }
 {
     let mut cmd = command_of(alloc, (("XDELEX", key), policy, ("IDS", ids.len())))?;
     add_each(&mut cmd, ids)?;
@@ -183,7 +197,8 @@ fn command_of<T: ToRedisArgs + Drop>(alloc: Global, args: T) -> Result<Cmd, Allo
 }
 
 fn add_each<T: ToSingleRedisArg>(cmd: &mut Cmd, items: &[T]) -> Result<(), AllocError>
-    ensures { IfOk result (λ _. cmd.new ≡ record cmd.old { args = cmd.old.args ++ map Simple (map T.arg items.now) }) }
+    ensures { IfOk result
+        (λ _. cmd.new ≡ record cmd.old { args = cmd.old.args ++ map Simple (map T.arg items.now) }) }
 {
     for item in items {
         cmd.arg(item)?;
@@ -192,7 +207,9 @@ fn add_each<T: ToSingleRedisArg>(cmd: &mut Cmd, items: &[T]) -> Result<(), Alloc
 }
 
 fn add_keys<K: ToSingleRedisArg, I>(cmd: &mut Cmd, streams: &[(K, I)]) -> Result<(), AllocError>
-    ensures { IfOk result (λ _. cmd.new ≡ record cmd.old { args = cmd.old.args ++ map Simple (map (λ s. K.arg s.0) streams.now) }) }
+    ensures { IfOk result
+        (λ _. cmd.new ≡ record cmd.old
+        { args = cmd.old.args ++ map Simple (map (λ s. K.arg s.0) streams.now) }) }
 {
     for stream in streams {
         cmd.arg(&stream.0)?;
@@ -201,7 +218,9 @@ fn add_keys<K: ToSingleRedisArg, I>(cmd: &mut Cmd, streams: &[(K, I)]) -> Result
 }
 
 fn add_ids_of<K, I: ToSingleRedisArg>(cmd: &mut Cmd, streams: &[(K, I)]) -> Result<(), AllocError>
-    ensures { IfOk result (λ _. cmd.new ≡ record cmd.old { args = cmd.old.args ++ map Simple (map (λ s. I.arg s.1) streams.now) }) }
+    ensures { IfOk result
+        (λ _. cmd.new ≡ record cmd.old
+        { args = cmd.old.args ++ map Simple (map (λ s. I.arg s.1) streams.now) }) }
 {
     for stream in streams {
         cmd.arg(&stream.1)?;

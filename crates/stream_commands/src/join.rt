@@ -32,7 +32,8 @@ pub fn join_read_replies(
     requires replies { length replies.items ≡ length parts.now }
     requires once { share (positions parts.now) (length keys.now) ≡ true }
     ensures { Answers (λ r. rows_view r.keys.items)
-        (join (lent_keys keys.now) (positions parts.now) (each (λ r. rows_view r.keys.items) replies.items)) result }
+        (join (lent_keys keys.now) (positions parts.now) (each (λ r. rows_view r.keys.items) replies.items))
+        result }
 {
     let places = set_of(alloc, keys)?;
     let mut table = empty_table(alloc, keys.len())?;

@@ -15,14 +15,16 @@ entries_by entries host (Some tree) = put_all [] (ranges tree host)
 
 -- the slot map after a call: that of an accepted refresh's reply, else as before
 abbrev pub map_after : SlotEntries → Call → List Exchange → SlotEntries
-map_after entries (Refresh node) (x ∷ []) = if is_answered x then entries_by entries node.host x.reply else entries
+map_after entries (Refresh node) (x ∷ []) = if is_answered x then entries_by entries node.host x.reply
+    else entries
 map_after entries _ xs = entries
 
 -- whether a reply of a pipeline is MOVED; those that a refused link call took do not count
 abbrev pub some_moved : List Exchange → Bool
 some_moved xs = list_any (λ (x : Exchange). is_moved x && not (has_lost x.request.node xs)) xs
 
--- whether a refresh is needed after a call: a request was answered by MOVED, and no refresh was accepted since
+-- whether a refresh is needed after a call: a request was answered by MOVED, and no refresh was accepted
+-- since
 abbrev pub flag_after : Bool → Call → List Exchange → Bool
 flag_after flag (Refresh node) (x ∷ []) = if is_answered x then false else flag
 flag_after flag (Refresh node) _ = flag

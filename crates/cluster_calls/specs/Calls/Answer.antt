@@ -56,12 +56,14 @@ stream_answer (Xtrim key options) tree = option_map Trimmed (a_count tree)
 stream_answer (Xread streams options) tree = option_map Read (read_reply tree)
 stream_answer (Xrange key start end) tree = option_map Range (range_reply tree)
 stream_answer (Xclaim claimant ids options) tree = option_map Claim (claim_reply tree)
-stream_answer (Xautoclaim claimant start options) tree = option_map AutoClaim (autoclaims.autoclaim_reply tree)
+stream_answer (Xautoclaim claimant start options) tree = option_map AutoClaim
+    (autoclaims.autoclaim_reply tree)
 stream_answer (Xpending key group) tree = option_map Pending (pendings.pending_reply tree)
 stream_answer (XinfoStream key) tree = option_map Stream (info_stream_reply tree)
 stream_answer (XinfoGroups key) tree = option_map Groups (groups_reply tree)
 stream_answer (XinfoConsumers key group) tree = option_map Consumers (consumers_reply tree)
-stream_answer (XdelEx key ids policy) tree = option_map Deleted (list_of (status not_found deleted still_referenced) tree)
+stream_answer (XdelEx key ids policy) tree = option_map Deleted
+    (list_of (status not_found deleted still_referenced) tree)
 
 abbrev pub answer_in : Call → Tree → Option Answer
 answer_in (Refresh node) tree = Some Refreshed
@@ -74,8 +76,8 @@ abbrev pub tree_in : {A : Type 0} → Result A Refusal → Option A
 tree_in (Ok a) = Some a
 tree_in (Err refusal) = None
 
--- One reply from those of all requests, where none of them refuses the call. That of a refresh is not looked at, and a read in parts
--- has none.
+-- One reply from those of all requests, where none of them refuses the call. That of a refresh is not looked
+-- at, and a read in parts has none.
 abbrev pub reply_of : (Address → LinkFault) → Task → List Exchange → Option Tree
 reply_of faults (slot_map_of node) xs = Some nil
 reply_of faults (one_command command number order) xs = reply_of_parts (sent command) (part_replies xs)
@@ -84,7 +86,8 @@ reply_of faults (several_nodes command) xs = tree_in (several_reply faults comma
 reply_of faults (read_of options streams) xs = None
 
 abbrev pub task_answer : (Address → LinkFault) → Call → Task → List Exchange → Option Answer
-task_answer faults call (read_of options streams) xs = option_map Read (read_rows options streams (filter is_answered xs))
+task_answer faults call (read_of options streams) xs = option_map Read
+    (read_rows options streams (filter is_answered xs))
 task_answer faults call task xs = option_and_then (answer_in call) (reply_of faults task xs)
 
 abbrev pub call_answer : (Address → LinkFault) → Call → List Exchange → Option Answer
@@ -94,13 +97,18 @@ abbrev pub unless : {A : Type 0} → Option Refusal → Result A Refusal → Res
 unless None result = result
 unless (Some refusal) result = Err refusal
 
--- the first check before sending that is not met, then why a part or a node refused, then a reply of another shape; else the answer
-abbrev pub answer_of : Client → List Address → (Address → LinkFault) → Call → List Exchange → Result Answer Refusal
+-- the first check before sending that is not met, then why a part or a node refused, then a reply of another
+-- shape; else the answer
+abbrev pub answer_of : Client → List Address → (Address → LinkFault) → Call → List Exchange
+    → Result Answer Refusal
 answer_of client picks faults call xs =
-    result_then (plan client picks call) (λ ds. unless (sent_refusal client faults (task_of call) xs) (or_bad_reply (call_answer faults call xs)))
+    result_then (plan client picks call)
+    (λ ds. unless (sent_refusal client faults (task_of call) xs)
+    (or_bad_reply (call_answer faults call xs)))
 
 -- why a call is refused, or none
 abbrev pub kind : Client → List Address → (Address → LinkFault) → Call → List Exchange → Option Refusal
 kind client picks faults call xs =
     or_else (refusal_in (plan client picks call))
-    (or_else (sent_refusal client faults (task_of call) xs) (refusal_in (or_bad_reply (call_answer faults call xs))))
+    (or_else (sent_refusal client faults (task_of call) xs)
+    (refusal_in (or_bad_reply (call_answer faults call xs))))

@@ -21,7 +21,8 @@ direct d = record { node = d.node; args = d.args; asking = false }
 abbrev pub PartByPart : Client → List Dispatch → List Exchange → Type 0
 PartByPart client [] xs = xs ≡ []
 PartByPart client (d ∷ ds) xs =
-    FollowsRedirects client.links client.settings.budget (first_hop d) d.args (λ x behind. MatchBool (is_answered x) (PartByPart client ds behind) (behind ≡ [])) xs
+    FollowsRedirects client.links client.settings.budget (first_hop d) d.args
+    (λ x behind. MatchBool (is_answered x) (PartByPart client ds behind) (behind ≡ [])) xs
 
 -- the nodes in order of first use, and what goes to each
 abbrev pub nodes_in_use : List Dispatch → List Address
@@ -35,9 +36,11 @@ abbrev pub NodeByNode : List (List Dispatch) → List Exchange → Type 0
 NodeByNode [] xs = xs ≡ []
 NodeByNode (group ∷ groups) xs =
     (requests (take (length group) xs) ≡ map direct group)
-    × MatchBool (list_any is_unanswered (take (length group) xs)) (drop (length group) xs ≡ []) (NodeByNode groups (drop (length group) xs))
+    × MatchBool (list_any is_unanswered (take (length group) xs)) (drop (length group) xs ≡ [])
+    (NodeByNode groups (drop (length group) xs))
 
--- the exchanges are those that a task makes, from its dispatches on; a refresh and a command to several nodes follow no redirect
+-- the exchanges are those that a task makes, from its dispatches on; a refresh and a command to several nodes
+-- follow no redirect
 abbrev pub AreMade : Client → Task → List Dispatch → List Exchange → Type 0
 AreMade client (slot_map_of node) ds xs = requests xs ≡ map direct ds
 AreMade client (one_command command number order) ds xs = PartByPart client ds xs
@@ -47,4 +50,5 @@ AreMade client (read_of options streams) ds xs = PartByPart client ds xs
 
 -- a call that is refused before sending makes no request
 abbrev pub IsLegalCall : Client → List Address → Call → List Exchange → Type 0
-IsLegalCall client picks call xs = MatchResult (plan client picks call) (λ ds. AreMade client (task_of call) ds xs) (λ refusal. xs ≡ [])
+IsLegalCall client picks call xs = MatchResult (plan client picks call)
+    (λ ds. AreMade client (task_of call) ds xs) (λ refusal. xs ≡ [])

@@ -1,5 +1,5 @@
--- The parts of a call in order of first appearance, or why it has none: the checks before any node is looked for.
--- Source: the Redis Cluster specification; documentation of the crate `redis`.
+-- The parts of a call in order of first appearance, or why it has none: the checks before any node is looked
+-- for. Source: the Redis Cluster specification; documentation of the crate `redis`.
 use Rattle.std.specs.Prelude.{ℕ, suc, Bool, true, false, if◌then◌else◌, List, [], ◌∷◌, map, length, Option, Some, None, Result, Ok, Err, codes}
 use Rattle.std.specs.List.{list_any}
 use Rattle.resp_core.specs.Errors.{Refusal, by_cause, at_position}
@@ -69,7 +69,8 @@ abbrev pub parts_of : List (List ℕ) → Command → ℕ → Result (List Part)
 parts_of read_only command number =
     if command.no_response then Err (by_cause NoResponse)
     else if has_split_word command.args
-    then (if list_any is_gap command.args then Err (by_cause CursorInSplit) else split_parts (role_by (name_of command.args) read_only) (split_of (sent command)))
+    then (if list_any is_gap command.args then Err (by_cause CursorInSplit)
+    else split_parts (role_by (name_of command.args) read_only) (split_of (sent command)))
     else only_part (sent command) number (destination command.args read_only)
 
 -- an order has each part's number once
@@ -97,7 +98,8 @@ with_whole position (Some part) (Err refusal) = Err refusal
 
 abbrev pub pipeline_parts : ℕ → List Entry → Result (List Part) Refusal
 pipeline_parts position [] = Ok []
-pipeline_parts position (e ∷ es) = with_whole position (whole_part (sent e.command) (parts_of [] e.command 0)) (pipeline_parts (suc position) es)
+pipeline_parts position (e ∷ es) = with_whole position (whole_part (sent e.command) (parts_of [] e.command 0))
+    (pipeline_parts (suc position) es)
 
 -- ---- several nodes, ascending
 
@@ -114,17 +116,21 @@ node_parts entries args _ = Err (by_cause NoRoute)
 
 abbrev pub read_part : SlotAddr → ReadSettings → List Stream → ℕ → Part
 read_part role options streams slot =
-    part_to (commands.xread options (stream_keys (streams_at slot streams)) (stream_ids (streams_at slot streams))) (at_slot (route_to role slot))
+    part_to (commands.xread options (stream_keys (streams_at slot streams))
+    (stream_ids (streams_at slot streams))) (at_slot (route_to role slot))
 
 abbrev pub read_parts : List (List ℕ) → ReadSettings → List Stream → List Part
-read_parts read_only options streams = map (read_part (role_of (codes "XREAD") read_only) options streams) (stream_slots streams)
+read_parts read_only options streams = map (read_part (role_of (codes "XREAD") read_only) options streams)
+    (stream_slots streams)
 
 -- ---- tasks
 
 abbrev pub task_parts : List (List ℕ) → SlotEntries → Task → Result (List Part) Refusal
 task_parts read_only entries (slot_map_of node) = Ok (part_to slots_command (at_node node) ∷ [])
-task_parts read_only entries (one_command command number order) = result_then (parts_of read_only command number) (if_ordered order)
+task_parts read_only entries (one_command command number order) = result_then
+    (parts_of read_only command number) (if_ordered order)
 task_parts read_only entries (pipeline_of es) = pipeline_parts 0 es
 task_parts read_only entries (read_of options streams) = Ok (read_parts read_only options streams)
 task_parts read_only entries (several_nodes command) =
-    if command.no_response then Err (by_cause NoResponse) else node_parts entries (sent command) (destination command.args read_only)
+    if command.no_response then Err (by_cause NoResponse)
+    else node_parts entries (sent command) (destination command.args read_only)

@@ -1,5 +1,5 @@
--- The picks of a call: what a strategy for reads answered, one for each read part with replicas, in order of first appearance.
--- Source: documentation of the crate `redis`, read routing strategies.
+-- The picks of a call: what a strategy for reads answered, one for each read part with replicas, in order of
+-- first appearance. Source: documentation of the crate `redis`, read routing strategies.
 use Rattle.std.specs.Prelude.{◌≡◌, List, [], ◌∷◌, Option, Some, None, Result, Ok, Err, MatchOption, MatchBool, ⊤}
 use Rattle.resp_core.specs.Errors.{Refusal}
 use Rattle.cluster_routing.specs.Address.{Address}
@@ -22,7 +22,8 @@ ArePartPicks admits client [] picks = picks ≡ []
 ArePartPicks admits client (part ∷ parts) picks =
     IsPick admits (target_candidates client.entries part.target) picks
     × MatchOption (first_of client.entries picks part.target) (picks ≡ []) (λ (first : First).
-    MatchBool (is_linked client.links first.node) (ArePartPicks admits client parts first.picks) (first.picks ≡ []))
+    MatchBool (is_linked client.links first.node) (ArePartPicks admits client parts first.picks)
+    (first.picks ≡ []))
 
 abbrev pub ArePicksOf : Strategy → Client → Result (List Part) Refusal → List Address → Type 0
 ArePicksOf admits client (Ok parts) picks = ArePartPicks admits client parts picks

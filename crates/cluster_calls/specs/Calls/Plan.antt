@@ -38,10 +38,12 @@ some_candidates slot primary (r ∷ rs) = Some (any_node slot (record { primary 
 
 -- a strategy is asked for a read of a slot that has replicas, about all of its nodes
 abbrev pub read_candidates : Route → Nodes → Option Candidates
-read_candidates route nodes = if is_read route.slot_addr then some_candidates route.slot nodes.primary nodes.replicas else None
+read_candidates route nodes = if is_read route.slot_addr
+    then some_candidates route.slot nodes.primary nodes.replicas else None
 
 abbrev pub target_candidates : SlotEntries → Target → Option Candidates
-target_candidates entries (at_slot route) = option_and_then (read_candidates route) (nodes_at route.slot entries)
+target_candidates entries (at_slot route) = option_and_then (read_candidates route)
+    (nodes_at route.slot entries)
 target_candidates entries _ = None
 
 -- a node, and the picks that are left for later parts
@@ -60,8 +62,11 @@ by_number n xs = slice_get xs (n % length xs)
 
 -- where a target's part goes first; none where no node serves it
 abbrev pub first_of : SlotEntries → List Address → Target → Option First
-first_of entries picks (at_slot route) = option_map (λ (nodes : Nodes). first_by (read_candidates route nodes) nodes.primary picks) (nodes_at route.slot entries)
-first_of entries picks (at_number n) = option_map (λ node. record { node = node; picks = picks }) (by_number n (all_nodes entries))
+first_of entries picks (at_slot route) = option_map
+    (λ (nodes : Nodes). first_by (read_candidates route nodes) nodes.primary picks)
+    (nodes_at route.slot entries)
+first_of entries picks (at_number n) = option_map (λ node. record { node = node; picks = picks })
+    (by_number n (all_nodes entries))
 first_of entries picks (at_node node) = Some (record { node = node; picks = picks })
 
 -- ---- dispatches
@@ -70,16 +75,20 @@ abbrev pub with_first : Dispatch → Result (List Dispatch) Refusal → Result (
 with_first d (Ok ds) = Ok (d ∷ ds)
 with_first d (Err refusal) = Err refusal
 
-abbrev pub dispatch_one : List Address → Part → Option First → (List Address → Result (List Dispatch) Refusal) → Result (List Dispatch) Refusal
+abbrev pub dispatch_one : List Address → Part → Option First → (List Address → Result (List Dispatch) Refusal)
+    → Result (List Dispatch) Refusal
 dispatch_one links part None later = Err (by_cause NoNode)
 dispatch_one links part (Some first) later =
-    if is_linked links first.node then with_first (record { node = first.node; args = part.args }) (later first.picks) else Err (by_cause NoLink)
+    if is_linked links first.node
+    then with_first (record { node = first.node; args = part.args }) (later first.picks)
+    else Err (by_cause NoLink)
 
 -- the parts with their nodes, or why the first that has none has none
 abbrev pub dispatches : Client → List Address → List Part → Result (List Dispatch) Refusal
 dispatches client picks [] = Ok []
 dispatches client picks (part ∷ parts) =
-    dispatch_one client.links part (first_of client.entries picks part.target) (λ left. dispatches client left parts)
+    dispatch_one client.links part (first_of client.entries picks part.target)
+    (λ left. dispatches client left parts)
 
 -- ---- plans
 
@@ -89,7 +98,8 @@ unless_refused None parts = parts
 unless_refused (Some refusal) parts = Err refusal
 
 abbrev pub call_parts : Client → Call → Result (List Part) Refusal
-call_parts client call = unless_refused (early_refusal call) (task_parts client.settings.read_only client.entries (task_of call))
+call_parts client call = unless_refused (early_refusal call)
+    (task_parts client.settings.read_only client.entries (task_of call))
 
 abbrev pub order_of : Task → Option (List ℕ)
 order_of (one_command command number order) = order
@@ -103,4 +113,6 @@ in_order (Some order) items = filter_map (slice_get items) order
 -- the dispatches of a call in the order of sending, or why it is refused before a byte is sent
 abbrev pub plan : Client → List Address → Call → Result (List Dispatch) Refusal
 plan client picks call =
-    result_then (call_parts client call) (λ parts. result_then (dispatches client picks parts) (λ ds. Ok (in_order (order_of (task_of call)) ds)))
+    result_then (call_parts client call)
+    (λ parts. result_then (dispatches client picks parts)
+    (λ ds. Ok (in_order (order_of (task_of call)) ds)))

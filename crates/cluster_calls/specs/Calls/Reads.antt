@@ -1,4 +1,5 @@
--- A read of streams in parts, one for each slot of its keys: the streams of a part, and the record from the replies to the parts.
+-- A read of streams in parts, one for each slot of its keys: the streams of a part, and the record from the
+-- replies to the parts.
 use Rattle.std.specs.Prelude.{ℕ, nat_eq, ◌==◌, if◌then◌else◌, List, [], ◌∷◌, map, filter, drop, length, is_some, Option, option_map, option_and_then, codes}
 use Rattle.resp_args.specs.Convert.{traverse}
 use Rattle.cluster_routing.specs.HashSlot.{hash_slot}
@@ -49,9 +50,11 @@ readings xs = traverse (λ x. read_reply (reply_or_nil x)) xs
 -- the rows of all parts, joined in the order of the call's keys
 abbrev pub joined : ReadSettings → List Stream → List Exchange → Option (List Row)
 joined options streams xs =
-    option_and_then (join (stream_keys streams) (map (λ (x : Exchange). key_places (read_slot options x.request.args) streams) xs)) (readings xs)
+    option_and_then (join (stream_keys streams)
+    (map (λ (x : Exchange). key_places (read_slot options x.request.args) streams) xs)) (readings xs)
 
 -- where all keys have one slot the record as it was read, and the join of the parts' records else
 abbrev pub read_rows : ReadSettings → List Stream → List Exchange → Option (List Row)
 read_rows options streams xs =
-    if are_of_one_slot (stream_keys streams) then option_map all_rows (readings xs) else joined options streams xs
+    if are_of_one_slot (stream_keys streams) then option_map all_rows (readings xs)
+    else joined options streams xs

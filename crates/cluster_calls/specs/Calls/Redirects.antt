@@ -24,7 +24,8 @@ pub data Next : Type 0 where
 
 abbrev pub hop_by_link : List Address → Bool → Option Address → Next
 hop_by_link links asking None = Stays
-hop_by_link links asking (Some node) = if is_linked links node then Goes (record { node = node; asking = asking }) else Lost
+hop_by_link links asking (Some node) = if is_linked links node
+    then Goes (record { node = node; asking = asking }) else Lost
 
 abbrev pub sort_next : List Address → Sort → Next
 sort_next links (Moved e) = hop_by_link links false (redirect_target e)
@@ -48,10 +49,12 @@ MatchNext Stays stops goes = stops
 MatchNext Lost stops goes = stops
 MatchNext (Goes hop) stops goes = goes hop
 
--- The request goes to its node, and on from there exactly where the reply sends it on; the last exchange and those behind it are as
--- `Behind` says.
-abbrev pub FollowsRedirects : List Address → ℕ → Hop → List (List ℕ) → (Exchange → List Exchange → Type 0) → List Exchange → Type 0
+-- The request goes to its node, and on from there exactly where the reply sends it on; the last exchange and
+-- those behind it are as `Behind` says.
+abbrev pub FollowsRedirects : List Address → ℕ → Hop → List (List ℕ) → (Exchange → List Exchange → Type 0)
+    → List Exchange → Type 0
 FollowsRedirects links budget hop args Behind [] = ⊥
 FollowsRedirects links budget hop args Behind (x ∷ xs) =
     (x.request ≡ request_of hop args)
-    × MatchNext (next_of links budget x.reply) (Behind x xs) (λ next. FollowsRedirects links (budget - 1) next args Behind xs)
+    × MatchNext (next_of links budget x.reply) (Behind x xs)
+    (λ next. FollowsRedirects links (budget - 1) next args Behind xs)

@@ -26,11 +26,13 @@ stop_refusal _ tree = reply_error tree
 -- why a part whose last reply this is was not answered, after so many requests
 abbrev pub last_refusal : Client → ℕ → LinkFault → Option Tree → Option Refusal
 last_refusal client count fault None = Some (refusal_by_fault fault)
-last_refusal client count fault (Some tree) = stop_refusal (next_of client.links (suc client.settings.budget - count) (Some tree)) tree
+last_refusal client count fault (Some tree) = stop_refusal
+    (next_of client.links (suc client.settings.budget - count) (Some tree)) tree
 
 -- by the requests of the part that was not answered
 abbrev pub part_refusal : Client → (Address → LinkFault) → List Exchange → Option Refusal
-part_refusal client faults xs = option_and_then (λ (x : Exchange). last_refusal client (length xs) (faults x.request.node) x.reply) (last_of xs)
+part_refusal client faults xs = option_and_then
+    (λ (x : Exchange). last_refusal client (length xs) (faults x.request.node) x.reply) (last_of xs)
 
 -- ---- refreshes: no redirect is followed, and each error in the reply refuses
 
@@ -46,7 +48,8 @@ with_error position (Some e) later = (position, e) ∷ later
 
 abbrev pub errors_from : ℕ → List Exchange → List (ℕ × ErrorText)
 errors_from position [] = []
-errors_from position (x ∷ xs) = with_error position (first_error (reply_or_nil x)) (errors_from (suc position) xs)
+errors_from position (x ∷ xs) = with_error position (first_error (reply_or_nil x))
+    (errors_from (suc position) xs)
 
 abbrev pub errors_refusal : List (ℕ × ErrorText) → Option Refusal
 errors_refusal [] = None
@@ -54,13 +57,17 @@ errors_refusal (e ∷ es) = Some (by_servers e es)
 
 abbrev pub pipeline_refusal : (Address → LinkFault) → List Exchange → List (ℕ × ErrorText) → Option Refusal
 pipeline_refusal faults [] errors = errors_refusal errors
-pipeline_refusal faults (x ∷ xs) errors = if is_unanswered x then Some (refusal_by_fault (faults x.request.node)) else pipeline_refusal faults xs errors
+pipeline_refusal faults (x ∷ xs) errors = if is_unanswered x
+    then Some (refusal_by_fault (faults x.request.node)) else pipeline_refusal faults xs errors
 
 -- ---- all
 
 abbrev pub sent_refusal : Client → (Address → LinkFault) → Task → List Exchange → Option Refusal
-sent_refusal client faults (slot_map_of node) xs = option_and_then (λ (x : Exchange). refresh_refusal (faults x.request.node) x.reply) (last_of xs)
-sent_refusal client faults (one_command command number order) xs = part_refusal client faults (behind_answers xs)
-sent_refusal client faults (pipeline_of entries) xs = pipeline_refusal faults xs (errors_from 0 (in_pipeline_order entries xs))
+sent_refusal client faults (slot_map_of node) xs = option_and_then
+    (λ (x : Exchange). refresh_refusal (faults x.request.node) x.reply) (last_of xs)
+sent_refusal client faults (one_command command number order) xs = part_refusal client faults
+    (behind_answers xs)
+sent_refusal client faults (pipeline_of entries) xs = pipeline_refusal faults xs
+    (errors_from 0 (in_pipeline_order entries xs))
 sent_refusal client faults (several_nodes command) xs = refusal_in (several_reply faults command xs)
 sent_refusal client faults (read_of options streams) xs = part_refusal client faults (behind_answers xs)

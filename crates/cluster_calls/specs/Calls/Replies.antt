@@ -62,7 +62,8 @@ abbrev pub with_slot : ℕ → List Exchange → List Exchange
 with_slot slot xs = filter (λ x. slot == exchange_slot x) xs
 
 abbrev pub in_pipeline_order : List Entry → List Exchange → List Exchange
-in_pipeline_order entries xs = draw (map (λ (e : Entry). args_slot (sent e.command)) entries) (λ slot. with_slot slot xs)
+in_pipeline_order entries xs = draw (map (λ (e : Entry). args_slot (sent e.command)) entries)
+    (λ slot. with_slot slot xs)
 
 -- the trees at the positions that are not ignored
 abbrev pub not_ignored : List Entry → List Tree → List Tree
@@ -100,4 +101,5 @@ reply_by_outcomes (Some policy) os = combine_outcomes policy os
 
 -- the reply to a command that went to several nodes
 abbrev pub several_reply : (Address → LinkFault) → Command → List Exchange → Result Tree Refusal
-several_reply faults command xs = reply_by_outcomes (policy_in (destination command.args [])) (outcomes faults xs)
+several_reply faults command xs = reply_by_outcomes (policy_in (destination command.args []))
+    (outcomes faults xs)

@@ -8,4 +8,5 @@ use Rattle.cluster_routing.specs.SlotsReply.{ranges}
 
 abbrev pub IsAccepted : Tree → List ℕ → Result SlotEntries Refusal → Type 0
 IsAccepted tree host (Ok entries) = (first_error tree ≡ None) × (entries ≡ put_all [] (ranges tree host))
-IsAccepted tree host (Err refusal) = (error : ErrorText) × (first_error tree ≡ Some error) × (refusal ≡ by_server error)
+IsAccepted tree host (Err refusal) = (error : ErrorText) × (first_error tree ≡ Some error)
+    × (refusal ≡ by_server error)

@@ -11,7 +11,14 @@ with_last f (x ∷ y ∷ xs) = x ∷ with_last f (y ∷ xs)
 
 -- a command with these arguments behind its own
 abbrev pub with_args : List (Arg (List ℕ)) → Entry → Entry
-with_args args e = record { command = record { args = e.command.args ++ args; cursor = e.command.cursor; no_response = e.command.no_response }; ignored = e.ignored }
+with_args args e = record {
+  command = record {
+    args = e.command.args ++ args;
+    cursor = e.command.cursor;
+    no_response = e.command.no_response;
+  };
+  ignored = e.ignored;
+}
 
 -- a command whose reply is left out of the answer
 abbrev pub ignoring : Entry → Entry

@@ -22,26 +22,34 @@ IsSingle x = (q : Request) × (x.requests ≡ q ∷ [])
 
 -- the exchanges from this hop on, up to the one whose reply sends the request nowhere
 abbrev pub IsChain : Client → Hop → List (List ℕ) → List Exchange → Type 0
-IsChain client hop args xs = FollowsRedirects client.links client.settings.budget hop args (λ last behind. behind ≡ []) xs
+IsChain client hop args xs = FollowsRedirects client.links client.settings.budget hop args
+    (λ last behind. behind ≡ []) xs
 
--- only the last exchange can be answered: it is, with this reply; or none is, and the refusal is by the last one
+-- only the last exchange can be answered: it is, with this reply; or none is, and the refusal is by the last
+-- one
 abbrev pub IsChainResult : Client → (Address → LinkFault) → List Exchange → Result Tree Refusal → Type 0
-IsChainResult client faults xs (Ok tree) = (behind_answers xs ≡ []) × (map reply_or_nil (filter is_answered xs) ≡ tree ∷ [])
-IsChainResult client faults xs (Err refusal) = (list_any is_answered xs ≡ false) × (part_refusal client faults xs ≡ Some refusal)
+IsChainResult client faults xs (Ok tree) = (behind_answers xs ≡ [])
+    × (map reply_or_nil (filter is_answered xs) ≡ tree ∷ [])
+IsChainResult client faults xs (Err refusal) = (list_any is_answered xs ≡ false)
+    × (part_refusal client faults xs ≡ Some refusal)
 
-pub record ChainAnswered (old new : World) (hop : Hop) (args : List (List ℕ)) (events : List Event) (result : Result Tree Refusal) : Type 0 where
+pub record ChainAnswered (old new : World) (hop : Hop) (args : List (List ℕ)) (events : List Event)
+    (result : Result Tree Refusal) : Type 0 where
   pub memory : lack_memory events ≡ false
   pub chain : (place : ℕ) → IsChain (client_of old) hop args (exchanges_of place events)
-  pub tells : (faults : Address → LinkFault) → Agrees faults events → (place : ℕ) → IsChainResult (client_of old) faults (exchanges_of place events) result
+  pub tells : (faults : Address → LinkFault) → Agrees faults events → (place : ℕ)
+      → IsChainResult (client_of old) faults (exchanges_of place events) result
 
 -- What a chain's link calls did, also where memory was refused: then they begin a chain.
-pub record ChainMade (old new : World) (hop : Hop) (args : List (List ℕ)) (result : Result Tree Refusal) : Type 0 where
+pub record ChainMade (old new : World) (hop : Hop) (args : List (List ℕ))
+    (result : Result Tree Refusal) : Type 0 where
   pub events : List Event
   pub runs : Runs old.nodes new.nodes events
   pub stops : StopsAtMemory events
   pub logged : new.log ≡ old.log ++ log_of events
   pub single : AllByRecursion IsSingle events
-  pub begins : (place : ℕ) → (later : List Exchange) × IsChain (client_of old) hop args (exchanges_of place events ++ later)
+  pub begins : (place : ℕ) → (later : List Exchange)
+      × IsChain (client_of old) hop args (exchanges_of place events ++ later)
   pub flag : new.needs_refresh ≡ (old.needs_refresh || answered_moved events)
   pub entries : new.entries ≡ old.entries
   pub settings : new.settings ≡ old.settings

@@ -20,14 +20,16 @@ refresh_answer (Ok a) = Ok Refreshed
 refresh_answer (Err refusal) = Err refusal
 
 -- the result is the reply's conversion, refused where it has none; a refused call's refusal stays
-abbrev pub ConvertsTo : {T M : Type 0} → (T → M) → (Tree → Option M) → Result Tree Refusal → Result T Refusal → Type 0
+abbrev pub ConvertsTo : {T M : Type 0} → (T → M) → (Tree → Option M) → Result Tree Refusal → Result T Refusal
+    → Type 0
 ConvertsTo meaning convert (Ok tree) (Ok value) = convert tree ≡ Some (meaning value)
 ConvertsTo meaning convert (Ok tree) (Err refusal) = (convert tree ≡ None) × (refusal ≡ bad_reply)
 ConvertsTo meaning convert (Err refusal) (Ok value) = ⊥
 ConvertsTo meaning convert (Err refusal) (Err refusal') = refusal' ≡ refusal
 
 -- the call was made for some reply or refusal, and the result is its conversion
-pub record ValueMade {T M : Type 0} (strategy : Option Strategy) (old new : World) (call : Call) (meaning : T → M) (convert : Tree → Option M) (result : Result T Refusal) : Type 0 where
+pub record ValueMade {T M : Type 0} (strategy : Option Strategy) (old new : World) (call : Call)
+    (meaning : T → M) (convert : Tree → Option M) (result : Result T Refusal) : Type 0 where
   pub reply : Result Tree Refusal
   pub made : CallMade strategy old new call (value_answer reply)
   pub converted : ConvertsTo meaning convert reply result

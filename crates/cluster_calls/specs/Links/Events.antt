@@ -1,4 +1,5 @@
--- The link calls of a run, one after another. A link call sends some requests to one node and takes their replies.
+-- The link calls of a run, one after another. A link call sends some requests to one node and takes their
+-- replies.
 use Rattle.std.specs.Prelude.{◌≡◌, ◌≢◌, ℕ, suc, ◌+◌, ◌&&◌, Bool, true, false, if◌then◌else◌, List, [], ◌∷◌, ◌++◌, length, drop, slice_get, Some, ⊤}
 use Rattle.std.specs.List.{list_any}
 use Rattle.resp_core.specs.Trees.{Tree}
@@ -33,22 +34,29 @@ reply_count (q ∷ qs) = (skipped q.asking + 1) + reply_count qs
 -- ---- one link call
 
 -- the link answered as its contract says, and these are the values that it took
-pub record AnswersFrom (old new : Seen) (bytes : List ℕ) (count : ℕ) (taken replies : List Tree) : Type 0 where
+pub record AnswersFrom (old new : Seen) (bytes : List ℕ) (count : ℕ)
+    (taken replies : List Tree) : Type 0 where
   pub offset : ℕ
   pub size : ℕ
   pub whole : offset + size ≡ count
   pub contract : Answers old new bytes offset size replies
   pub values : contract.takes.reads.trees ≡ taken
 
--- the link failed as its contract says: in sending it took nothing, in receiving the values before the failure
-pub data FailsFrom (old new : Seen) (bytes : List ℕ) (count : ℕ) (taken : List Tree) (refusal : Refusal) : Type 0 where
-  in_sending : SendFails old new bytes → refusal ≡ by_cause Io → taken ≡ [] → FailsFrom old new bytes count taken refusal
-  in_receiving : (contract : ReadFails old new bytes count refusal) → contract.lacks.ends.trees ≡ taken → FailsFrom old new bytes count taken refusal
+-- the link failed as its contract says: in sending it took nothing, in receiving the values before the
+-- failure
+pub data FailsFrom (old new : Seen) (bytes : List ℕ) (count : ℕ) (taken : List Tree)
+    (refusal : Refusal) : Type 0 where
+  in_sending : SendFails old new bytes → refusal ≡ by_cause Io → taken ≡ []
+      → FailsFrom old new bytes count taken refusal
+  in_receiving : (contract : ReadFails old new bytes count refusal) → contract.lacks.ends.trees ≡ taken
+      → FailsFrom old new bytes count taken refusal
 
 abbrev pub EndsBy : Seen → Seen → List Request → List Tree → Ending → Type 0
 EndsBy old new qs taken (answers replies) = AnswersFrom old new (bytes_of qs) (reply_count qs) taken replies
-EndsBy old new qs taken (fails fault) = FailsFrom old new (bytes_of qs) (reply_count qs) taken (refusal_by_fault fault)
-EndsBy old new qs taken lacks_memory = FailsFrom old new (bytes_of qs) (reply_count qs) taken (by_cause Memory)
+EndsBy old new qs taken (fails fault) = FailsFrom old new (bytes_of qs) (reply_count qs) taken
+    (refusal_by_fault fault)
+EndsBy old new qs taken lacks_memory = FailsFrom old new (bytes_of qs) (reply_count qs) taken
+    (by_cause Memory)
 
 abbrev pub AllTo : Address → List Request → Type 0
 AllTo node [] = ⊤
@@ -89,7 +97,8 @@ calls_of (x ∷ xs) a = if same_address x.node a then x.requests ∷ calls_of xs
 abbrev pub pair_up : List Tree → ℕ → List Request → List Exchange
 pair_up trees place [] = []
 pair_up trees place (q ∷ qs) =
-    record { request = q; place = place; reply = slice_get trees (skipped q.asking) } ∷ pair_up (drop (skipped q.asking + 1) trees) (suc place) qs
+    record { request = q; place = place; reply = slice_get trees (skipped q.asking) }
+    ∷ pair_up (drop (skipped q.asking + 1) trees) (suc place) qs
 
 abbrev pub exchanges_at : ℕ → Event → List Exchange
 exchanges_at place x = pair_up (replies_of x.taken) place x.requests
@@ -134,4 +143,5 @@ is_answer_ending (answers replies) = true
 is_answer_ending _ = false
 
 abbrev pub answered_moved : List Event → Bool
-answered_moved xs = list_any (λ (x : Event). is_answer_ending x.ending && list_any is_moved (exchanges_at 0 x)) xs
+answered_moved xs = list_any
+    (λ (x : Event). is_answer_ending x.ending && list_any is_moved (exchanges_at 0 x)) xs

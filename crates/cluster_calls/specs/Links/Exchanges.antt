@@ -6,9 +6,13 @@ use Rattle.resp_core.specs.declared.errors.redis_error.Cause.TheVariants.{Memory
 use Rattle.cluster_calls.specs.Links.Request.{Request, bytes_of}
 use Rattle.cluster_calls.specs.Links.World.{Node, Called, Calls}
 
-pub data Exchanges (old new : List Node) (which : ℕ) (before after : List Request) (requests : List Request) (offset size : ℕ) (result : Result (List Tree) Refusal) : Type 0 where
+pub data Exchanges (old new : List Node) (which : ℕ) (before after : List Request) (requests : List Request)
+    (offset size : ℕ) (result : Result (List Tree) Refusal) : Type 0 where
   -- memory was refused before the log was written, and nothing was done
-  not_begun : new ≡ old → after ≡ before → result ≡ Err (by_cause Memory) → Exchanges old new which before after requests offset size result
-  -- the log has the requests, and the link at this place did as its contract says, also where memory was refused in it
-  made : after ≡ before ++ requests → Calls old new which (λ link link'. Called link link' (bytes_of requests) offset size result)
+  not_begun : new ≡ old → after ≡ before → result ≡ Err (by_cause Memory)
+      → Exchanges old new which before after requests offset size result
+  -- the log has the requests, and the link at this place did as its contract says, also where memory was
+  -- refused in it
+  made : after ≡ before ++ requests
+      → Calls old new which (λ link link'. Called link link' (bytes_of requests) offset size result)
       → Exchanges old new which before after requests offset size result

@@ -33,7 +33,8 @@ left_after queues request node =
 abbrev pub exchanges : (Address → List Tree) → ℕ → List Request → List Exchange
 exchanges queues place [] = []
 exchanges queues place (q ∷ qs) =
-    record { request = q; place = place; reply = reply_at (queues q.node) q } ∷ exchanges (left_after queues q) (suc place) qs
+    record { request = q; place = place; reply = reply_at (queues q.node) q }
+    ∷ exchanges (left_after queues q) (suc place) qs
 
 abbrev pub left_after_all : (Address → List Tree) → List Request → Address → List Tree
 left_after_all queues [] = queues

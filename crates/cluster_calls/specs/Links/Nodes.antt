@@ -1,4 +1,5 @@
--- What became of each node over some link calls: what went out to it, what was taken from it, and whether its link failed.
+-- What became of each node over some link calls: what went out to it, what was taken from it, and whether its
+-- link failed.
 use Rattle.std.specs.Prelude.{◌≡◌, ◌≢◌, ℕ, Bool, true, false, List, [], ◌∷◌, ◌++◌, map, filter, Option, Some}
 use Rattle.std.specs.Io.KnownBytes.{Appends, Consumes, prepend_known}
 use Rattle.resp_core.specs.Trees.{Tree}
@@ -33,14 +34,16 @@ abbrev pub IsSentFor : Bool → List (List Request) → List ℕ → Type 0
 IsSentFor false calls sent = sent ≡ bytes_of (concat calls)
 IsSentFor true calls sent =
     (before : List (List Request)) × (last : List Request) × (part : List ℕ) × (rest : List ℕ)
-    × (calls ≡ before ++ last ∷ []) × (part ++ rest ≡ bytes_of last) × (sent ≡ bytes_of (concat before) ++ part)
+    × (calls ≡ before ++ last ∷ []) × (part ++ rest ≡ bytes_of last)
+    × (sent ≡ bytes_of (concat before) ++ part)
 
 -- the bytes to come over a link: those read and not taken, and those that its reader has left
 abbrev pub coming : Seen → Option (List ℕ)
 coming link = prepend_known link.held link.left
 
--- These values came in over a link, no deeper than its limit, and the pushes among them were set aside. Behind them some bytes are
--- unread: on a link that is still open those that it holds. Its limit and what its devices promise stay.
+-- These values came in over a link, no deeper than its limit, and the pushes among them were set aside.
+-- Behind them some bytes are unread: on a link that is still open those that it holds. Its limit and what its
+-- devices promise stay.
 pub record Came (old new : Seen) (taken : List Tree) : Type 0 where
   pub bytes : List ℕ
   pub unread : List ℕ
@@ -53,12 +56,14 @@ pub record Came (old new : Seen) (taken : List Tree) : Type 0 where
 
 -- ---- one node
 
-abbrev pub is_in_sending : {old new : Seen} {bytes : List ℕ} {count : ℕ} {taken : List Tree} {refusal : Refusal} → FailsFrom old new bytes count taken refusal → Bool
+abbrev pub is_in_sending : {old new : Seen} {bytes : List ℕ} {count : ℕ} {taken : List Tree}
+    {refusal : Refusal} → FailsFrom old new bytes count taken refusal → Bool
 is_in_sending (in_sending fails is_io nothing) = true
 is_in_sending (in_receiving contract values) = false
 
 -- the last link call failed by this fault, and those before it were answered
-pub record LostBy (old new : Seen) (calls : List (List Request)) (taken : List Tree) (fault : LinkFault) (write_failed : Bool) : Type 0 where
+pub record LostBy (old new : Seen) (calls : List (List Request)) (taken : List Tree) (fault : LinkFault)
+    (write_failed : Bool) : Type 0 where
   pub mid : Seen
   pub before : List (List Request)
   pub last : List Request
@@ -71,9 +76,10 @@ pub record LostBy (old new : Seen) (calls : List (List Request)) (taken : List T
   pub fails : FailsFrom mid new (bytes_of last) (reply_count last) later (refusal_by_fault fault)
   pub by_write : write_failed ≡ is_in_sending fails
 
--- The requests of the link calls went out to the node, and these values were taken from it. Where one was unanswered its link failed,
--- and a node without requests is as it was.
-pub record NodeMade (old new : Seen) (calls : List (List Request)) (taken : List Tree) (is_lost : Bool) (fault : LinkFault) : Type 0 where
+-- The requests of the link calls went out to the node, and these values were taken from it. Where one was
+-- unanswered its link failed, and a node without requests is as it was.
+pub record NodeMade (old new : Seen) (calls : List (List Request)) (taken : List Tree) (is_lost : Bool)
+    (fault : LinkFault) : Type 0 where
   pub write_failed : Bool
   pub bytes : List ℕ
   pub sent : Appends old.sent new.sent bytes
@@ -85,7 +91,8 @@ pub record NodeMade (old new : Seen) (calls : List (List Request)) (taken : List
   pub untouched : calls ≡ [] → new ≡ old
 
 -- what became of all nodes, each with its link calls
-pub record NodesMade (old new : List Node) (calls : Address → List (List Request)) (xs : List Exchange) (taken : Address → List Tree) (faults : Address → LinkFault) : Type 0 where
+pub record NodesMade (old new : List Node) (calls : Address → List (List Request)) (xs : List Exchange)
+    (taken : Address → List Tree) (faults : Address → LinkFault) : Type 0 where
   pub addresses : map (λ (n : Node). n.address) new ≡ map (λ (n : Node). n.address) old
   pub each : (a : Address) (before after : Seen) → link_at old a ≡ Some before → link_at new a ≡ Some after
       → NodeMade before after (calls a) (taken a) (has_lost a xs) (faults a)

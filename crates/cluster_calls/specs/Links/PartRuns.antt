@@ -20,28 +20,36 @@ use Rattle.cluster_calls.specs.Calls.Refusals.{part_refusal}
 
 -- ---- the run of the parts
 
--- Each part has one answered exchange, in order, with these replies, and nothing stands behind the last; or the refusal is by the
--- exchanges behind the answered ones.
-abbrev pub ArePartResults : Client → (Address → LinkFault) → List Dispatch → List Exchange → Result (List Tree) Refusal → Type 0
+-- Each part has one answered exchange, in order, with these replies, and nothing stands behind the last; or
+-- the refusal is by the exchanges behind the answered ones.
+abbrev pub ArePartResults : Client → (Address → LinkFault) → List Dispatch → List Exchange
+    → Result (List Tree) Refusal → Type 0
 ArePartResults client faults ds xs (Ok trees) =
-    (behind_answers xs ≡ []) × (map (λ (x : Exchange). x.request.args) (filter is_answered xs) ≡ map (λ (d : Dispatch). d.args) ds)
+    (behind_answers xs ≡ [])
+    × (map (λ (x : Exchange). x.request.args) (filter is_answered xs) ≡ map (λ (d : Dispatch). d.args) ds)
     × (map reply_or_nil (filter is_answered xs) ≡ trees)
-ArePartResults client faults ds xs (Err refusal) = part_refusal client faults (behind_answers xs) ≡ Some refusal
+ArePartResults client faults ds xs (Err refusal) = part_refusal client faults (behind_answers xs)
+    ≡ Some refusal
 
--- The parts were sent in order, each behind its redirects, up to the first that was refused; the result is what their replies tell.
-pub record PartsAnswered (old new : World) (ds : List Dispatch) (events : List Event) (result : Result (List Tree) Refusal) : Type 0 where
+-- The parts were sent in order, each behind its redirects, up to the first that was refused; the result is
+-- what their replies tell.
+pub record PartsAnswered (old new : World) (ds : List Dispatch) (events : List Event)
+    (result : Result (List Tree) Refusal) : Type 0 where
   pub memory : lack_memory events ≡ false
   pub parts : (place : ℕ) → PartByPart (client_of old) ds (exchanges_of place events)
-  pub tells : (faults : Address → LinkFault) → Agrees faults events → (place : ℕ) → ArePartResults (client_of old) faults ds (exchanges_of place events) result
+  pub tells : (faults : Address → LinkFault) → Agrees faults events → (place : ℕ)
+      → ArePartResults (client_of old) faults ds (exchanges_of place events) result
 
 -- What the link calls of all parts did, also where memory was refused: then they begin such a run.
-pub record PartsMade (old new : World) (ds : List Dispatch) (result : Result (List Tree) Refusal) : Type 0 where
+pub record PartsMade (old new : World) (ds : List Dispatch)
+    (result : Result (List Tree) Refusal) : Type 0 where
   pub events : List Event
   pub runs : Runs old.nodes new.nodes events
   pub stops : StopsAtMemory events
   pub logged : new.log ≡ old.log ++ log_of events
   pub single : AllByRecursion IsSingle events
-  pub begins : (place : ℕ) → (later : List Exchange) × PartByPart (client_of old) ds (exchanges_of place events ++ later)
+  pub begins : (place : ℕ) → (later : List Exchange)
+      × PartByPart (client_of old) ds (exchanges_of place events ++ later)
   pub flag : new.needs_refresh ≡ (old.needs_refresh || answered_moved events)
   pub entries : new.entries ≡ old.entries
   pub settings : new.settings ≡ old.settings
@@ -52,11 +60,14 @@ pub record PartsMade (old new : World) (ds : List Dispatch) (result : Result (Li
 
 -- the parts' replies, each with the slot of its part
 abbrev pub replies_with_slots : List Dispatch → List Tree → List PartReply
-replies_with_slots (d ∷ ds) (tree ∷ trees) = record { slot = args_slot d.args; tree = tree } ∷ replies_with_slots ds trees
+replies_with_slots (d ∷ ds) (tree ∷ trees) = record { slot = args_slot d.args; tree = tree }
+    ∷ replies_with_slots ds trees
 replies_with_slots _ _ = []
 
--- The reply is made of those of the parts, or refused where none can be made of them; a part's refusal refuses the call. Memory may be
--- refused when the parts were answered.
-abbrev pub IsMadeOfParts : List (List ℕ) → List Dispatch → Result (List Tree) Refusal → Result Tree Refusal → Type 0
-IsMadeOfParts args ds (Ok trees) reply = reply ≢ Err (by_cause Memory) → reply ≡ or_bad_reply (reply_of_parts args (replies_with_slots ds trees))
+-- The reply is made of those of the parts, or refused where none can be made of them; a part's refusal
+-- refuses the call. Memory may be refused when the parts were answered.
+abbrev pub IsMadeOfParts : List (List ℕ) → List Dispatch → Result (List Tree) Refusal → Result Tree Refusal
+    → Type 0
+IsMadeOfParts args ds (Ok trees) reply = reply ≢ Err (by_cause Memory)
+    → reply ≡ or_bad_reply (reply_of_parts args (replies_with_slots ds trees))
 IsMadeOfParts args ds (Err refusal) reply = reply ≡ Err refusal

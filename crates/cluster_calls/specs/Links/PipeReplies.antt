@@ -16,4 +16,5 @@ errors_in position (tree ∷ trees) = with_error position (first_error tree) (er
 
 -- refused by all errors, or the array of the replies that are not ignored
 abbrev pub pipeline_result : List Entry → List Tree → Result Tree Refusal
-pipeline_result entries trees = unless (errors_refusal (errors_in 0 trees)) (Ok (array_of (not_ignored entries trees)))
+pipeline_result entries trees = unless (errors_refusal (errors_in 0 trees))
+    (Ok (array_of (not_ignored entries trees)))

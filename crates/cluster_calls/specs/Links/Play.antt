@@ -16,16 +16,19 @@ pub record Shown : Type 0 where
   pub log : List Request
 
 -- a call was made; its requests are moved out of the client, which keeps what was picked for it
-pub record PlaysOne (strategy : Option Strategy) (old new : World) (call : Call) (played : Shown) : Type 0 where
+pub record PlaysOne (strategy : Option Strategy) (old new : World) (call : Call)
+    (played : Shown) : Type 0 where
   pub moved : new.log ≡ []
   pub made : CallMade strategy old (with_log new played.log new.picked) call played.answer
 
 abbrev pub shown_of : PlayedCall → Shown
 shown_of p = record { answer = p.answer; log = p.log }
 
--- The first of the calls were played, and are a run; what is shown of them stands behind what stood there. They are all of the calls,
--- unless memory was refused for what one of them was to show: then none was made from that one on, and there is that one.
-pub record Plays (strategy : Option Strategy) (old new : World) (calls : List Call) (before after : List Shown) (all : Bool) : Type 0 where
+-- The first of the calls were played, and are a run; what is shown of them stands behind what stood there.
+-- They are all of the calls, unless memory was refused for what one of them was to show: then none was made
+-- from that one on, and there is that one.
+pub record Plays (strategy : Option Strategy) (old new : World) (calls : List Call)
+    (before after : List Shown) (all : Bool) : Type 0 where
   pub run : List PlayedCall
   pub left : List Call
   pub is_run : IsRun strategy old new run

@@ -31,7 +31,8 @@ sort_of tree = inner_sort (first_error tree)
 
 -- the node that a redirect names
 abbrev pub named_node : List ℕ → Option Address
-named_node detail = option_and_then (λ (words : RedirectWords). address_read words.address) (redirect_words detail)
+named_node detail = option_and_then (λ (words : RedirectWords). address_read words.address)
+    (redirect_words detail)
 
 abbrev pub redirect_target : ErrorText → Option Address
 redirect_target e = option_and_then named_node e.detail

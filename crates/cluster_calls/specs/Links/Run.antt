@@ -28,7 +28,8 @@ IsMovedOut world t = (world.log ≡ []) × (world.picked ≡ t.picks)
 abbrev pub CallsMade : Option Strategy → World → World → List PlayedCall → List Event → Type 0
 CallsMade strategy old new [] events = (new ≡ old) × (events ≡ [])
 CallsMade strategy old new (t ∷ ts) events =
-    (mid : World) × (later : List Event) × (made : CallMade strategy old (with_log mid t.log t.picks) t.call t.answer)
+    (mid : World) × (later : List Event)
+    × (made : CallMade strategy old (with_log mid t.log t.picks) t.call t.answer)
     × (events ≡ made.happened.events ++ later) × CallsMade strategy mid new ts later × IsMovedOut mid t
 
 -- the requests of a run, and its link calls to a node
@@ -45,8 +46,10 @@ run_calls ts node = concat (map (link_calls_to node) ts)
 abbrev pub HadMemory : List PlayedCall → Type 0
 HadMemory ts = AllByRecursion (λ (t : PlayedCall). t.answer ≢ Err (by_cause Memory)) ts
 
--- the run as a reader sees it: every call is legal and answers what its replies make, and each node was sent its requests
-pub record RunPlayed (strategy : Option Strategy) (old new : World) (ts : List PlayedCall) (taken : Address → List Tree) : Type 0 where
+-- the run as a reader sees it: every call is legal and answers what its replies make, and each node was sent
+-- its requests
+pub record RunPlayed (strategy : Option Strategy) (old new : World) (ts : List PlayedCall)
+    (taken : Address → List Tree) : Type 0 where
   pub faults : Address → LinkFault
   pub played : IsPlayedFrom strategy (client_of old) faults (with_replies taken ts)
   pub made : NodesMade old.nodes new.nodes (run_calls ts) (log_with_replies taken (whole_log ts)) taken faults

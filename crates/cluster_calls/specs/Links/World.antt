@@ -16,7 +16,8 @@ pub record Node : Type 0 where
   pub address : Address
   pub link : Seen
 
--- what a client is made with: how many redirects a request follows, and the names of the commands that only read
+-- what a client is made with: how many redirects a request follows, and the names of the commands that only
+-- read
 pub record Settings : Type 0 where
   pub budget : ℕ
   pub read_only : List (List ℕ)
@@ -35,7 +36,8 @@ nodes seen links = map (λ pair. record { address = address pair.0; link = seen 
 
 -- a client that was just made: without a slot map, and with an empty log
 abbrev pub new_world : List Node → Settings → World
-new_world ns settings = record { nodes = ns; entries = []; settings = settings; needs_refresh = false; log = []; picked = [] }
+new_world ns settings = record
+    { nodes = ns; entries = []; settings = settings; needs_refresh = false; log = []; picked = [] }
 
 abbrev pub addresses_of : List Node → List Address
 addresses_of ns = map (λ (n : Node). n.address) ns
@@ -57,7 +59,8 @@ link_at (n ∷ ns) a = if same_address n.address a then Some n.link else link_at
 -- the nodes with another link to this one
 abbrev pub set_link : List Node → Address → Seen → List Node
 set_link [] a link = []
-set_link (n ∷ ns) a link = if same_address n.address a then record { address = n.address; link = link } ∷ ns else n ∷ set_link ns a link
+set_link (n ∷ ns) a link = if same_address n.address a then record { address = n.address; link = link } ∷ ns
+    else n ∷ set_link ns a link
 
 abbrev pub is_usable : Option Seen → Bool
 is_usable None = false
@@ -77,10 +80,12 @@ is_linked links node = list_any (λ known. same_address known node) links
 
 -- one link call, as the link's own contract says
 abbrev pub Called : Seen → Seen → List ℕ → ℕ → ℕ → Result (List Tree) Refusal → Type 0
-Called old new bytes offset count result = MatchResult result (λ replies. Answers old new bytes offset count replies) (λ e. Fails old new bytes (offset + count) e)
+Called old new bytes offset count result = MatchResult result
+    (λ replies. Answers old new bytes offset count replies) (λ e. Fails old new bytes (offset + count) e)
 
 -- replies as their trees
-abbrev pub tree_results : {V : Type 0} → (V → Tree) → Result (Vec V Global) Refusal → Result (List Tree) Refusal
+abbrev pub tree_results : {V : Type 0} → (V → Tree) → Result (Vec V Global) Refusal
+    → Result (List Tree) Refusal
 tree_results view (Ok replies) = Ok (map view replies.items)
 tree_results view (Err e) = Err e
 

@@ -1,12 +1,14 @@
 -- Runs on keys that others use too: the claim of Headline with their steps in it.
 --
--- Between the requests of a run anyone else may do any step, one that the meaning has or another one. On one server the operations of the
--- run are done whole, one after another, with the same steps of others between them. What others do between two calls stays
--- there. What they do while a call is made stays among what is done for that call, and on each slot all steps keep their order, own and
--- others', so that each finds and leaves the same cell. With no step of others this is the claim of Headline.
+-- Between the requests of a run anyone else may do any step, one that the meaning has or another one. On one
+-- server the operations of the run are done whole, one after another, with the same steps of others between
+-- them. What others do between two calls stays there. What they do while a call is made stays among what is
+-- done for that call, and on each slot all steps keep their order, own and others', so that each finds and
+-- leaves the same cell. With no step of others this is the claim of Headline.
 --
--- So a step of others is moved only past own steps of one call, and past others' steps on other slots, and only if the call has steps on
--- several slots. It then cannot always stay: `RunsAmongOthers` of WholeCalls has a command that another client sees half done.
+-- So a step of others is moved only past own steps of one call, and past others' steps on other slots, and
+-- only if the call has steps on several slots. It then cannot always stay: `RunsAmongOthers` of WholeCalls
+-- has a command that another client sees half done.
 use Rattle.std.specs.Prelude.{◌≡◌, ℕ, ◌==◌, Bool, true, false, List, [], ◌∷◌, ◌++◌, map, filter, Option, is_none}
 use Rattle.std.specs.List.{AllByRecursion, list_all}
 use Rattle.resp_args.specs.Packed.{sent}
@@ -36,7 +38,8 @@ abbrev pub step_of : Turn → Step
 step_of (Own step) = step
 step_of (Other step) = step
 
--- the run's own lists of steps, each unparted, and before each the next list of others' steps; behind the last all that are left
+-- the run's own lists of steps, each unparted, and before each the next list of others' steps; behind the
+-- last all that are left
 abbrev pub in_turn : List (List Step) → List (List Step) → List Turn
 in_turn others [] = map Other (concat others)
 in_turn others (own ∷ owns) = map Other (concat (front others)) ++ (map Own own ++ in_turn (rest others) owns)
@@ -45,8 +48,9 @@ in_turn others (own ∷ owns) = map Other (concat (front others)) ++ (map Own ow
 abbrev pub turns_on : ℕ → List Turn → List Turn
 turns_on slot turns = filter (λ t. slot == (step_of t).slot) turns
 
--- What is done from the end of one call to the end of the next: by others before it, by others while it is made, and by itself. Both are in lists
--- then, and before each list of its own stands the next one of others'.
+-- What is done from the end of one call to the end of the next: by others before it, by others while it is
+-- made, and by itself. Both are in lists then, and before each list of its own stands the next one of
+-- others'.
 pub record CallTurns : Type 0 where
   pub before : List Step
   pub during : List (List Step)
@@ -71,10 +75,12 @@ TurnsLead keys turns keys' = History keys (map step_of turns) keys'
 
 -- a call's own lists are the steps of its requests, one list each
 abbrev pub AreItsRequests : Meaning → (ℕ → Bool) → RepliedCall → CallTurns → Type 0
-AreItsRequests meaning done t c = Pairwise (Accounts meaning done t.call) (task_log (task_of t.call) t.log) c.own
+AreItsRequests meaning done t c = Pairwise (Accounts meaning done t.call)
+    (task_log (task_of t.call) t.log) c.own
 
--- The nodes did what they answered, in the order of the log, and in between what others asked for. That is all that is supposed of others.
--- A request without an answer that was done late, behind its place in the log, may be taken for one of theirs, and `done` is false for it.
+-- The nodes did what they answered, in the order of the log, and in between what others asked for. That is
+-- all that is supposed of others. A request without an answer that was done late, behind its place in the
+-- log, may be taken for one of theirs, and `done` is false for it.
 pub record HonestAmongOthers (meaning : Meaning) (keys : Keyspace) (done : ℕ → Bool) (ts : List RepliedCall)
     (calls : List CallTurns) (last : List Step) (keys' : Keyspace) : Type 0 where
   -- of each call its own lists are what its requests did
@@ -89,14 +95,16 @@ abbrev pub are_on_one_slot : List Step → Bool
 are_on_one_slot [] = true
 are_on_one_slot (x ∷ xs) = list_all (λ (y : Step). x.slot == y.slot) xs
 
--- what is done from one call to the end of the next, as it was on the nodes, and as it now is on one server, and what this server responds
+-- what is done from one call to the end of the next, as it was on the nodes, and as it now is on one server,
+-- and what this server responds
 pub record ServedCall : Type 0 where
   pub was : CallTurns
   pub now : CallTurns
   pub responses : List Response
 
 pub record IsServed (meaning : Meaning) (done : ℕ → Bool) (t : RepliedCall) (s : ServedCall) : Type 0 where
-  -- the own lists are now the steps of the call's operations, one list each: so nothing of others is within an operation
+  -- the own lists are now the steps of the call's operations, one list each: so nothing of others is within
+  -- an operation
   pub operations : DoAll meaning (counting done t.call t.answer t.log) s.now.own s.responses
   -- the answer is what the responses say
   pub answer : IsAnswerBy t.call t.answer s.responses
@@ -104,7 +112,8 @@ pub record IsServed (meaning : Meaning) (done : ℕ → Bool) (t : RepliedCall) 
   pub before : s.now.before ≡ s.was.before
   -- on each slot all stays as it was: the same steps, own and others', in the same order
   pub same : (slot : ℕ) → turns_on slot (while_made s.now) ≡ turns_on slot (while_made s.was)
-  -- and where all own steps of the call are on one slot, as that of a command with one key is, all stays as it was
+  -- and where all own steps of the call are on one slot, as that of a command with one key is, all stays as
+  -- it was
   pub in_place : are_on_one_slot (concat s.was.own) ≡ true → while_made s.now ≡ while_made s.was
 
 -- what was done call by call on the nodes, and what is done on one server
@@ -114,9 +123,10 @@ calls_were served = map (λ (s : ServedCall). s.was) served
 abbrev pub calls_now : List ServedCall → List CallTurns
 calls_now served = map (λ (s : ServedCall). s.now) served
 
--- One server is given the operations that count, unsplit, one after another, and in between what others ask for. It may respond so, and
--- it leaves these keys.
-pub record AsOneServerAmongOthers (meaning : Meaning) (keys : Keyspace) (done : ℕ → Bool) (ts : List RepliedCall)
+-- One server is given the operations that count, unsplit, one after another, and in between what others ask
+-- for. It may respond so, and it leaves these keys.
+pub record AsOneServerAmongOthers (meaning : Meaning) (keys : Keyspace) (done : ℕ → Bool)
+    (ts : List RepliedCall)
     (calls : List CallTurns) (last : List Step) (keys' : Keyspace) : Type 0 where
   pub served : List ServedCall
   -- these are all of the calls, as they were
@@ -129,9 +139,12 @@ pub record AsOneServerAmongOthers (meaning : Meaning) (keys : Keyspace) (done : 
 -- over honest nodes a run is as good as one server, whatever others do in between
 abbrev pub AnswersAmongOthers : Type 0
 AnswersAmongOthers =
-    (strategy : Option Strategy) (client : Client) (faults : Address → LinkFault) (ts : List RepliedCall) (meaning : Meaning)
-    (keys keys' : Keyspace) (done : ℕ → Bool) (calls : List CallTurns) (last : List Step) → AreOnSlots ts → IsPlayedFrom strategy client faults ts
-    → HonestAmongOthers meaning keys done ts calls last keys' → AsOneServerAmongOthers meaning keys done ts calls last keys'
+    (strategy : Option Strategy) (client : Client) (faults : Address → LinkFault) (ts : List RepliedCall)
+    (meaning : Meaning)
+    (keys keys' : Keyspace) (done : ℕ → Bool) (calls : List CallTurns) (last : List Step) → AreOnSlots ts
+    → IsPlayedFrom strategy client faults ts
+    → HonestAmongOthers meaning keys done ts calls last keys'
+    → AsOneServerAmongOthers meaning keys done ts calls last keys'
 
 -- ---- where nothing is moved
 
@@ -146,12 +159,15 @@ is_unsplit_task (read_of options streams) = are_of_one_slot (stream_keys streams
 abbrev pub is_unsplit : Call → Bool
 is_unsplit call = is_unsplit_task (task_of call)
 
--- Where no command is split and no call is a pipeline, all that is done stays in its order, also what others do: one server may do just
--- what the nodes did.
+-- Where no command is split and no call is a pipeline, all that is done stays in its order, also what others
+-- do: one server may do just what the nodes did.
 abbrev pub UnsplitRunsStay : Type 0
 UnsplitRunsStay =
-    (strategy : Option Strategy) (client : Client) (faults : Address → LinkFault) (ts : List RepliedCall) (meaning : Meaning)
+    (strategy : Option Strategy) (client : Client) (faults : Address → LinkFault) (ts : List RepliedCall)
+    (meaning : Meaning)
     (keys keys' : Keyspace) (done : ℕ → Bool) (calls : List CallTurns) (last : List Step)
-    → AllByRecursion (λ (t : RepliedCall). is_unsplit t.call ≡ true) ts → IsPlayedFrom strategy client faults ts
-    → HonestAmongOthers meaning keys done ts calls last keys' → (one : AsOneServerAmongOthers meaning keys done ts calls last keys')
+    → AllByRecursion (λ (t : RepliedCall). is_unsplit t.call ≡ true) ts
+    → IsPlayedFrom strategy client faults ts
+    → HonestAmongOthers meaning keys done ts calls last keys'
+    → (one : AsOneServerAmongOthers meaning keys done ts calls last keys')
     → run_turns (calls_now one.served) last ≡ run_turns calls last

@@ -1,4 +1,5 @@
--- How many requests calls make, where they are answered, refused, or stopped for want of memory: from what `play` and each call promise.
+-- How many requests calls make, where they are answered, refused, or stopped for want of memory: from what
+-- `play` and each call promise.
 use Rattle.std.specs.Prelude.{◌≤◌, ℕ, Bool, List, [], ◌∷◌, length, Option, Result, Ok, Err, ⊤}
 use Rattle.resp_core.specs.Errors.{Refusal}
 use Rattle.cluster_routing.specs.Address.{Address}
@@ -25,15 +26,19 @@ call_bound client picks call = planned_bound client (task_of call) (plan client 
 
 -- one call, however it ended
 abbrev pub CallsAreBounded : Type 0
-CallsAreBounded = (strategy : Option Strategy) (old new : World) (call : Call) (answer : Result Answer Refusal) → CallMade strategy old new call answer
+CallsAreBounded = (strategy : Option Strategy) (old new : World) (call : Call)
+    (answer : Result Answer Refusal) → CallMade strategy old new call answer
     → length new.log ≤ call_bound (client_of old) new.picked call
 
 -- each call of a run, from the client where the ones before left it
-abbrev pub AreBounded : (strategy : Option Strategy) (old new : World) (ts : List PlayedCall) (events : List Event) → CallsMade strategy old new ts events → Type 0
+abbrev pub AreBounded : (strategy : Option Strategy) (old new : World) (ts : List PlayedCall)
+    (events : List Event) → CallsMade strategy old new ts events → Type 0
 AreBounded strategy old new [] events made = ⊤
-AreBounded strategy old new (t ∷ ts) events made = (length t.log ≤ call_bound (client_of old) t.picks t.call) × AreBounded strategy made.0 new ts made.1 made.4
+AreBounded strategy old new (t ∷ ts) events made = (length t.log ≤ call_bound (client_of old) t.picks t.call)
+    × AreBounded strategy made.0 new ts made.1 made.4
 
 -- the calls that `play` made
 abbrev pub PlaysAreBounded : Type 0
-PlaysAreBounded = (strategy : Option Strategy) (old new : World) (calls : List Call) (before after : List Shown) (all : Bool) (p : Plays strategy old new calls before after all)
+PlaysAreBounded = (strategy : Option Strategy) (old new : World) (calls : List Call)
+    (before after : List Shown) (all : Bool) (p : Plays strategy old new calls before after all)
     → AreBounded strategy old new p.run p.is_run.events p.is_run.calls

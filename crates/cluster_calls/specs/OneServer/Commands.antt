@@ -63,7 +63,8 @@ kept_by args None (x ∷ xs) = args ∷ []
 abbrev pub kept_of : List (List ℕ) → List Exchange → List (List (List ℕ))
 kept_of args counted = kept_by args (split_of args) counted
 
--- of a read in parts the streams of the slots that the counted requests name, and nothing where there are none
+-- of a read in parts the streams of the slots that the counted requests name, and nothing where there are
+-- none
 abbrev pub streams_with : List ℕ → List Stream → List Stream
 streams_with slots streams = filter (λ (s : Stream). among nat_eq (hash_slot s.key) slots) streams
 
@@ -72,12 +73,15 @@ read_with options [] = []
 read_with options (s ∷ streams) = ReadKeys options (s ∷ streams) ∷ []
 
 abbrev pub read_kept : ReadSettings → List Stream → List Exchange → List Operation
-read_kept options streams counted = read_with options (streams_with (map (λ (x : Exchange). read_slot options x.request.args) counted) streams)
+read_kept options streams counted = read_with options
+    (streams_with (map (λ (x : Exchange). read_slot options x.request.args) counted) streams)
 
 -- what counts of a refused call
 abbrev pub task_kept : (ℕ → Bool) → Task → List Exchange → List Operation
-task_kept done (one_command command number order) xs = run_each (kept_of (sent command) (filter (is_counted done) xs))
-task_kept done (pipeline_of entries) xs = run_each (map (λ (x : Exchange). x.request.args) (filter (is_counted done) (in_pipeline_order entries xs)))
+task_kept done (one_command command number order) xs = run_each
+    (kept_of (sent command) (filter (is_counted done) xs))
+task_kept done (pipeline_of entries) xs = run_each
+    (map (λ (x : Exchange). x.request.args) (filter (is_counted done) (in_pipeline_order entries xs)))
 task_kept done (read_of options streams) xs = read_kept options streams (filter (is_counted done) xs)
 task_kept done _ xs = []
 
@@ -94,10 +98,13 @@ counting done call (Err refusal) xs = kept done call xs
 -- the answer is what the responses to the call's operations say
 abbrev pub IsTaskAnswer : Call → Task → Answer → List Response → Type 0
 IsTaskAnswer call (slot_map_of node) answer responses = (answer ≡ Refreshed) × (responses ≡ [])
-IsTaskAnswer call (one_command command number order) answer responses = (tree : Tree) × (responses ≡ Reply tree ∷ []) × (answer_in call tree ≡ Some answer)
-IsTaskAnswer call (pipeline_of entries) answer responses = (trees : List Tree) × (responses ≡ map Reply trees) × (answer ≡ Value (array_of (not_ignored entries trees)))
+IsTaskAnswer call (one_command command number order) answer responses = (tree : Tree)
+    × (responses ≡ Reply tree ∷ []) × (answer_in call tree ≡ Some answer)
+IsTaskAnswer call (pipeline_of entries) answer responses = (trees : List Tree) × (responses ≡ map Reply trees)
+    × (answer ≡ Value (array_of (not_ignored entries trees)))
 IsTaskAnswer call (several_nodes command) answer responses = ⊥
-IsTaskAnswer call (read_of options streams) answer responses = (rows : List Row) × (responses ≡ Rows (Some rows) ∷ []) × (answer ≡ Read rows)
+IsTaskAnswer call (read_of options streams) answer responses = (rows : List Row)
+    × (responses ≡ Rows (Some rows) ∷ []) × (answer ≡ Read rows)
 
 abbrev pub IsAnswerBy : Call → Result Answer Refusal → List Response → Type 0
 IsAnswerBy call (Ok answer) responses = IsTaskAnswer call (task_of call) answer responses

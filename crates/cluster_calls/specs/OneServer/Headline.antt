@@ -39,7 +39,8 @@ pub record RepliedCall : Type 0 where
   pub answer : Result Answer Refusal
   pub log : List Exchange
 
--- each request of the run with its reply: the next one that was taken from its node and not by a request before
+-- each request of the run with its reply: the next one that was taken from its node and not by a request
+-- before
 abbrev pub with_replies_from : (Address → List Tree) → ℕ → List PlayedCall → List RepliedCall
 with_replies_from queues place [] = []
 with_replies_from queues place (t ∷ ts) =
@@ -76,13 +77,15 @@ command_logs ts = concat (map command_log ts)
 abbrev pub all_counting : (ℕ → Bool) → List RepliedCall → List Operation
 all_counting done ts = concat (map (λ (t : RepliedCall). counting done t.call t.answer t.log) ts)
 
--- The answers and the keyspace are those of one server that is given the operations that count, one after another. Of a call that
--- was answered all operations count; of one that was refused those that were done.
-pub record AsOneServer (meaning : Meaning) (keys : Keyspace) (done : ℕ → Bool) (ts : List RepliedCall) (keys' : Keyspace) : Type 0 where
+-- The answers and the keyspace are those of one server that is given the operations that count, one after
+-- another. Of a call that was answered all operations count; of one that was refused those that were done.
+pub record AsOneServer (meaning : Meaning) (keys : Keyspace) (done : ℕ → Bool) (ts : List RepliedCall)
+    (keys' : Keyspace) : Type 0 where
   -- what the server responds, call by call
   pub responses : List (List Response)
   -- each call has as many responses as operations that count
-  pub counts : Pairwise (λ (t : RepliedCall) here. length here ≡ length (counting done t.call t.answer t.log)) ts responses
+  pub counts : Pairwise
+      (λ (t : RepliedCall) here. length here ≡ length (counting done t.call t.answer t.log)) ts responses
   -- given all these operations, the server may respond so, and it leaves these keys
   pub served : OneServer meaning keys (all_counting done ts) (concat responses) keys'
   -- the answer of each call that was not refused is what its responses say
@@ -94,14 +97,18 @@ AreOnSlots ts = AllByRecursion (λ (t : RepliedCall). is_on_slots t.call ≡ tru
 -- over honest servers a run is as good as one server
 abbrev pub AnswersAndKeyspace : Type 0
 AnswersAndKeyspace =
-    (strategy : Option Strategy) (client : Client) (faults : Address → LinkFault) (ts : List RepliedCall) (meaning : Meaning) (keys keys' : Keyspace) (done : ℕ → Bool)
-    → AreOnSlots ts → IsPlayedFrom strategy client faults ts → HonestRun meaning keys done (command_logs ts) keys' → AsOneServer meaning keys done ts keys'
+    (strategy : Option Strategy) (client : Client) (faults : Address → LinkFault) (ts : List RepliedCall)
+    (meaning : Meaning) (keys keys' : Keyspace) (done : ℕ → Bool)
+    → AreOnSlots ts → IsPlayedFrom strategy client faults ts
+    → HonestRun meaning keys done (command_logs ts) keys' → AsOneServer meaning keys done ts keys'
 
 -- each call is refused exactly where and as its kind says
 abbrev pub RefusedByKind : Client → (Address → LinkFault) → List RepliedCall → Type 0
 RefusedByKind client faults [] = ⊤
 RefusedByKind client faults (t ∷ ts) =
-    (refusal_in t.answer ≡ kind client t.picks faults t.call t.log) × RefusedByKind (client_after client t.call t.log) faults ts
+    (refusal_in t.answer ≡ kind client t.picks faults t.call t.log)
+    × RefusedByKind (client_after client t.call t.log) faults ts
 
 abbrev pub Refusals : Type 0
-Refusals = (strategy : Option Strategy) (client : Client) (faults : Address → LinkFault) (ts : List RepliedCall) → IsPlayedFrom strategy client faults ts → RefusedByKind client faults ts
+Refusals = (strategy : Option Strategy) (client : Client) (faults : Address → LinkFault)
+    (ts : List RepliedCall) → IsPlayedFrom strategy client faults ts → RefusedByKind client faults ts

@@ -45,7 +45,8 @@ tree_of_steps (Aggregate Sum) trees = int (pos (sum_by number_in trees))
 tree_of_steps _ trees = okay
 
 -- the step does one tuple of a split command, on the slot of its key
-pub record DoesTuple (policy : ResponsePolicy) (word : List ℕ) (shared : List (List ℕ)) (tuple : Tuple) (x : Step) : Type 0 where
+pub record DoesTuple (policy : ResponsePolicy) (word : List ℕ) (shared : List (List ℕ)) (tuple : Tuple)
+    (x : Step) : Type 0 where
   pub deed : x.deed ≡ PartOf word tuple shared
   pub slot : x.slot ≡ tuple_slot tuple
   pub response : IfReply (IsStepReply policy) x.response
@@ -74,7 +75,8 @@ step_trees steps = map (λ (x : Step). reply_tree x.response) steps
 abbrev pub DoCommand : List (List ℕ) → List Step → Tree → Type 0
 DoCommand args steps tree = MatchOption (split_of args)
     ((x : Step) × (steps ≡ x ∷ []) × IsWholeStep args x tree)
-    (λ s. Pairwise (DoesTuple s.splitting.policy s.word s.shared) s.tuples steps × (tree ≡ tree_of_steps s.splitting.policy (step_trees steps)))
+    (λ s. Pairwise (DoesTuple s.splitting.policy s.word s.shared) s.tuples steps
+    × (tree ≡ tree_of_steps s.splitting.policy (step_trees steps)))
 
 -- ---- reads of streams, each by itself
 
@@ -109,8 +111,10 @@ rows_of_steps (x ∷ xs) = more_rows (rows_told x.response) (rows_of_steps xs)
 
 -- the steps do the operation, and this is the response
 abbrev pub DoOperation : Operation → List Step → Response → Type 0
-DoOperation (RunCommand args) steps response = (tree : Tree) × (response ≡ Reply tree) × DoCommand args steps tree
-DoOperation (ReadKeys options streams) steps response = Pairwise (DoesRead options) streams steps × (response ≡ Rows (rows_of_steps steps))
+DoOperation (RunCommand args) steps response = (tree : Tree) × (response ≡ Reply tree)
+    × DoCommand args steps tree
+DoOperation (ReadKeys options streams) steps response = Pairwise (DoesRead options) streams steps
+    × (response ≡ Rows (rows_of_steps steps))
 
 -- each operation in turn with its steps and its response
 abbrev pub DoAll : Meaning → List Operation → List (List Step) → List Response → Type 0
@@ -118,7 +122,8 @@ DoAll meaning [] [] [] = ⊤
 DoAll meaning (o ∷ os) (s ∷ ss) (r ∷ rs) = (DoOperation o s r × AreAllowed meaning s) × DoAll meaning os ss rs
 DoAll meaning _ _ _ = ⊥
 
--- one server that is given the operations one after another may respond so and go from one keyspace to the other
+-- one server that is given the operations one after another may respond so and go from one keyspace to the
+-- other
 abbrev pub OneServer : Meaning → Keyspace → List Operation → List Response → Keyspace → Type 0
 OneServer meaning keys operations responses keys' =
     (steps : List (List Step)) × DoAll meaning operations steps responses × History keys (concat steps) keys'

@@ -1,4 +1,5 @@
--- One call over honest nodes, from what its own contract says: where others use the keys too, and where no one else does.
+-- One call over honest nodes, from what its own contract says: where others use the keys too, and where no
+-- one else does.
 use Rattle.std.specs.Prelude.{◌≡◌, ◌≢◌, ℕ, Bool, true, List, [], ◌∷◌, Option, Result, Err}
 use Rattle.resp_core.specs.Trees.{Tree}
 use Rattle.resp_core.specs.Errors.{Refusal, by_cause}
@@ -25,22 +26,32 @@ use Rattle.cluster_calls.specs.OneServer.Headline.{PlayedCall, with_replies, com
 abbrev pub run_of_one : World → Call → Result Answer Refusal → List PlayedCall
 run_of_one new call answer = record { call = call; picks = new.picked; answer = answer; log = new.log } ∷ []
 
--- A call that was made, and was not refused for want of memory, is as good as its commands on one server, whatever others do before it, while
--- it is made, and behind it.
+-- A call that was made, and was not refused for want of memory, is as good as its commands on one server,
+-- whatever others do before it, while it is made, and behind it.
 abbrev pub OneCallAmongOthers : Type 0
-OneCallAmongOthers = (strategy : Option Strategy) (old new : World) (call : Call) (answer : Result Answer Refusal)
+OneCallAmongOthers = (strategy : Option Strategy) (old new : World) (call : Call)
+    (answer : Result Answer Refusal)
     (made : CallMade strategy old new call answer) → answer ≢ Err (by_cause Memory) → is_on_slots call ≡ true
     → (meaning : Meaning) (keys keys' : Keyspace) (done : ℕ → Bool) (turns : CallTurns) (last : List Step)
-    → HonestAmongOthers meaning keys done (with_replies (taken_of made.happened.events) (run_of_one new call answer)) (turns ∷ []) last keys'
-    → AsOneServerAmongOthers meaning keys done (with_replies (taken_of made.happened.events) (run_of_one new call answer)) (turns ∷ []) last keys'
+    → HonestAmongOthers meaning keys done
+    (with_replies (taken_of made.happened.events) (run_of_one new call answer)) (turns ∷ []) last keys'
+    → AsOneServerAmongOthers meaning keys done
+    (with_replies (taken_of made.happened.events) (run_of_one new call answer)) (turns ∷ []) last keys'
 
 -- a call that was made, and was not refused for want of memory, is as good as its commands on one server
 abbrev pub OneCallAsOnOneServer : Type 0
-OneCallAsOnOneServer = (strategy : Option Strategy) (old new : World) (call : Call) (answer : Result Answer Refusal) (made : CallMade strategy old new call answer) → answer ≢ Err (by_cause Memory) → is_on_slots call ≡ true
-    → (meaning : Meaning) (keys keys' : Keyspace) (done : ℕ → Bool) → HonestRun meaning keys done (command_logs (with_replies (taken_of made.happened.events) (run_of_one new call answer))) keys'
-    → AsOneServer meaning keys done (with_replies (taken_of made.happened.events) (run_of_one new call answer)) keys'
+OneCallAsOnOneServer = (strategy : Option Strategy) (old new : World) (call : Call)
+    (answer : Result Answer Refusal) (made : CallMade strategy old new call answer)
+    → answer ≢ Err (by_cause Memory) → is_on_slots call ≡ true
+    → (meaning : Meaning) (keys keys' : Keyspace) (done : ℕ → Bool)
+    → HonestRun meaning keys done
+    (command_logs (with_replies (taken_of made.happened.events) (run_of_one new call answer))) keys'
+    → AsOneServer meaning keys done
+    (with_replies (taken_of made.happened.events) (run_of_one new call answer)) keys'
 
 -- the log of a call is determined by its client, its picks and the replies
 abbrev pub RepliesDetermineLogs : Type 0
-RepliesDetermineLogs = (client : Client) (picks : List Address) (call : Call) (queues : Address → List Tree) (place : ℕ) (left right : List Request)
-    → IsLegalCall client picks call (exchanges queues place left) → IsLegalCall client picks call (exchanges queues place right) → left ≡ right
+RepliesDetermineLogs = (client : Client) (picks : List Address) (call : Call) (queues : Address → List Tree)
+    (place : ℕ) (left right : List Request)
+    → IsLegalCall client picks call (exchanges queues place left)
+    → IsLegalCall client picks call (exchanges queues place right) → left ≡ right

@@ -30,7 +30,8 @@ IfReply P (Rows rows) = ⊥
 abbrev pub run_each : List (List (List ℕ)) → List Operation
 run_each commands = map RunCommand commands
 
--- what a request of the task asks for, by its arguments: of a read in parts the streams of its slot, else the command that it is
+-- what a request of the task asks for, by its arguments: of a read in parts the streams of its slot, else the
+-- command that it is
 abbrev pub task_operation : Task → List (List ℕ) → Operation
 task_operation (read_of options streams) args = ReadKeys options (streams_at (read_slot options args) streams)
 task_operation _ args = RunCommand args

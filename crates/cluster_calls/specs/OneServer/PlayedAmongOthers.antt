@@ -12,18 +12,23 @@ use Rattle.cluster_calls.specs.OneServer.Meaning.{Meaning}
 use Rattle.cluster_calls.specs.OneServer.Played.{replied}
 use Rattle.cluster_calls.specs.OneServer.AmongOthers.{CallTurns, HonestAmongOthers, AsOneServerAmongOthers}
 
--- As `HonestCluster`, but others may use the keys: before each call (`before` of its turns), between its requests (`during`), and behind
--- the run (`last`). What they do may be anything, and it is named: `turns` and `last` have all of it, each step where it was done.
-pub record HonestSharedCluster {strategy : Option Strategy} {old new : World} {calls : List Call} {before after : List Shown} {all : Bool}
-    (played : Plays strategy old new calls before after all) (meaning : Meaning) (keys : Keyspace) (done : ℕ → Bool)
+-- As `HonestCluster`, but others may use the keys: before each call (`before` of its turns), between its
+-- requests (`during`), and behind the run (`last`). What they do may be anything, and it is named: `turns`
+-- and `last` have all of it, each step where it was done.
+pub record HonestSharedCluster {strategy : Option Strategy} {old new : World} {calls : List Call}
+    {before after : List Shown} {all : Bool}
+    (played : Plays strategy old new calls before after all) (meaning : Meaning) (keys : Keyspace)
+    (done : ℕ → Bool)
     (turns : List CallTurns) (last : List Step) (keys' : Keyspace) : Type 0 where
   pub had_memory : HadMemory played.run
   pub on_slots : AllByRecursion (λ call. is_on_slots call ≡ true) calls
   pub honest : HonestAmongOthers meaning keys done (replied played) turns last keys'
 
 abbrev pub PlayedAmongOthers : Type 0
-PlayedAmongOthers = (strategy : Option Strategy) (old new : World) (calls : List Call) (before after : List Shown) (all : Bool)
+PlayedAmongOthers = (strategy : Option Strategy) (old new : World) (calls : List Call)
+    (before after : List Shown) (all : Bool)
     → (played : Plays strategy old new calls before after all)
-    → (meaning : Meaning) (keys keys' : Keyspace) (done : ℕ → Bool) (turns : List CallTurns) (last : List Step)
+    → (meaning : Meaning) (keys keys' : Keyspace) (done : ℕ → Bool) (turns : List CallTurns)
+    (last : List Step)
     → HonestSharedCluster played meaning keys done turns last keys'
     → AsOneServerAmongOthers meaning keys done (replied played) turns last keys'

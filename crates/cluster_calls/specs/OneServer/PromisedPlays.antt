@@ -1,4 +1,5 @@
--- Two plays of the same calls from one client whose devices promise to refuse none: they show the same, and send the same.
+-- Two plays of the same calls from one client whose devices promise to refuse none: they show the same, and
+-- send the same.
 use Rattle.std.specs.Prelude.{◌≡◌, ℕ, ◌^◌, ◌<◌, true, List, length, Some, None}
 use Rattle.resp_core.specs.Promise.{refuses_none}
 use Rattle.resp_link.specs.Call.{Seen}
@@ -9,7 +10,8 @@ use Rattle.cluster_calls.specs.Links.Play.{Plays, Shown}
 use Rattle.cluster_calls.specs.Links.Run.{HadMemory}
 use Rattle.cluster_calls.specs.Links.World.{Node, World, link_at}
 
--- Its devices promise to refuse none, and tell their bytes. Fewer than 2^32 are to come, so that reads do not run out.
+-- Its devices promise to refuse none, and tell their bytes. Fewer than 2^32 are to come, so that reads do not
+-- run out.
 pub record IsPromised (link : Seen) : Type 0 where
   pub reads : link.counts.promise ≡ refuses_none
   pub writes : link.write_counts.promise ≡ refuses_none

@@ -27,23 +27,30 @@ PartsHaveTheirOwnSlots = (client : Client) (picks : List Address) (call : Call) 
     → is_in_parts (task_of call) ≡ true → plan client picks call ≡ Ok ds
     → IsDistinct nat_eq (map (λ (d : Dispatch). task_slot (task_of call) d.args) ds)
 
--- Behind a request of a command whose reply is no redirect, or is lost, no other has its arguments again, whether the call is answered
--- or not.
+-- Behind a request of a command whose reply is no redirect, or is lost, no other has its arguments again,
+-- whether the call is answered or not.
 abbrev pub NoneIsSentAgain : Type 0
-NoneIsSentAgain = (client : Client) (picks : List Address) (call : Call) (before after : List Exchange) (x : Exchange)
-    → is_in_parts (task_of call) ≡ true → IsLegalCall client picks call (before ++ x ∷ after) → is_redirected x ≡ false
+NoneIsSentAgain = (client : Client) (picks : List Address) (call : Call) (before after : List Exchange)
+    (x : Exchange)
+    → is_in_parts (task_of call) ≡ true → IsLegalCall client picks call (before ++ x ∷ after)
+    → is_redirected x ≡ false
     → AllByRecursion (λ (y : Exchange). y.request.args ≢ x.request.args) after
 
--- A pipeline sends its commands node by node, each once and as it is, from the first node on: those of all nodes where no link failed,
--- so where it is answered.
+-- A pipeline sends its commands node by node, each once and as it is, from the first node on: those of all
+-- nodes where no link failed, so where it is answered.
 abbrev pub PipelinesSendOnce : Type 0
-PipelinesSendOnce = (client : Client) (picks : List Address) (faults : Address → LinkFault) (call : Call) (entries : List Entry)
+PipelinesSendOnce = (client : Client) (picks : List Address) (faults : Address → LinkFault) (call : Call)
+    (entries : List Entry)
     (ds : List Dispatch) (xs : List Exchange)
     → task_of call ≡ pipeline_of entries → plan client picks call ≡ Ok ds → IsLegalCall client picks call xs
-    → (asked left : List (List Dispatch)) × (node_groups ds ≡ asked ++ left) × (requests xs ≡ map direct (concat asked))
-    × (list_any is_unanswered xs ≡ false → left ≡ []) × (sent_refusal client faults (task_of call) xs ≡ None → left ≡ [])
+    → (asked left : List (List Dispatch)) × (node_groups ds ≡ asked ++ left)
+    × (requests xs ≡ map direct (concat asked))
+    × (list_any is_unanswered xs ≡ false → left ≡ [])
+    × (sent_refusal client faults (task_of call) xs ≡ None → left ≡ [])
 
 -- a refresh sends one request, whatever comes of it, and none to a node without an open link
 abbrev pub RefreshesSendOnce : Type 0
-RefreshesSendOnce = (client : Client) (picks : List Address) (node : Address) (xs : List Exchange) → IsLegalCall client picks (Refresh node) xs
-    → requests xs ≡ (if is_linked client.links node then direct (record { node = node; args = slots_command }) ∷ [] else [])
+RefreshesSendOnce = (client : Client) (picks : List Address) (node : Address) (xs : List Exchange)
+    → IsLegalCall client picks (Refresh node) xs
+    → requests xs ≡ (if is_linked client.links node then direct (record { node = node; args = slots_command })
+    ∷ [] else [])

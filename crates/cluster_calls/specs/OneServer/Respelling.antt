@@ -1,4 +1,5 @@
--- Two runs whose replies to reads of streams are spelled in other shapes: they send the same and answer the same.
+-- Two runs whose replies to reads of streams are spelled in other shapes: they send the same and answer the
+-- same.
 use Rattle.std.specs.Prelude.{◌≡◌, if◌then◌else◌, List, [], ◌∷◌, map, flat_map, Option, Some, None, ⊤}
 use Rattle.resp_core.specs.Trees.{Tree}
 use Rattle.cluster_routing.specs.Address.{Address}
@@ -43,11 +44,15 @@ SayTheSame [] [] [] = ⊤
 SayTheSame (how ∷ hows) (t ∷ ts) (u ∷ us) = SaysTheSame how t u × SayTheSame hows ts us
 SayTheSame _ _ _ = ⊥
 
--- Runs of equal calls and picks on equal clients, each request with its reply, and node by node the replies say the same: they send the
--- same and answer the same.
+-- Runs of equal calls and picks on equal clients, each request with its reply, and node by node the replies
+-- say the same: they send the same and answer the same.
 abbrev pub RespelledRuns : Type 0
-RespelledRuns = (strategy strategy' : Option Strategy) (client : Client) (faults faults' : Address → LinkFault) (taken taken' : Address → List Tree) (ts us : List PlayedCall)
-    → map (λ (t : PlayedCall). t.call) ts ≡ map (λ (t : PlayedCall). t.call) us → map (λ (t : PlayedCall). t.picks) ts ≡ map (λ (t : PlayedCall). t.picks) us
-    → IsPlayedFrom strategy client faults (with_replies taken ts) → IsPlayedFrom strategy' client faults' (with_replies taken' us)
+RespelledRuns = (strategy strategy' : Option Strategy) (client : Client)
+    (faults faults' : Address → LinkFault) (taken taken' : Address → List Tree) (ts us : List PlayedCall)
+    → map (λ (t : PlayedCall). t.call) ts ≡ map (λ (t : PlayedCall). t.call) us
+    → map (λ (t : PlayedCall). t.picks) ts ≡ map (λ (t : PlayedCall). t.picks) us
+    → IsPlayedFrom strategy client faults (with_replies taken ts)
+    → IsPlayedFrom strategy' client faults' (with_replies taken' us)
     → ((node : Address) → SayTheSame (respellings node ts) (replies taken node) (replies taken' node))
-    → (map (λ (t : PlayedCall). t.log) ts ≡ map (λ (t : PlayedCall). t.log) us) × (map (λ (t : PlayedCall). t.answer) ts ≡ map (λ (t : PlayedCall). t.answer) us)
+    → (map (λ (t : PlayedCall). t.log) ts ≡ map (λ (t : PlayedCall). t.log) us)
+    × (map (λ (t : PlayedCall). t.answer) ts ≡ map (λ (t : PlayedCall). t.answer) us)

@@ -24,7 +24,11 @@ commands_of qs = flat_map commands_for qs
 
 -- commands that pack to what went out to a node, all of whose requests got replies, are those of its requests
 abbrev pub NoOtherLists : Type 0
-NoOtherLists = (strategy : Option Strategy) (old new : World) (ts : List PlayedCall) (taken : Address → List Tree) → RunPlayed strategy old new ts taken
-    → (a : Address) (before after : Seen) (out : List ℕ) (others : List (List (List ℕ))) → link_at old.nodes a ≡ Some before → link_at new.nodes a ≡ Some after → has_lost a (log_with_replies taken (whole_log ts)) ≡ false
+NoOtherLists = (strategy : Option Strategy) (old new : World) (ts : List PlayedCall)
+    (taken : Address → List Tree) → RunPlayed strategy old new ts taken
+    → (a : Address) (before after : Seen) (out : List ℕ) (others : List (List (List ℕ)))
+    → link_at old.nodes a ≡ Some before → link_at new.nodes a ≡ Some after
+    → has_lost a (log_with_replies taken (whole_log ts)) ≡ false
     → before.sent ≡ Some out → after.sent ≡ Some (out ++ flat_map packed others)
-    → AllByRecursion Sendable (commands_of (concat (run_calls ts a))) → AllByRecursion Sendable others → others ≡ commands_of (concat (run_calls ts a))
+    → AllByRecursion Sendable (commands_of (concat (run_calls ts a))) → AllByRecursion Sendable others
+    → others ≡ commands_of (concat (run_calls ts a))

@@ -1,5 +1,5 @@
--- A run is a run before any of its calls, and from there on: so calls before and behind one that lacked memory are played as a reader
--- sees them.
+-- A run is a run before any of its calls, and from there on: so calls before and behind one that lacked
+-- memory are played as a reader sees them.
 use Rattle.std.specs.Prelude.{◌≡◌, List, ◌++◌, Option}
 use Rattle.cluster_routing.specs.Choice.{Strategy}
 use Rattle.cluster_calls.specs.Links.Events.{Event, taken_of}
@@ -7,7 +7,8 @@ use Rattle.cluster_calls.specs.Links.Run.{CallsMade, HadMemory, RunPlayed}
 use Rattle.cluster_calls.specs.Links.World.{World}
 use Rattle.cluster_calls.specs.OneServer.Headline.{PlayedCall}
 
-pub record Stretches (strategy : Option Strategy) (old new : World) (ts us : List PlayedCall) (events : List Event) : Type 0 where
+pub record Stretches (strategy : Option Strategy) (old new : World) (ts us : List PlayedCall)
+    (events : List Event) : Type 0 where
   pub mid : World
   pub first : List Event
   pub later : List Event
@@ -18,4 +19,6 @@ pub record Stretches (strategy : Option Strategy) (old new : World) (ts us : Lis
   pub behind_played : HadMemory us → RunPlayed strategy mid new us (taken_of later)
 
 abbrev pub RunsHaveStretches : Type 0
-RunsHaveStretches = (strategy : Option Strategy) (old new : World) (ts us : List PlayedCall) (events : List Event) → CallsMade strategy old new (ts ++ us) events → Stretches strategy old new ts us events
+RunsHaveStretches = (strategy : Option Strategy) (old new : World) (ts us : List PlayedCall)
+    (events : List Event) → CallsMade strategy old new (ts ++ us) events
+    → Stretches strategy old new ts us events

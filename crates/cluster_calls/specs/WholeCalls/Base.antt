@@ -21,7 +21,8 @@ abbrev pub all_at_n1 : SlotEntries
 all_at_n1 = (16383, (0, alone n1)) ∷ []
 
 abbrev pub client : ℕ → SlotEntries → List Address → Client
-client budget entries links = record { settings = record { budget = budget; read_only = [] }; entries = entries; links = links }
+client budget entries links = record
+    { settings = record { budget = budget; read_only = [] }; entries = entries; links = links }
 
 -- slots by halves at two linked nodes, and all slots at n1 with two linked nodes
 abbrev pub on_halves : Client
@@ -35,7 +36,8 @@ a_fault node = io
 
 -- what was taken from n1 and from n2
 abbrev pub taken : List Tree → List Tree → Address → List Tree
-taken first second node = if same_address node n1 then first else (if same_address node n2 then second else [])
+taken first second node = if same_address node n1 then first
+    else (if same_address node n2 then second else [])
 
 -- words as a call and as requests
 abbrev pub query : List (List ℕ) → Call

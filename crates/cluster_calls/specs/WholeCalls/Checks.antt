@@ -28,33 +28,45 @@ use Rattle.cluster_calls.specs.WholeCalls.Pipelines.{entry}
 -- ---- commands
 
 abbrev pub with_gap : Command
-with_gap = record { args = Simple (codes "MGET") ∷ Simple (codes "a") ∷ Simple (codes "b") ∷ Cursor ∷ []; cursor = Some 0; no_response = false }
+with_gap = record {
+  args = Simple (codes "MGET") ∷ Simple (codes "a") ∷ Simple (codes "b") ∷ Cursor ∷ [];
+  cursor = Some 0;
+  no_response = false;
+}
 
 pub a_split_word_takes_no_cursor : plan on_halves [] (Query with_gap 0) ≡ Err (by_cause CursorInSplit)
 unfolding destination rule_of table hash_slot splitting_of digits
 a_split_word_takes_no_cursor = refl
 
-pub a_broken_tuple_is_refused : plan on_halves [] (query (codes "MSET" ∷ codes "a" ∷ [])) ≡ Err (by_cause BrokenTuples)
+pub a_broken_tuple_is_refused : plan on_halves [] (query (codes "MSET" ∷ codes "a" ∷ []))
+    ≡ Err (by_cause BrokenTuples)
 unfolding destination rule_of table hash_slot splitting_of digits
 a_broken_tuple_is_refused = refl
 
-pub a_shared_argument_is_no_tuple : plan on_halves [] (query (codes "JSON.MGET" ∷ codes "x" ∷ [])) ≡ Err (by_cause BrokenTuples)
+pub a_shared_argument_is_no_tuple : plan on_halves [] (query (codes "JSON.MGET" ∷ codes "x" ∷ []))
+    ≡ Err (by_cause BrokenTuples)
 unfolding destination rule_of table hash_slot splitting_of digits
 a_shared_argument_is_no_tuple = refl
 
-pub an_order_has_each_number_once : plan on_halves [] (Ordered (plain_command (codes "DEL" ∷ codes "a" ∷ codes "b" ∷ [])) (0 ∷ 0 ∷ []) 0) ≡ Err (by_cause BadOrder)
+pub an_order_has_each_number_once : plan on_halves []
+    (Ordered (plain_command (codes "DEL" ∷ codes "a" ∷ codes "b" ∷ [])) (0 ∷ 0 ∷ []) 0)
+    ≡ Err (by_cause BadOrder)
 unfolding destination rule_of table hash_slot splitting_of digits
 an_order_has_each_number_once = refl
 
-pub a_whole_command_is_part_0 : plan on_halves [] (Ordered (plain_command (codes "GET" ∷ codes "a" ∷ [])) (0 ∷ []) 0) ≡ Ok (goes_to n2 (codes "GET" ∷ codes "a" ∷ []) ∷ [])
+pub a_whole_command_is_part_0 : plan on_halves []
+    (Ordered (plain_command (codes "GET" ∷ codes "a" ∷ [])) (0 ∷ []) 0)
+    ≡ Ok (goes_to n2 (codes "GET" ∷ codes "a" ∷ []) ∷ [])
 unfolding destination rule_of table hash_slot splitting_of digits
 a_whole_command_is_part_0 = refl
 
-pub a_cursor_names_no_node : plan on_halves [] (query (codes "SCAN" ∷ codes "0" ∷ [])) ≡ Err (by_cause NoRoute)
+pub a_cursor_names_no_node : plan on_halves [] (query (codes "SCAN" ∷ codes "0" ∷ []))
+    ≡ Err (by_cause NoRoute)
 unfolding destination rule_of table hash_slot splitting_of digits
 a_cursor_names_no_node = refl
 
-pub a_slot_may_have_no_node : plan (client 1 [] both) [] (query (codes "GET" ∷ codes "a" ∷ [])) ≡ Err (by_cause NoNode)
+pub a_slot_may_have_no_node : plan (client 1 [] both) [] (query (codes "GET" ∷ codes "a" ∷ []))
+    ≡ Err (by_cause NoNode)
 unfolding destination rule_of table hash_slot splitting_of digits
 a_slot_may_have_no_node = refl
 
@@ -66,18 +78,22 @@ want_of_a_response_comes_first = refl
 
 -- ---- pipelines
 
-pub a_pipeline_takes_keys_alone : plan on_halves [] (Pipeline (entry (codes "GET" ∷ codes "a" ∷ []) ∷ entry (codes "TIME" ∷ []) ∷ [])) ≡ Err (at_position 1)
+pub a_pipeline_takes_keys_alone : plan on_halves []
+    (Pipeline (entry (codes "GET" ∷ codes "a" ∷ []) ∷ entry (codes "TIME" ∷ []) ∷ [])) ≡ Err (at_position 1)
 unfolding destination rule_of table hash_slot splitting_of digits
 a_pipeline_takes_keys_alone = refl
 
 pub its_position_is_shown : position_of (at_position 1) ≡ Some 1
 its_position_is_shown = refl
 
-pub a_pipeline_takes_no_several_slots : plan on_halves [] (Pipeline (entry (codes "DEL" ∷ codes "a" ∷ codes "b" ∷ []) ∷ [])) ≡ Err (at_position 0)
+pub a_pipeline_takes_no_several_slots : plan on_halves []
+    (Pipeline (entry (codes "DEL" ∷ codes "a" ∷ codes "b" ∷ []) ∷ [])) ≡ Err (at_position 0)
 unfolding destination rule_of table hash_slot splitting_of digits
 a_pipeline_takes_no_several_slots = refl
 
-pub a_pipeline_takes_several_keys_of_a_slot : plan on_halves [] (Pipeline (entry (codes "DEL" ∷ codes "a" ∷ codes "{a}x" ∷ []) ∷ [])) ≡ Ok (goes_to n2 (codes "DEL" ∷ codes "a" ∷ codes "{a}x" ∷ []) ∷ [])
+pub a_pipeline_takes_several_keys_of_a_slot : plan on_halves []
+    (Pipeline (entry (codes "DEL" ∷ codes "a" ∷ codes "{a}x" ∷ []) ∷ []))
+    ≡ Ok (goes_to n2 (codes "DEL" ∷ codes "a" ∷ codes "{a}x" ∷ []) ∷ [])
 unfolding destination rule_of table hash_slot splitting_of digits
 a_pipeline_takes_several_keys_of_a_slot = refl
 
@@ -99,11 +115,14 @@ pub a_read_wants_a_key : plan on_halves [] (xread [] (in_group (codes "streams")
 unfolding hash_slot
 a_read_wants_a_key = refl
 
-pub a_read_has_one_slot : plan on_halves [] (xread (stream (codes "a") (codes "0") ∷ stream (codes "b") (codes "0") ∷ []) no_options) ≡ Err (by_cause SeveralSlots)
+pub a_read_has_one_slot : plan on_halves []
+    (xread (stream (codes "a") (codes "0") ∷ stream (codes "b") (codes "0") ∷ []) no_options)
+    ≡ Err (by_cause SeveralSlots)
 unfolding hash_slot
 a_read_has_one_slot = refl
 
-pub a_group_has_another_name : plan on_halves [] (xread (stream (codes "a") (codes "0") ∷ []) (in_group (codes "streams"))) ≡ Err (by_cause BadGroupName)
+pub a_group_has_another_name : plan on_halves []
+    (xread (stream (codes "a") (codes "0") ∷ []) (in_group (codes "streams"))) ≡ Err (by_cause BadGroupName)
 unfolding hash_slot
 a_group_has_another_name = refl
 
@@ -111,26 +130,32 @@ abbrev pub streams_read : List (List ℕ)
 streams_read = codes "XREAD" ∷ codes "STREAMS" ∷ codes "STREAMS" ∷ codes "0" ∷ []
 
 -- the slot of `STREAMS` is n2's
-pub a_key_may_be_the_word : plan on_halves [] (xread (stream (codes "STREAMS") (codes "0") ∷ []) no_options) ≡ Ok (goes_to n2 streams_read ∷ [])
+pub a_key_may_be_the_word : plan on_halves [] (xread (stream (codes "STREAMS") (codes "0") ∷ []) no_options)
+    ≡ Ok (goes_to n2 streams_read ∷ [])
 unfolding destination rule_of table hash_slot splitting_of digits
 a_key_may_be_the_word = refl
 
-pub a_key_that_is_the_word_is_sent : bytes_of (plain n2 streams_read ∷ []) ≡ codes "*4\r\n$5\r\nXREAD\r\n$7\r\nSTREAMS\r\n$7\r\nSTREAMS\r\n$1\r\n0\r\n"
+pub a_key_that_is_the_word_is_sent : bytes_of (plain n2 streams_read ∷ [])
+    ≡ codes "*4\r\n$5\r\nXREAD\r\n$7\r\nSTREAMS\r\n$7\r\nSTREAMS\r\n$1\r\n0\r\n"
 unfolding digits
 a_key_that_is_the_word_is_sent = refl
 
 abbrev pub ids_alone : ClaimSettings
 ids_alone = record { idle = None; time = None; retry = None; force = false; justid = true; lastid = None }
 
-pub a_claim_wants_entries : plan on_halves [] (OnStreams (Xclaim (record { key = codes "a"; group = codes "g"; consumer = codes "c"; min_idle = 0 }) [] ids_alone)) ≡ Err (by_cause ClaimsIdsAlone)
+pub a_claim_wants_entries : plan on_halves []
+    (OnStreams (Xclaim (record { key = codes "a"; group = codes "g"; consumer = codes "c"; min_idle = 0 })
+    [] ids_alone)) ≡ Err (by_cause ClaimsIdsAlone)
 a_claim_wants_entries = refl
 
 -- a reply of another shape leaves the call refused, and a number is the count
 abbrev pub xtrim : Call
-xtrim = OnStreams (Xtrim (codes "a") (record { trim = record { mode = Exact; threshold = max_entries 10; limit = None }; policy = None }))
+xtrim = OnStreams (Xtrim (codes "a")
+    (record { trim = record { mode = Exact; threshold = max_entries 10; limit = None }; policy = None }))
 
 abbrev pub xtrim_log : Tree → List Exchange
-xtrim_log reply = log_over [] (reply ∷ []) (plain n2 (codes "XTRIM" ∷ codes "a" ∷ codes "MAXLEN" ∷ codes "=" ∷ codes "10" ∷ []) ∷ [])
+xtrim_log reply = log_over [] (reply ∷ [])
+    (plain n2 (codes "XTRIM" ∷ codes "a" ∷ codes "MAXLEN" ∷ codes "=" ∷ codes "10" ∷ []) ∷ [])
 
 pub xtrim_is_legal : IsLegalCall on_halves [] xtrim (xtrim_log (int (pos 2)))
 unfolding destination rule_of table hash_slot splitting_of digits first_error

@@ -16,10 +16,12 @@ use Rattle.cluster_calls.specs.WholeCalls.MixedPlay.{n1_0, n1_4, n2_0, n2_3, at_
 
 -- ---- the mixed run's client before it, with an open link to n1, and behind it, with a closed one
 
-pub a_closed_link_is_no_part_of_a_client : client_of at_last ≡ client_of (with_nodes at_last (record { address = n2; link = n2_3 } ∷ []))
+pub a_closed_link_is_no_part_of_a_client : client_of at_last
+    ≡ client_of (with_nodes at_last (record { address = n2; link = n2_3 } ∷ []))
 a_closed_link_is_no_part_of_a_client = refl
 
-pub an_open_link_is : client_of at_first ≡ client_of (with_nodes at_first (record { address = n2; link = n2_0 } ∷ [])) → ⊥
+pub an_open_link_is : client_of at_first
+    ≡ client_of (with_nodes at_first (record { address = n2; link = n2_0 } ∷ [])) → ⊥
 an_open_link_is e = false≢true (ap (λ (c : Client). length c.links == 1) e)
 
 -- an open link behind a closed one of the same address is hidden by it
@@ -27,16 +29,20 @@ abbrev pub n1_twice : List Node
 n1_twice = record { address = n1; link = n1_4 } ∷ record { address = n1; link = n1_0 } ∷ []
 
 pub a_closed_link_hides_another_of_its_address :
-    client_of (with_nodes at_first n1_twice) ≡ client_of (with_nodes at_first (record { address = n1; link = n1_0 } ∷ [])) → ⊥
+    client_of (with_nodes at_first n1_twice)
+    ≡ client_of (with_nodes at_first (record { address = n1; link = n1_0 } ∷ [])) → ⊥
 a_closed_link_hides_another_of_its_address e = false≢true (ap (λ (c : Client). length c.links == 1) e)
 
 -- ---- what is made between some nodes is made between the same, and not without them
 
-pub a_call_is_made_where_it_is_made : (strategy : Option Strategy) (old new : World) (call : Call) (answer : Result Answer Refusal)
-    (made : CallMade strategy old new call answer) → IsAlsoMade strategy old new call answer made old.nodes new.nodes
+pub a_call_is_made_where_it_is_made : (strategy : Option Strategy) (old new : World) (call : Call)
+    (answer : Result Answer Refusal)
+    (made : CallMade strategy old new call answer)
+    → IsAlsoMade strategy old new call answer made old.nodes new.nodes
 a_call_is_made_where_it_is_made strategy old new call answer made = (made, refl)
 
-pub without_nodes_no_link_call_is_made : (strategy : Option Strategy) (old new : World) (call : Call) (answer : Result Answer Refusal)
+pub without_nodes_no_link_call_is_made : (strategy : Option Strategy) (old new : World) (call : Call)
+    (answer : Result Answer Refusal)
     (made : CallMade strategy old new call answer) (nodes : List Node) (x : Event) (xs : List Event)
     → made.happened.events ≡ x ∷ xs → IsAlsoMade strategy old new call answer made [] nodes → ⊥
 without_nodes_no_link_call_is_made strategy old new call answer made nodes x xs some also =

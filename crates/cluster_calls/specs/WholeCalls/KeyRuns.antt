@@ -1,4 +1,5 @@
--- Small runs of calls on two keys, over nodes that are honest: each is as on one server. `WrongServers` has the same runs gone wrong.
+-- Small runs of calls on two keys, over nodes that are honest: each is as on one server. `WrongServers` has
+-- the same runs gone wrong.
 use Rattle.std.specs.Prelude.{◌≡◌, ℕ, Bool, true, false, cond, ◌==◌, List, [], ◌∷◌, None, Result, Ok, codes, refl}
 use Rattle.std.proofs.Common.{ap, sym, ◌∙◌, eqb-true, lit<}
 use Rattle.resp_core.specs.Trees.{Tree, okay}
@@ -38,7 +39,8 @@ abbrev pub slot_b : ℕ
 slot_b = 3300
 
 abbrev pub does : Deed → ℕ → Tree → List ℕ → List ℕ → Step
-does deed slot tree before after = record { deed = deed; slot = slot; response = Reply tree; before = before; after = after }
+does deed slot tree before after = record
+    { deed = deed; slot = slot; response = Reply tree; before = before; after = after }
 
 abbrev pub sets_a : Step
 sets_a = does (Whole set_a) slot_a okay [] (codes "1")
@@ -98,15 +100,27 @@ three_are_played = (refl, (refl, refl), refl, (refl, (refl, refl), refl, (refl, 
 
 pub set_a_done : DoOperation (RunCommand set_a) (sets_a ∷ []) (Reply okay)
 unfolding destination rule_of table hash_slot splitting_of first_error
-set_a_done = (okay, refl, (sets_a, refl, record { deed = refl; slot = refl; response = refl; no_error = refl }))
+set_a_done = (
+  okay,
+  refl,
+  (sets_a, refl, record { deed = refl; slot = refl; response = refl; no_error = refl }),
+)
 
 pub get_a_done : DoOperation (RunCommand get_a) (gets_a ∷ []) (Reply (text (codes "1")))
 unfolding destination rule_of table hash_slot splitting_of first_error
-get_a_done = (text (codes "1"), refl, (gets_a, refl, record { deed = refl; slot = refl; response = refl; no_error = refl }))
+get_a_done = (
+  text (codes "1"),
+  refl,
+  (gets_a, refl, record { deed = refl; slot = refl; response = refl; no_error = refl }),
+)
 
 pub get_b_done : DoOperation (RunCommand get_b) (gets_b ∷ []) (Reply (text (codes "2")))
 unfolding destination rule_of table hash_slot splitting_of first_error
-get_b_done = (text (codes "2"), refl, (gets_b, refl, record { deed = refl; slot = refl; response = refl; no_error = refl }))
+get_b_done = (
+  text (codes "2"),
+  refl,
+  (gets_b, refl, record { deed = refl; slot = refl; response = refl; no_error = refl }),
+)
 
 pub sets_a_allowed : AreAllowed meaning (sets_a ∷ [])
 sets_a_allowed = ((0, lit< tt, refl), tt)
@@ -122,7 +136,17 @@ abbrev pub three_steps : List (List Step)
 three_steps = (sets_a ∷ []) ∷ (gets_a ∷ []) ∷ (gets_b ∷ []) ∷ []
 
 pub three_steps_lead : History only_b (concat three_steps) a_and_b
-three_steps_lead = (refl, (refl, (refl, λ slot. put_again (with_cell a_and_b slot_a (codes "1")) slot_b slot ∙ put_again a_and_b slot_a slot)))
+three_steps_lead = (
+  refl,
+  (
+    refl,
+    (
+      refl,
+      λ slot. put_again
+          (with_cell a_and_b slot_a (codes "1")) slot_b slot ∙ put_again a_and_b slot_a slot,
+    ),
+  ),
+)
 
 pub three_are_honest : HonestRun meaning only_b none_done (command_logs three_replied) a_and_b
 unfolding first_error
@@ -131,8 +155,21 @@ three_are_honest = (
   (
     record { response = Reply okay; reply = refl; done = set_a_done; allowed = sets_a_allowed },
     (
-      record { response = Reply (text (codes "1")); reply = refl; done = get_a_done; allowed = gets_a_allowed },
-      (record { response = Reply (text (codes "2")); reply = refl; done = get_b_done; allowed = gets_b_allowed }, tt),
+      record {
+        response = Reply (text (codes "1"));
+        reply = refl;
+        done = get_a_done;
+        allowed = gets_a_allowed;
+      },
+      (
+        record {
+          response = Reply (text (codes "2"));
+          reply = refl;
+          done = get_b_done;
+          allowed = gets_b_allowed;
+        },
+        tt,
+      ),
     ),
   ),
   three_steps_lead,
@@ -142,6 +179,10 @@ pub three_are_as_on_one_server : AsOneServer meaning only_b none_done three_repl
 three_are_as_on_one_server = record {
   responses = (Reply okay ∷ []) ∷ (Reply (text (codes "1")) ∷ []) ∷ (Reply (text (codes "2")) ∷ []) ∷ [];
   counts = (refl, (refl, (refl, tt)));
-  served = (three_steps, ((set_a_done, sets_a_allowed), ((get_a_done, gets_a_allowed), ((get_b_done, gets_b_allowed), tt))), three_steps_lead);
+  served = (
+    three_steps,
+    ((set_a_done, sets_a_allowed), ((get_a_done, gets_a_allowed), ((get_b_done, gets_b_allowed), tt))),
+    three_steps_lead,
+  );
   answers = ((okay, refl, refl), ((text (codes "1"), refl, refl), ((text (codes "2"), refl, refl), tt)));
 }

@@ -1,4 +1,5 @@
--- The mixed run, played: the links of its two nodes from the first byte to the last, its link calls, and the client before and behind.
+-- The mixed run, played: the links of its two nodes from the first byte to the last, its link calls, and the
+-- client before and behind.
 use Rattle.std.specs.Prelude.{◌≡◌, ℕ, Bool, true, false, List, [], ◌∷◌, map, None, Some, codes, refl}
 use Rattle.std.specs.Fmt.{digits}
 use Rattle.std.proofs.Common.{sym}
@@ -29,7 +30,8 @@ to_n1 = plain n1 get_a ∷ plain n1 (del (codes "b" ∷ [])) ∷ plain n1 get_b 
 abbrev pub to_n2 : List Request
 to_n2 = plain n2 get_a ∷ plain n2 (del (codes "a" ∷ [])) ∷ plain n2 set_a ∷ plain n2 get_a ∷ []
 
-pub n1_gets : bytes_of to_n1 ≡ codes "*2\r\n$3\r\nGET\r\n$1\r\na\r\n*2\r\n$3\r\nDEL\r\n$1\r\nb\r\n*2\r\n$3\r\nGET\r\n$1\r\nb\r\n*2\r\n$3\r\nGET\r\n$1\r\nb\r\n"
+pub n1_gets : bytes_of to_n1
+    ≡ codes "*2\r\n$3\r\nGET\r\n$1\r\na\r\n*2\r\n$3\r\nDEL\r\n$1\r\nb\r\n*2\r\n$3\r\nGET\r\n$1\r\nb\r\n*2\r\n$3\r\nGET\r\n$1\r\nb\r\n"
 unfolding digits
 n1_gets = refl
 
@@ -125,15 +127,18 @@ at_last = world n1_4 n2_3 true
 -- ---- link calls
 
 abbrev pub replies_to : Address → List Request → List Tree → Event
-replies_to node requests trees = record { node = node; requests = requests; taken = trees; ending = answers trees }
+replies_to node requests trees = record
+    { node = node; requests = requests; taken = trees; ending = answers trees }
 
 -- GET a to n2, which names n1
 abbrev pub by_moved : List Event
-by_moved = replies_to n2 (plain n2 get_a ∷ []) (server_error moved_to_n1 ∷ []) ∷ replies_to n1 (plain n1 get_a ∷ []) (text (codes "1") ∷ []) ∷ []
+by_moved = replies_to n2 (plain n2 get_a ∷ []) (server_error moved_to_n1 ∷ [])
+    ∷ replies_to n1 (plain n1 get_a ∷ []) (text (codes "1") ∷ []) ∷ []
 
 -- DEL a b, of which n1 refuses its part
 abbrev pub by_parts : List Event
-by_parts = replies_to n2 (plain n2 (del (codes "a" ∷ [])) ∷ []) (one ∷ []) ∷ replies_to n1 (plain n1 (del (codes "b" ∷ [])) ∷ []) (try_again ∷ []) ∷ []
+by_parts = replies_to n2 (plain n2 (del (codes "a" ∷ [])) ∷ []) (one ∷ [])
+    ∷ replies_to n1 (plain n1 (del (codes "b" ∷ [])) ∷ []) (try_again ∷ []) ∷ []
 
 -- the pipeline, in one go to each node
 abbrev pub by_nodes : List Event
@@ -147,18 +152,25 @@ by_none = record { node = n1; requests = plain n1 get_b ∷ []; taken = []; endi
 
 -- ---- the statement
 
--- The mixed run is all that was played, from `at_first` to `at_last`; the cluster is honest over it; and it is as on one server.
+-- The mixed run is all that was played, from `at_first` to `at_last`; the cluster is honest over it; and it
+-- is as on one server.
 abbrev pub FourArePlayedWhole : Type 0
 FourArePlayedWhole =
-    (played : Plays None at_first at_last (map (λ (t : PlayedCall). t.call) four_calls) [] (map shown_of four_calls) true)
-    × (played.run ≡ four_calls) × HonestCluster played may a_and_b none_done behind × AsOneServer may a_and_b none_done (replied played) behind
+    (played : Plays None at_first at_last (map (λ (t : PlayedCall). t.call) four_calls) []
+    (map shown_of four_calls) true)
+    × (played.run ≡ four_calls) × HonestCluster played may a_and_b none_done behind
+    × AsOneServer may a_and_b none_done (replied played) behind
 
 -- ---- what the links may not do: answer behind their end, and stay open behind a lost reply
 
-pub an_ended_link_answers_nothing : (new : Seen) (bytes : List ℕ) (count : ℕ) (taken replies : List Tree) → AnswersFrom n1_4 new bytes count taken replies → ⊥
+pub an_ended_link_answers_nothing : (new : Seen) (bytes : List ℕ) (count : ℕ) (taken replies : List Tree)
+    → AnswersFrom n1_4 new bytes count taken replies → ⊥
 an_ended_link_answers_nothing new bytes count taken replies h = false≢true h.contract.was_open
 
-pub a_lost_reply_closes_the_link : (sent left bytes : List ℕ) (reads count : ℕ) (taken : List Tree) (refusal : Refusal)
+pub a_lost_reply_closes_the_link : (sent left bytes : List ℕ) (reads count : ℕ) (taken : List Tree)
+    (refusal : Refusal)
     → FailsFrom n1_3 (link sent left reads) bytes count taken refusal → ⊥
-a_lost_reply_closes_the_link sent left bytes reads count taken refusal (in_sending contract is_io none_taken) = false≢true (sym contract.closed)
-a_lost_reply_closes_the_link sent left bytes reads count taken refusal (in_receiving contract values) = false≢true (sym contract.closed)
+a_lost_reply_closes_the_link sent left bytes reads count taken refusal
+    (in_sending contract is_io none_taken) = false≢true (sym contract.closed)
+a_lost_reply_closes_the_link sent left bytes reads count taken refusal (in_receiving contract values) =
+    false≢true (sym contract.closed)

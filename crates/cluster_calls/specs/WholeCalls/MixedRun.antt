@@ -1,5 +1,6 @@
--- One run with a redirect, a split command of which a part is refused, a pipeline over two nodes, and a request whose reply is lost:
--- it is played legally, all of its calls are on slots, the nodes are honest, and it is as on one server.
+-- One run with a redirect, a split command of which a part is refused, a pipeline over two nodes, and a
+-- request whose reply is lost: it is played legally, all of its calls are on slots, the nodes are honest, and
+-- it is as on one server.
 use Rattle.std.specs.Prelude.{◌==◌, ℕ, List, [], ◌∷◌, None, Ok, Err, codes, refl}
 use Rattle.std.specs.Fmt.{digits}
 use Rattle.std.specs.Str.{is_utf8, chars}
@@ -39,11 +40,13 @@ may = sets_a ∷ gets_a ∷ gets_b ∷ dels_a ∷ []
 abbrev pub try_again : Tree
 try_again = error (codes "TRYAGAIN") (codes "x")
 
--- GET a (MOVED to n1), DEL a b (the part with b refused), the pipeline SET a 1, GET b, GET a, and GET b without a reply
+-- GET a (MOVED to n1), DEL a b (the part with b refused), the pipeline SET a 1, GET b, GET a, and GET b
+-- without a reply
 abbrev pub four_calls : List PlayedCall
 four_calls =
     answered get_a (text (codes "1")) (plain n2 get_a ∷ plain n1 get_a ∷ [])
-    ∷ played (del (codes "a" ∷ codes "b" ∷ [])) (Err (by_server (error_text (codes "TRYAGAIN") (codes "x")))) (plain n2 (del (codes "a" ∷ [])) ∷ plain n1 (del (codes "b" ∷ [])) ∷ [])
+    ∷ played (del (codes "a" ∷ codes "b" ∷ [])) (Err (by_server (error_text (codes "TRYAGAIN") (codes "x"))))
+    (plain n2 (del (codes "a" ∷ [])) ∷ plain n1 (del (codes "b" ∷ [])) ∷ [])
     ∷ record {
       call = Pipeline (entry set_a ∷ entry get_b ∷ entry get_a ∷ []);
       picks = [];
@@ -55,7 +58,8 @@ four_calls =
 
 abbrev pub four : List RepliedCall
 four = with_replies
-    (taken (text (codes "1") ∷ try_again ∷ text (codes "2") ∷ []) (server_error moved_to_n1 ∷ one ∷ okay ∷ text (codes "1") ∷ []))
+    (taken (text (codes "1") ∷ try_again ∷ text (codes "2") ∷ [])
+    (server_error moved_to_n1 ∷ one ∷ okay ∷ text (codes "1") ∷ []))
     four_calls
 
 pub four_are_played : IsPlayedFrom None on_halves a_fault four
@@ -92,7 +96,9 @@ abbrev pub four_steps : List (List Step)
 four_steps = [] ∷ (gets_a ∷ []) ∷ (dels_a ∷ []) ∷ [] ∷ (sets_a ∷ []) ∷ (gets_a ∷ []) ∷ (gets_b ∷ []) ∷ [] ∷ []
 
 abbrev pub behind : Keyspace
-behind = with_cell (with_cell (with_cell (with_cell (with_cell a_and_b slot_a (codes "1")) slot_a []) slot_a (codes "1")) slot_a (codes "1")) slot_b (codes "2")
+behind = with_cell (with_cell
+    (with_cell (with_cell (with_cell a_and_b slot_a (codes "1")) slot_a []) slot_a (codes "1")) slot_a
+    (codes "1")) slot_b (codes "2")
 
 pub four_are_honest : HonestRun may a_and_b none_done (command_logs four) behind
 unfolding first_error server_kind
@@ -109,8 +115,21 @@ four_are_honest = (
           (
             record { response = Reply okay; reply = refl; done = set_a_done; allowed = sets_a_may },
             (
-              record { response = Reply (text (codes "1")); reply = refl; done = get_a_done; allowed = gets_a_may },
-              (record { response = Reply (text (codes "2")); reply = refl; done = get_b_done; allowed = gets_b_may }, (refl, tt)),
+              record {
+                response = Reply (text (codes "1"));
+                reply = refl;
+                done = get_a_done;
+                allowed = gets_a_may;
+              },
+              (
+                record {
+                  response = Reply (text (codes "2"));
+                  reply = refl;
+                  done = get_b_done;
+                  allowed = gets_b_may;
+                },
+                (refl, tt),
+              ),
             ),
           ),
         ),
@@ -131,13 +150,43 @@ set_again = with_cell (with_cell (with_cell a_and_b slot_a (codes "1")) slot_a [
 
 -- the order of the pipeline leads to the same keys as the order of the nodes
 pub they_lead : History a_and_b (concat one_by_one) behind
-they_lead = (refl, (refl, (refl, (refl, (refl, λ slot. put_again (with_cell set_again slot_b (codes "2")) slot_a slot ∙ ap (λ c. cond (slot == slot_b) (codes "2") c) (sym (put_again set_again slot_a slot)))))))
+they_lead = (
+  refl,
+  (
+    refl,
+    (
+      refl,
+      (
+        refl,
+        (
+          refl,
+          λ slot. put_again (with_cell set_again slot_b (codes "2")) slot_a slot ∙ ap
+              (λ c. cond (slot == slot_b) (codes "2") c) (sym (put_again set_again slot_a slot)),
+        ),
+      ),
+    ),
+  ),
+)
 
 pub four_are_as_on_one_server : AsOneServer may a_and_b none_done four behind
 unfolding destination rule_of table hash_slot splitting_of digits first_error server_kind
 four_are_as_on_one_server = record {
-  responses = (Reply (text (codes "1")) ∷ []) ∷ (Reply one ∷ []) ∷ (Reply okay ∷ Reply (text (codes "2")) ∷ Reply (text (codes "1")) ∷ []) ∷ [] ∷ [];
+  responses = (Reply (text (codes "1")) ∷ []) ∷ (Reply one ∷ [])
+      ∷ (Reply okay ∷ Reply (text (codes "2")) ∷ Reply (text (codes "1")) ∷ []) ∷ [] ∷ [];
   counts = (refl, (refl, (refl, (refl, tt))));
-  served = (one_by_one, ((get_a_done, gets_a_may), ((del_a_done, dels_a_may), ((set_a_done, sets_a_may), ((get_b_done, gets_b_may), ((get_a_done, gets_a_may), tt))))), they_lead);
-  answers = ((text (codes "1"), refl, refl), (tt, ((okay ∷ text (codes "2") ∷ text (codes "1") ∷ [], refl, refl), (tt, tt))));
+  served = (
+    one_by_one,
+    (
+      (get_a_done, gets_a_may),
+      (
+        (del_a_done, dels_a_may),
+        ((set_a_done, sets_a_may), ((get_b_done, gets_b_may), ((get_a_done, gets_a_may), tt))),
+      ),
+    ),
+    they_lead,
+  );
+  answers = (
+    (text (codes "1"), refl, refl),
+    (tt, ((okay ∷ text (codes "2") ∷ text (codes "1") ∷ [], refl, refl), (tt, tt))),
+  );
 }

@@ -1,4 +1,5 @@
--- A run while another client writes between its calls, and looks behind it: honest, and on one server all stays in its order.
+-- A run while another client writes between its calls, and looks behind it: honest, and on one server all
+-- stays in its order.
 use Rattle.std.specs.Prelude.{◌≡◌, ◌==◌, Bool, true, false, cond, List, [], ◌∷◌, codes, refl}
 use Rattle.std.proofs.Common.{lit<}
 use Rattle.resp_core.specs.Trees.{okay}
@@ -17,7 +18,8 @@ use Rattle.cluster_calls.specs.WholeCalls.Base.{taken, plain, text}
 use Rattle.cluster_calls.specs.WholeCalls.KeyRuns.{set_a, get_a, slot_a, does, sets_a, none_done, answered, set_a_done}
 use Rattle.cluster_calls.specs.WholeCalls.RunsAmongOthers.{nothing}
 
--- SET a 1, then another client sets a to 2, then GET a, answered with 2, and then another client finds that too
+-- SET a 1, then another client sets a to 2, then GET a, answered with 2, and then another client finds that
+-- too
 abbrev pub set_and_get : List RepliedCall
 set_and_get = with_replies (taken [] (okay ∷ text (codes "2") ∷ []))
     (answered set_a okay (plain n2 set_a ∷ []) ∷ answered get_a (text (codes "2")) (plain n2 get_a ∷ []) ∷ [])
@@ -43,7 +45,11 @@ a_is_two = with_cell nothing slot_a (codes "2")
 
 pub get_two_done : DoOperation (RunCommand get_a) (gets_two ∷ []) (Reply (text (codes "2")))
 unfolding destination rule_of table hash_slot splitting_of first_error
-get_two_done = (text (codes "2"), refl, (gets_two, refl, record { deed = refl; slot = refl; response = refl; no_error = refl }))
+get_two_done = (
+  text (codes "2"),
+  refl,
+  (gets_two, refl, record { deed = refl; slot = refl; response = refl; no_error = refl }),
+)
 
 pub set_allowed : AreAllowed set_or_get (sets_a ∷ [])
 set_allowed = ((0, lit< tt, refl), tt)
@@ -51,28 +57,48 @@ set_allowed = ((0, lit< tt, refl), tt)
 pub get_two_allowed : AreAllowed set_or_get (gets_two ∷ [])
 get_two_allowed = ((1, lit< tt, refl), tt)
 
-ends : (b : Bool) → cond b (codes "2") (cond b (codes "2") (cond b (codes "2") (cond b (codes "1") []))) ≡ cond b (codes "2") []
+ends : (b : Bool) → cond b (codes "2") (cond b (codes "2") (cond b (codes "2") (cond b (codes "1") [])))
+    ≡ cond b (codes "2") []
 ends true = refl
 ends false = refl
 
-pub another_may_write_between_calls : HonestAmongOthers set_or_get nothing none_done set_and_get (the_set ∷ the_get ∷ []) (gets_two ∷ []) a_is_two
+pub another_may_write_between_calls : HonestAmongOthers set_or_get nothing none_done set_and_get
+    (the_set ∷ the_get ∷ []) (gets_two ∷ []) a_is_two
 unfolding first_error
 another_may_write_between_calls = record {
   requests = (
     (record { response = Reply okay; reply = refl; done = set_a_done; allowed = set_allowed }, tt),
-    ((record { response = Reply (text (codes "2")); reply = refl; done = get_two_done; allowed = get_two_allowed }, tt), tt),
+    (
+      (
+        record {
+          response = Reply (text (codes "2"));
+          reply = refl;
+          done = get_two_done;
+          allowed = get_two_allowed;
+        },
+        tt,
+      ),
+      tt,
+    ),
   );
   history = (refl, (refl, (refl, (refl, λ slot. ends (slot == slot_a)))));
 }
 
-pub it_writes_between_them_on_one_server : AsOneServerAmongOthers set_or_get nothing none_done set_and_get (the_set ∷ the_get ∷ []) (gets_two ∷ []) a_is_two
+pub it_writes_between_them_on_one_server : AsOneServerAmongOthers set_or_get nothing none_done set_and_get
+    (the_set ∷ the_get ∷ []) (gets_two ∷ []) a_is_two
 unfolding first_error
 it_writes_between_them_on_one_server = record {
   served = record { was = the_set; now = the_set; responses = Reply okay ∷ [] }
       ∷ record { was = the_get; now = the_get; responses = Reply (text (codes "2")) ∷ [] } ∷ [];
   all = refl;
   each = (
-    record { operations = ((set_a_done, set_allowed), tt); answer = (okay, refl, refl); before = refl; same = λ slot. refl; in_place = λ one. refl },
+    record {
+      operations = ((set_a_done, set_allowed), tt);
+      answer = (okay, refl, refl);
+      before = refl;
+      same = λ slot. refl;
+      in_place = λ one. refl;
+    },
     (
       record {
         operations = ((get_two_done, get_two_allowed), tt);

@@ -1,4 +1,5 @@
--- A pipeline over two nodes while another client looks and writes: what the claim says of it, and what no claim can.
+-- A pipeline over two nodes while another client looks and writes: what the claim says of it, and what no
+-- claim can.
 use Rattle.std.specs.Prelude.{◌≡◌, ℕ, ◌==◌, Bool, true, false, cond, List, [], ◌∷◌, ◌++◌, map, Ok, codes, refl}
 use Rattle.std.proofs.Common.{ap, sym, ◌∙◌, eqb-true}
 use Rattle.std.proofs.lemmas.Bool.{false≢true}
@@ -21,8 +22,8 @@ use Rattle.cluster_calls.specs.WholeCalls.Pipelines.{three}
 use Rattle.cluster_calls.specs.WholeCalls.RunsAmongOthers.{nothing, a_is_one, both_put, finds_a}
 use Rattle.cluster_calls.specs.WholeCalls.TurnsOnSlots.{same_on_each}
 
--- SET a 1, GET b, GET a: n2 is sent the first and the last, and then n1 the second. In between another client finds a at 1, and then sets
--- b to 2, which the pipeline finds.
+-- SET a 1, GET b, GET a: n2 is sent the first and the last, and then n1 the second. In between another client
+-- finds a at 1, and then sets b to 2, which the pipeline finds.
 abbrev pub one_pipeline : List RepliedCall
 one_pipeline = with_replies (taken (text (codes "2") ∷ []) (okay ∷ text (codes "1") ∷ []))
     (record {
@@ -37,27 +38,51 @@ sets_b = does (Whole (codes "SET" ∷ codes "b" ∷ codes "2" ∷ [])) slot_b ok
 
 -- as it was: both of a, the other client's look and its write, b
 abbrev pub written_within : CallTurns
-written_within = record { before = []; during = [] ∷ [] ∷ (finds_a ∷ sets_b ∷ []) ∷ []; own = (sets_a ∷ []) ∷ (gets_a ∷ []) ∷ (gets_b ∷ []) ∷ [] }
+written_within = record {
+  before = [];
+  during = [] ∷ [] ∷ (finds_a ∷ sets_b ∷ []) ∷ [];
+  own = (sets_a ∷ []) ∷ (gets_a ∷ []) ∷ (gets_b ∷ []) ∷ [];
+}
 
 -- on one server: SET a, then b is set, then GET b and GET a, and then a is found
 abbrev pub written_between : CallTurns
-written_between = record { before = []; during = [] ∷ (sets_b ∷ []) ∷ [] ∷ (finds_a ∷ []) ∷ []; own = (sets_a ∷ []) ∷ (gets_b ∷ []) ∷ (gets_a ∷ []) ∷ [] }
+written_between = record {
+  before = [];
+  during = [] ∷ (sets_b ∷ []) ∷ [] ∷ (finds_a ∷ []) ∷ [];
+  own = (sets_a ∷ []) ∷ (gets_b ∷ []) ∷ (gets_a ∷ []) ∷ [];
+}
 
 was_ends : (b c : Bool)
-    → cond b (codes "2") (cond b (codes "2") (cond c (codes "1") (cond c (codes "1") (cond c (codes "1") [])))) ≡ cond b (codes "2") (cond c (codes "1") [])
+    → cond b (codes "2")
+    (cond b (codes "2") (cond c (codes "1") (cond c (codes "1") (cond c (codes "1") []))))
+    ≡ cond b (codes "2") (cond c (codes "1") [])
 was_ends true c = refl
 was_ends false true = refl
 was_ends false false = refl
 
-pub another_may_write_within_a_pipeline : HonestAmongOthers meaning nothing none_done one_pipeline (written_within ∷ []) [] both_put
+pub another_may_write_within_a_pipeline : HonestAmongOthers meaning nothing none_done one_pipeline
+    (written_within ∷ []) [] both_put
 unfolding first_error
 another_may_write_within_a_pipeline = record {
   requests = (
     (
       record { response = Reply okay; reply = refl; done = set_a_done; allowed = sets_a_allowed },
       (
-        record { response = Reply (text (codes "1")); reply = refl; done = get_a_done; allowed = gets_a_allowed },
-        (record { response = Reply (text (codes "2")); reply = refl; done = get_b_done; allowed = gets_b_allowed }, tt),
+        record {
+          response = Reply (text (codes "1"));
+          reply = refl;
+          done = get_a_done;
+          allowed = gets_a_allowed;
+        },
+        (
+          record {
+            response = Reply (text (codes "2"));
+            reply = refl;
+            done = get_b_done;
+            allowed = gets_b_allowed;
+          },
+          tt,
+        ),
       ),
     ),
     tt,
@@ -72,11 +97,14 @@ abbrev now : List Turn
 now = Own sets_a ∷ Other sets_b ∷ Own gets_b ∷ Own gets_a ∷ Other finds_a ∷ []
 
 now_ends : (slot : ℕ)
-    → with_cell (with_cell (with_cell (with_cell a_is_one slot_b (codes "2")) slot_b (codes "2")) slot_a (codes "1")) slot_a (codes "1") slot ≡ both_put slot
+    → with_cell (with_cell (with_cell (with_cell a_is_one slot_b (codes "2")) slot_b (codes "2")) slot_a
+    (codes "1")) slot_a (codes "1") slot ≡ both_put slot
 now_ends slot = by (slot == slot_a) refl (slot == slot_b) refl
   where
     by : (c : Bool) → slot == slot_a ≡ c → (b : Bool) → slot == slot_b ≡ b
-        → cond c (codes "1") (cond c (codes "1") (cond b (codes "2") (cond b (codes "2") (cond c (codes "1") [])))) ≡ cond b (codes "2") (cond c (codes "1") [])
+        → cond c (codes "1")
+        (cond c (codes "1") (cond b (codes "2") (cond b (codes "2") (cond c (codes "1") []))))
+        ≡ cond b (codes "2") (cond c (codes "1") [])
     by true e true f =
         let two : slot_a ≡ slot_b = sym (eqb-true slot slot_a e) ∙ eqb-true slot slot_b f in
         absurd (false≢true (sym (ap (λ n. n == slot_a) two)))
@@ -84,14 +112,22 @@ now_ends slot = by (slot == slot_a) refl (slot == slot_b) refl
     by false e true f = refl
     by false e false f = refl
 
-pub it_writes_between_its_commands_on_one_server : AsOneServerAmongOthers meaning nothing none_done one_pipeline (written_within ∷ []) [] both_put
+pub it_writes_between_its_commands_on_one_server : AsOneServerAmongOthers meaning nothing none_done
+    one_pipeline (written_within ∷ []) [] both_put
 unfolding destination rule_of table hash_slot splitting_of first_error
 it_writes_between_its_commands_on_one_server = record {
-  served = record { was = written_within; now = written_between; responses = Reply okay ∷ Reply (text (codes "2")) ∷ Reply (text (codes "1")) ∷ [] } ∷ [];
+  served = record {
+    was = written_within;
+    now = written_between;
+    responses = Reply okay ∷ Reply (text (codes "2")) ∷ Reply (text (codes "1")) ∷ [];
+  } ∷ [];
   all = refl;
   each = (
     record {
-      operations = ((set_a_done, sets_a_allowed), ((get_b_done, gets_b_allowed), ((get_a_done, gets_a_allowed), tt)));
+      operations = (
+        (set_a_done, sets_a_allowed),
+        ((get_b_done, gets_b_allowed), ((get_a_done, gets_a_allowed), tt)),
+      );
       answer = (okay ∷ text (codes "2") ∷ text (codes "1") ∷ [], refl, refl);
       before = refl;
       same = same_on_each (slot_a ∷ slot_b ∷ []) now was refl refl (refl, (refl, tt));
@@ -102,13 +138,16 @@ it_writes_between_its_commands_on_one_server = record {
   history = (refl, (refl, (refl, (refl, (refl, now_ends)))));
 }
 
--- What no claim can say of a pipeline: that others' steps keep their order too. Who finds a at 1 behind GET a and then sets b before GET b
--- has seen the third command done before the second. Wherever these two stand in their order, some slot differs.
+-- What no claim can say of a pipeline: that others' steps keep their order too. Who finds a at 1 behind GET a
+-- and then sets b before GET b has seen the third command done before the second. Wherever these two stand in
+-- their order, some slot differs.
 abbrev pub around_each : List Step → List Step → List Step → List Step → List Turn
 around_each first second third fourth =
-    map Other first ++ (Own sets_a ∷ (map Other second ++ (Own gets_b ∷ (map Other third ++ (Own gets_a ∷ map Other fourth)))))
+    map Other first ++ (Own sets_a
+    ∷ (map Other second ++ (Own gets_b ∷ (map Other third ++ (Own gets_a ∷ map Other fourth)))))
 
-pub no_order_keeps_look_and_write : (first second third fourth : List Step) → first ++ (second ++ (third ++ fourth)) ≡ finds_a ∷ sets_b ∷ []
+pub no_order_keeps_look_and_write : (first second third fourth : List Step)
+    → first ++ (second ++ (third ++ fourth)) ≡ finds_a ∷ sets_b ∷ []
     → ((slot : ℕ) → turns_on slot (around_each first second third fourth) ≡ turns_on slot was) → ⊥
 no_order_keeps_look_and_write (x ∷ first) second third fourth e same =
     let is : x ≡ finds_a = cc in
@@ -119,7 +158,8 @@ no_order_keeps_look_and_write (x ∷ first) second third fourth e same =
 no_order_keeps_look_and_write [] (x ∷ second) third fourth e same =
     let is : x ≡ finds_a = cc in
     let later = map Other second ++ (Own gets_b ∷ (map Other third ++ (Own gets_a ∷ map Other fourth))) in
-    let h : Own sets_a ∷ Other finds_a ∷ turns_on slot_a later ≡ Own sets_a ∷ Own gets_a ∷ Other finds_a ∷ [] =
+    let h : Own sets_a ∷ Other finds_a ∷ turns_on slot_a later ≡ Own sets_a ∷ Own gets_a ∷ Other finds_a
+    ∷ [] =
     ap (λ y. turns_on slot_a (Own sets_a ∷ Other y ∷ later)) (sym is) ∙ same slot_a in
     cc
 no_order_keeps_look_and_write [] [] third fourth e same =

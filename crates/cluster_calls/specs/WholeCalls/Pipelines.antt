@@ -42,7 +42,8 @@ abbrev pub three : Call
 three = Pipeline (entry set_a ∷ entry (get (codes "b")) ∷ entry (get (codes "a")) ∷ [])
 
 abbrev pub three_log : List Tree → List Tree → List Exchange
-three_log first second = log_over first second (plain n2 set_a ∷ plain n2 (get (codes "a")) ∷ plain n1 (get (codes "b")) ∷ [])
+three_log first second = log_over first second
+    (plain n2 set_a ∷ plain n2 (get (codes "a")) ∷ plain n1 (get (codes "b")) ∷ [])
 
 abbrev pub fine : List Exchange
 fine = three_log (nil ∷ []) (okay ∷ text (codes "1") ∷ [])
@@ -51,7 +52,8 @@ pub nodes_are_asked_in_order_of_use : IsLegalCall on_halves [] three fine
 unfolding destination rule_of table hash_slot splitting_of digits
 nodes_are_asked_in_order_of_use = (refl, (refl, refl))
 
-pub answers_stand_at_their_positions : answer_on on_halves three fine ≡ Ok (Value (array_of (okay ∷ nil ∷ text (codes "1") ∷ [])))
+pub answers_stand_at_their_positions : answer_on on_halves three fine
+    ≡ Ok (Value (array_of (okay ∷ nil ∷ text (codes "1") ∷ [])))
 unfolding destination rule_of table hash_slot splitting_of digits first_error
 answers_stand_at_their_positions = refl
 
@@ -63,11 +65,13 @@ three_ignoring = Pipeline (entry set_a ∷ ignored_entry (get (codes "b")) ∷ e
 abbrev pub erring : List Exchange
 erring = three_log (error (codes "ERR") (codes "x") ∷ []) (okay ∷ server_error moved_to_n1 ∷ [])
 
-pub all_errors_refuse : kind on_halves [] a_fault three_ignoring erring ≡ Some (by_servers (1, error_text (codes "ERR") (codes "x")) ((2, moved_to_n1) ∷ []))
+pub all_errors_refuse : kind on_halves [] a_fault three_ignoring erring
+    ≡ Some (by_servers (1, error_text (codes "ERR") (codes "x")) ((2, moved_to_n1) ∷ []))
 unfolding destination rule_of table hash_slot splitting_of digits first_error
 all_errors_refuse = refl
 
-pub the_lowest_position_gives_the_kind : kind_of (by_servers (1, error_text (codes "ERR") (codes "x")) ((2, moved_to_n1) ∷ [])) ≡ Server ResponseError
+pub the_lowest_position_gives_the_kind : kind_of
+    (by_servers (1, error_text (codes "ERR") (codes "x")) ((2, moved_to_n1) ∷ [])) ≡ Server ResponseError
 unfolding server_kind
 the_lowest_position_gives_the_kind = refl
 
@@ -108,12 +112,14 @@ what_was_answered_before_counts = refl
 pub an_empty_pipeline_sends_nothing : IsLegalCall (client 1 [] []) [] (Pipeline []) []
 an_empty_pipeline_sends_nothing = refl
 
-pub an_empty_pipeline_answers_an_empty_array : answer_on (client 1 [] []) (Pipeline []) [] ≡ Ok (Value (array_of []))
+pub an_empty_pipeline_answers_an_empty_array : answer_on (client 1 [] []) (Pipeline []) []
+    ≡ Ok (Value (array_of []))
 an_empty_pipeline_answers_an_empty_array = refl
 
 -- ---- all links are looked at first
 
-pub a_later_link_refuses : plan (client 1 halves (n2 ∷ [])) [] (Pipeline (entry (get (codes "a")) ∷ entry (get (codes "b")) ∷ [])) ≡ Err (by_cause NoLink)
+pub a_later_link_refuses : plan (client 1 halves (n2 ∷ [])) []
+    (Pipeline (entry (get (codes "a")) ∷ entry (get (codes "b")) ∷ [])) ≡ Err (by_cause NoLink)
 unfolding destination rule_of table hash_slot splitting_of digits
 a_later_link_refuses = refl
 
@@ -123,7 +129,8 @@ abbrev pub two : Call
 two = Pipeline (entry (get (codes "a")) ∷ entry (get (codes "a")) ∷ [])
 
 abbrev pub moved_and_ended : List Exchange
-moved_and_ended = log_over [] (server_error moved_to_n1 ∷ []) (plain n2 (get (codes "a")) ∷ plain n2 (get (codes "a")) ∷ [])
+moved_and_ended = log_over [] (server_error moved_to_n1 ∷ [])
+    (plain n2 (get (codes "a")) ∷ plain n2 (get (codes "a")) ∷ [])
 
 pub a_refused_calls_moved_does_not_count : flag_after false two moved_and_ended ≡ false
 unfolding server_kind

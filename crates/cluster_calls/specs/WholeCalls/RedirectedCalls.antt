@@ -35,7 +35,8 @@ get_a = query get
 -- ---- behind ASKING the second reply answers, whatever the first is
 
 abbrev pub asked_log : Tree → List Exchange
-asked_log first = log_over (server_error ask_n2 ∷ []) (first ∷ one ∷ []) (plain n1 get ∷ behind_asking n2 get ∷ [])
+asked_log first = log_over (server_error ask_n2 ∷ []) (first ∷ one ∷ [])
+    (plain n1 get ∷ behind_asking n2 get ∷ [])
 
 pub ask_is_legal : IsLegalCall (on_n1 1) [] get_a (asked_log okay)
 unfolding destination rule_of table hash_slot splitting_of digits first_error is_utf8 chars encode server_kind
@@ -45,7 +46,8 @@ pub ask_answers : answer_on (on_n1 1) get_a (asked_log okay) ≡ Ok (Value one)
 unfolding destination rule_of table hash_slot splitting_of digits first_error is_utf8 chars encode server_kind
 ask_answers = refl
 
-pub an_error_to_asking_is_passed_over : answer_on (on_n1 1) get_a (asked_log (error (codes "ERR") (codes "x"))) ≡ Ok (Value one)
+pub an_error_to_asking_is_passed_over : answer_on (on_n1 1) get_a
+    (asked_log (error (codes "ERR") (codes "x"))) ≡ Ok (Value one)
 unfolding destination rule_of table hash_slot splitting_of digits first_error is_utf8 chars encode server_kind
 an_error_to_asking_is_passed_over = refl
 
@@ -53,7 +55,8 @@ pub ask_wants_no_refresh : flag_after false get_a (asked_log okay) ≡ false
 unfolding server_kind first_error
 ask_wants_no_refresh = refl
 
-pub asking_goes_first : bytes_of (behind_asking n2 get ∷ []) ≡ codes "*1\r\n$6\r\nASKING\r\n*2\r\n$3\r\nGET\r\n$1\r\na\r\n"
+pub asking_goes_first : bytes_of (behind_asking n2 get ∷ [])
+    ≡ codes "*1\r\n$6\r\nASKING\r\n*2\r\n$3\r\nGET\r\n$1\r\na\r\n"
 unfolding digits
 asking_goes_first = refl
 
@@ -69,7 +72,8 @@ pub without_budget_moved_refuses : kind_of_reply 0 (server_error moved_to_n2) �
 unfolding destination rule_of table hash_slot splitting_of digits first_error is_utf8 chars encode server_kind
 without_budget_moved_refuses = refl
 
-pub without_budget_one_request_is_legal : IsLegalCall (on_n1 0) [] get_a (stays_log (server_error moved_to_n2))
+pub without_budget_one_request_is_legal : IsLegalCall (on_n1 0) [] get_a
+    (stays_log (server_error moved_to_n2))
 unfolding destination rule_of table hash_slot splitting_of digits first_error is_utf8 chars encode server_kind
 without_budget_one_request_is_legal = (refl, refl)
 
@@ -77,36 +81,45 @@ pub moved_wants_a_refresh_all_the_same : flag_after false get_a (stays_log (serv
 unfolding server_kind
 moved_wants_a_refresh_all_the_same = refl
 
-pub without_host_moved_refuses : kind_of_reply 1 (error (codes "MOVED") (codes "15495 :7002")) ≡ Some (by_server (error_text (codes "MOVED") (codes "15495 :7002")))
+pub without_host_moved_refuses : kind_of_reply 1 (error (codes "MOVED") (codes "15495 :7002"))
+    ≡ Some (by_server (error_text (codes "MOVED") (codes "15495 :7002")))
 unfolding destination rule_of table hash_slot splitting_of digits first_error is_utf8 chars encode server_kind
 without_host_moved_refuses = refl
 
-pub an_unknown_node_has_no_link : kind_of_reply 1 (error (codes "MOVED") (codes "15495 n9:1")) ≡ Some (by_cause NoLink)
+pub an_unknown_node_has_no_link : kind_of_reply 1 (error (codes "MOVED") (codes "15495 n9:1"))
+    ≡ Some (by_cause NoLink)
 unfolding destination rule_of table hash_slot splitting_of digits first_error is_utf8 chars encode server_kind
 an_unknown_node_has_no_link = refl
 
-pub no_number_refuses : kind_of_reply 1 (error (codes "MOVED") (codes "99999 n2:7002")) ≡ Some (by_server (error_text (codes "MOVED") (codes "99999 n2:7002")))
+pub no_number_refuses : kind_of_reply 1 (error (codes "MOVED") (codes "99999 n2:7002"))
+    ≡ Some (by_server (error_text (codes "MOVED") (codes "99999 n2:7002")))
 unfolding destination rule_of table hash_slot splitting_of digits first_error is_utf8 chars encode server_kind
 no_number_refuses = refl
 
-pub moved_inside_is_an_error : kind on_halves [] a_fault get_a (log_over [] (array_of (server_error moved_to_n1 ∷ []) ∷ []) (plain n2 get ∷ [])) ≡ Some (by_server moved_to_n1)
+pub moved_inside_is_an_error : kind on_halves [] a_fault get_a
+    (log_over [] (array_of (server_error moved_to_n1 ∷ []) ∷ []) (plain n2 get ∷ []))
+    ≡ Some (by_server moved_to_n1)
 unfolding destination rule_of table hash_slot splitting_of digits first_error is_utf8 chars encode server_kind
 moved_inside_is_an_error = refl
 
-pub moved_inside_wants_no_refresh : flag_after false get_a (log_over [] (array_of (server_error moved_to_n1 ∷ []) ∷ []) (plain n2 get ∷ [])) ≡ false
+pub moved_inside_wants_no_refresh : flag_after false get_a
+    (log_over [] (array_of (server_error moved_to_n1 ∷ []) ∷ []) (plain n2 get ∷ [])) ≡ false
 unfolding server_kind first_error
 moved_inside_wants_no_refresh = refl
 
 -- ---- a number that is no slot, with a word behind the address
 
-pub later_words_say_nothing : IsLegalCall (on_n1 1) [] get_a (log_over (error (codes "MOVED") (codes "20000 n2:7002 more") ∷ []) (nil ∷ []) (plain n1 get ∷ plain n2 get ∷ []))
+pub later_words_say_nothing : IsLegalCall (on_n1 1) [] get_a
+    (log_over (error (codes "MOVED") (codes "20000 n2:7002 more") ∷ []) (nil ∷ [])
+    (plain n1 get ∷ plain n2 get ∷ []))
 unfolding destination rule_of table hash_slot splitting_of digits first_error is_utf8 chars encode server_kind
 later_words_say_nothing = (refl, (refl, refl))
 
 -- ---- ASK, then MOVED: the third request is plain again
 
 abbrev pub twice_log : List Exchange
-twice_log = log_over (server_error ask_n2 ∷ one ∷ []) (okay ∷ server_error moved_to_n1 ∷ []) (plain n1 get ∷ behind_asking n2 get ∷ plain n1 get ∷ [])
+twice_log = log_over (server_error ask_n2 ∷ one ∷ []) (okay ∷ server_error moved_to_n1 ∷ [])
+    (plain n1 get ∷ behind_asking n2 get ∷ plain n1 get ∷ [])
 
 pub two_redirects_are_legal : IsLegalCall (on_n1 2) [] get_a twice_log
 unfolding destination rule_of table hash_slot splitting_of digits first_error is_utf8 chars encode server_kind
@@ -155,18 +168,22 @@ pub the_pick_is_left_out_of_no_call : ArePicks (Some (only n4)) with_replicas ge
 unfolding destination rule_of table hash_slot splitting_of digits
 the_pick_is_left_out_of_no_call = λ h. absurd h.0
 
-pub a_write_has_no_pick : ArePicks (Some (only n4)) with_replicas (query (codes "SET" ∷ codes "a" ∷ codes "1" ∷ [])) []
+pub a_write_has_no_pick : ArePicks (Some (only n4)) with_replicas
+    (query (codes "SET" ∷ codes "a" ∷ codes "1" ∷ [])) []
 unfolding destination rule_of table hash_slot splitting_of digits
 a_write_has_no_pick = (tt, refl)
 
 -- n4 sends the request back to n1
 abbrev pub back_log : List Exchange
-back_log = exchanges (replies (λ node. if same_address node n4 then server_error moved_to_n1 ∷ [] else (if same_address node n1 then one ∷ [] else []))) 0 (plain n4 get ∷ plain n1 get ∷ [])
+back_log = exchanges
+    (replies (λ node. if same_address node n4 then server_error moved_to_n1 ∷ []
+    else (if same_address node n1 then one ∷ [] else []))) 0 (plain n4 get ∷ plain n1 get ∷ [])
 
 pub a_replica_may_redirect : IsLegalCall with_replicas (n4 ∷ []) get_a back_log
 unfolding destination rule_of table hash_slot splitting_of digits first_error is_utf8 chars encode server_kind
 a_replica_may_redirect = (refl, (refl, refl))
 
-pub a_redirect_of_a_replica_answers : answer_of with_replicas (n4 ∷ []) a_fault get_a back_log ≡ Ok (Value one)
+pub a_redirect_of_a_replica_answers : answer_of with_replicas (n4 ∷ []) a_fault get_a back_log
+    ≡ Ok (Value one)
 unfolding destination rule_of table hash_slot splitting_of digits first_error is_utf8 chars encode server_kind
 a_redirect_of_a_replica_answers = refl

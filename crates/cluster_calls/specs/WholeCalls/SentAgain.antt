@@ -26,11 +26,13 @@ use Rattle.cluster_calls.specs.WholeCalls.Pipelines.{three}
 
 -- ---- a request that was answered, and one whose reply was lost
 
-pub an_answered_request_is_not_sent_again : IsLegalCall on_halves [] (query get_a) (log_over [] (nil ∷ nil ∷ []) (plain n2 get_a ∷ plain n2 get_a ∷ [])) → ⊥
+pub an_answered_request_is_not_sent_again : IsLegalCall on_halves [] (query get_a)
+    (log_over [] (nil ∷ nil ∷ []) (plain n2 get_a ∷ plain n2 get_a ∷ [])) → ⊥
 unfolding destination rule_of table hash_slot splitting_of digits first_error
 an_answered_request_is_not_sent_again h = let e = h.1 in cc
 
-pub a_lost_request_is_not_sent_again : IsLegalCall on_halves [] (query get_a) (log_over [] [] (plain n2 get_a ∷ plain n2 get_a ∷ [])) → ⊥
+pub a_lost_request_is_not_sent_again : IsLegalCall on_halves [] (query get_a)
+    (log_over [] [] (plain n2 get_a ∷ plain n2 get_a ∷ [])) → ⊥
 unfolding destination rule_of table hash_slot splitting_of digits first_error
 a_lost_request_is_not_sent_again h = let e = h.1 in cc
 
@@ -39,13 +41,15 @@ a_lost_request_is_not_sent_again h = let e = h.1 in cc
 pub a_refresh_asks_once : IsLegalCall on_halves [] (Refresh n1) (log_over [] [] (plain n1 slots_command ∷ []))
 a_refresh_asks_once = refl
 
-pub and_not_again : IsLegalCall on_halves [] (Refresh n1) (log_over (nil ∷ []) [] (plain n1 slots_command ∷ plain n1 slots_command ∷ [])) → ⊥
+pub and_not_again : IsLegalCall on_halves [] (Refresh n1)
+    (log_over (nil ∷ []) [] (plain n1 slots_command ∷ plain n1 slots_command ∷ [])) → ⊥
 and_not_again h = cc
 
 -- ---- pipelines: SET a 1, GET b, GET a, of which the first is sent twice
 
 abbrev pub set_twice : List Exchange
-set_twice = log_over [] (okay ∷ okay ∷ text (codes "1") ∷ []) (plain n2 set_a ∷ plain n2 set_a ∷ plain n2 get_a ∷ [])
+set_twice = log_over [] (okay ∷ okay ∷ text (codes "1") ∷ [])
+    (plain n2 set_a ∷ plain n2 set_a ∷ plain n2 get_a ∷ [])
 
 pub a_pipeline_sends_each_once : IsLegalCall on_halves [] three set_twice → ⊥
 unfolding destination rule_of table hash_slot splitting_of digits first_error
@@ -56,10 +60,12 @@ a_pipeline_sends_each_once h = false≢true (ap (λ qs. list_any (λ (q : Reques
 abbrev pub lost : List Event
 lost = record { node = n2; requests = plain n2 get_a ∷ []; taken = []; ending = fails io } ∷ []
 
-pub a_lost_request_refuses : IsRefusedByKind on_halves lost (played get_a (Err (by_cause Io)) (plain n2 get_a ∷ []))
+pub a_lost_request_refuses : IsRefusedByKind on_halves lost
+    (played get_a (Err (by_cause Io)) (plain n2 get_a ∷ []))
 unfolding destination rule_of table hash_slot splitting_of digits first_error
 a_lost_request_refuses = λ had. refl
 
-pub a_lost_request_does_not_answer : IsRefusedByKind on_halves lost (answered get_a nil (plain n2 get_a ∷ [])) → ⊥
+pub a_lost_request_does_not_answer : IsRefusedByKind on_halves lost (answered get_a nil (plain n2 get_a ∷ []))
+    → ⊥
 unfolding destination rule_of table hash_slot splitting_of digits first_error
 a_lost_request_does_not_answer h = let e = h (λ f. cc) in cc

@@ -50,13 +50,16 @@ abbrev pub size : Call
 size = FanOut (plain_command (word (codes "DBSIZE")))
 
 abbrev pub size_log : List Tree → List Tree → List Exchange
-size_log first second = log_over first second (plain n1 (word (codes "DBSIZE")) ∷ plain n2 (word (codes "DBSIZE")) ∷ [])
+size_log first second = log_over first second
+    (plain n1 (word (codes "DBSIZE")) ∷ plain n2 (word (codes "DBSIZE")) ∷ [])
 
-pub each_primary_is_asked_once : IsLegalCall on_halves [] size (size_log (int (pos 3) ∷ []) (int (pos 4) ∷ []))
+pub each_primary_is_asked_once : IsLegalCall on_halves [] size
+    (size_log (int (pos 3) ∷ []) (int (pos 4) ∷ []))
 unfolding destination rule_of table hash_slot splitting_of digits
 each_primary_is_asked_once = refl
 
-pub sizes_are_added : answer_on on_halves size (size_log (int (pos 3) ∷ []) (int (pos 4) ∷ [])) ≡ Ok (Value (int (pos 7)))
+pub sizes_are_added : answer_on on_halves size (size_log (int (pos 3) ∷ []) (int (pos 4) ∷ []))
+    ≡ Ok (Value (int (pos 7)))
 unfolding destination rule_of table hash_slot splitting_of digits first_error
 sizes_are_added = refl
 
@@ -80,45 +83,56 @@ pub a_query_asks_one_node_alone : plan on_halves [] (query (word (codes "DBSIZE"
 unfolding destination rule_of table hash_slot splitting_of digits
 a_query_asks_one_node_alone = refl
 
-pub a_key_has_no_several_nodes : plan on_halves [] (FanOut (plain_command (codes "GET" ∷ codes "a" ∷ []))) ≡ Err (by_cause NoRoute)
+pub a_key_has_no_several_nodes : plan on_halves [] (FanOut (plain_command (codes "GET" ∷ codes "a" ∷ [])))
+    ≡ Err (by_cause NoRoute)
 unfolding destination rule_of table hash_slot splitting_of digits
 a_key_has_no_several_nodes = refl
 
 -- ---- RANDOMKEY
 
 abbrev pub random_log : List Exchange
-random_log = log_over (nil ∷ []) (text (codes "k") ∷ []) (plain n1 (word (codes "RANDOMKEY")) ∷ plain n2 (word (codes "RANDOMKEY")) ∷ [])
+random_log = log_over (nil ∷ []) (text (codes "k") ∷ [])
+    (plain n1 (word (codes "RANDOMKEY")) ∷ plain n2 (word (codes "RANDOMKEY")) ∷ [])
 
-pub the_first_that_is_not_nil_answers : answer_on on_halves (FanOut (plain_command (word (codes "RANDOMKEY")))) random_log ≡ Ok (Value (text (codes "k")))
+pub the_first_that_is_not_nil_answers : answer_on on_halves
+    (FanOut (plain_command (word (codes "RANDOMKEY")))) random_log ≡ Ok (Value (text (codes "k")))
 unfolding destination rule_of table hash_slot splitting_of digits first_error
 the_first_that_is_not_nil_answers = refl
 
 -- ---- policies
 
-pub an_error_is_passed_over : combine_outcomes OneSucceeded ((n1, Err (by_cause Io)) ∷ (n2, Ok okay) ∷ []) ≡ Ok okay
+pub an_error_is_passed_over : combine_outcomes OneSucceeded ((n1, Err (by_cause Io)) ∷ (n2, Ok okay) ∷ [])
+    ≡ Ok okay
 an_error_is_passed_over = refl
 
-pub the_last_refusal_is_answered : combine_outcomes OneSucceeded ((n1, Err (by_cause Io)) ∷ (n2, Err (by_cause NoLink)) ∷ []) ≡ Err (by_cause NoLink)
+pub the_last_refusal_is_answered : combine_outcomes OneSucceeded
+    ((n1, Err (by_cause Io)) ∷ (n2, Err (by_cause NoLink)) ∷ []) ≡ Err (by_cause NoLink)
 the_last_refusal_is_answered = refl
 
-pub nil_and_a_refusal_refuse : combine_outcomes FirstSucceededNonEmptyOrAllEmpty ((n1, Err (by_cause Io)) ∷ (n2, Ok nil) ∷ []) ≡ Err (by_cause Io)
+pub nil_and_a_refusal_refuse : combine_outcomes FirstSucceededNonEmptyOrAllEmpty
+    ((n1, Err (by_cause Io)) ∷ (n2, Ok nil) ∷ []) ≡ Err (by_cause Io)
 nil_and_a_refusal_refuse = refl
 
-pub the_first_refusal_is_answered : combine_outcomes AllSucceeded ((n1, Err (by_cause Io)) ∷ (n2, Err (by_cause NoLink)) ∷ []) ≡ Err (by_cause Io)
+pub the_first_refusal_is_answered : combine_outcomes AllSucceeded
+    ((n1, Err (by_cause Io)) ∷ (n2, Err (by_cause NoLink)) ∷ []) ≡ Err (by_cause Io)
 the_first_refusal_is_answered = refl
 
 pub each_place_is_one_where_all_are : combine_outcomes (AggregateLogical And)
-    ((n1, Ok (array_of (one ∷ int (pos 0) ∷ []))) ∷ (n2, Ok (array_of (one ∷ one ∷ []))) ∷ []) ≡ Ok (array_of (one ∷ int (pos 0) ∷ []))
+    ((n1, Ok (array_of (one ∷ int (pos 0) ∷ []))) ∷ (n2, Ok (array_of (one ∷ one ∷ []))) ∷ [])
+    ≡ Ok (array_of (one ∷ int (pos 0) ∷ []))
 each_place_is_one_where_all_are = refl
 
 pub counts_are_added_by_key : combine_outcomes CombineMaps
-    ((n1, Ok (array_of (text (codes "b") ∷ one ∷ simple (codes "a") ∷ one ∷ []))) ∷ (n2, Ok (map_tree (pair (text (codes "b")) one no_pairs))) ∷ [])
+    ((n1, Ok (array_of (text (codes "b") ∷ one ∷ simple (codes "a") ∷ one ∷ [])))
+    ∷ (n2, Ok (map_tree (pair (text (codes "b")) one no_pairs))) ∷ [])
     ≡ Ok (map_tree (pair (text (codes "a")) one (pair (text (codes "b")) (int (pos 2)) no_pairs)))
 counts_are_added_by_key = refl
 
-pub replies_stand_by_address : combine_outcomes Special ((n1, Ok okay) ∷ (n2, Ok nil) ∷ []) ≡ Ok (map_tree (pair (text (codes "n1:7001")) okay (pair (text (codes "n2:7002")) nil no_pairs)))
+pub replies_stand_by_address : combine_outcomes Special ((n1, Ok okay) ∷ (n2, Ok nil) ∷ [])
+    ≡ Ok (map_tree (pair (text (codes "n1:7001")) okay (pair (text (codes "n2:7002")) nil no_pairs)))
 unfolding digits
 replies_stand_by_address = refl
 
-pub another_shape_is_bad : combine_outcomes CombineArrays ((n1, Ok (array_of [])) ∷ (n2, Ok okay) ∷ []) ≡ Err bad_reply
+pub another_shape_is_bad : combine_outcomes CombineArrays ((n1, Ok (array_of [])) ∷ (n2, Ok okay) ∷ [])
+    ≡ Err bad_reply
 another_shape_is_bad = refl

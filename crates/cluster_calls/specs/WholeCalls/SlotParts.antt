@@ -32,11 +32,13 @@ pub one_slot_is_one_request : IsLegalCall on_halves [] (query mget_tag) mget_tag
 unfolding destination rule_of table hash_slot splitting_of digits first_error
 one_slot_is_one_request = (refl, refl)
 
-pub one_slot_answers_its_array : answer_on on_halves (query mget_tag) mget_tag_log ≡ Ok (Value (array_of (nil ∷ text (codes "5") ∷ [])))
+pub one_slot_answers_its_array : answer_on on_halves (query mget_tag) mget_tag_log
+    ≡ Ok (Value (array_of (nil ∷ text (codes "5") ∷ [])))
 unfolding destination rule_of table hash_slot splitting_of digits first_error
 one_slot_answers_its_array = refl
 
-pub one_slot_is_combined_too : kind on_halves [] a_fault (query mget_tag) (log_over [] (one ∷ []) (plain n2 mget_tag ∷ [])) ≡ Some bad_reply
+pub one_slot_is_combined_too : kind on_halves [] a_fault (query mget_tag)
+    (log_over [] (one ∷ []) (plain n2 mget_tag ∷ [])) ≡ Some bad_reply
 unfolding destination rule_of table hash_slot splitting_of digits first_error
 one_slot_is_combined_too = refl
 
@@ -48,11 +50,14 @@ json_of key = codes "JSON.MGET" ∷ key ∷ codes "$" ∷ []
 abbrev pub json : Call
 json = query (codes "JSON.MGET" ∷ codes "a" ∷ codes "b" ∷ codes "$" ∷ [])
 
-pub json_plan : plan on_halves [] json ≡ Ok (goes_to n2 (json_of (codes "a")) ∷ goes_to n1 (json_of (codes "b")) ∷ [])
+pub json_plan : plan on_halves [] json
+    ≡ Ok (goes_to n2 (json_of (codes "a")) ∷ goes_to n1 (json_of (codes "b")) ∷ [])
 unfolding destination rule_of table hash_slot splitting_of digits
 json_plan = refl
 
-pub json_answers_in_order : answer_on on_halves json (log_over (item nil ∷ []) (item (text (codes "[1]")) ∷ []) (plain n2 (json_of (codes "a")) ∷ plain n1 (json_of (codes "b")) ∷ []))
+pub json_answers_in_order : answer_on on_halves json
+    (log_over (item nil ∷ []) (item (text (codes "[1]")) ∷ [])
+    (plain n2 (json_of (codes "a")) ∷ plain n1 (json_of (codes "b")) ∷ []))
     ≡ Ok (Value (array_of (text (codes "[1]") ∷ nil ∷ [])))
 unfolding destination rule_of table hash_slot splitting_of digits first_error
 json_answers_in_order = refl

@@ -37,25 +37,32 @@ mget_of key = codes "MGET" ∷ key ∷ []
 abbrev pub item : Tree → Tree
 item t = array_of (t ∷ [])
 
-pub mget_plan : plan on_halves [] mget ≡ Ok (goes_to n2 (mget_of (codes "a")) ∷ goes_to n1 (mget_of (codes "b")) ∷ goes_to n1 (mget_of (codes "c")) ∷ goes_to n2 (mget_of (codes "d")) ∷ [])
+pub mget_plan : plan on_halves [] mget
+    ≡ Ok (goes_to n2 (mget_of (codes "a")) ∷ goes_to n1 (mget_of (codes "b"))
+    ∷ goes_to n1 (mget_of (codes "c")) ∷ goes_to n2 (mget_of (codes "d")) ∷ [])
 unfolding destination rule_of table hash_slot splitting_of digits
 mget_plan = refl
 
 abbrev pub mget_log : List Exchange
-mget_log = log_over (item (text (codes "2")) ∷ item (text (codes "3")) ∷ []) (item (text (codes "1")) ∷ item nil ∷ [])
-    (plain n2 (mget_of (codes "a")) ∷ plain n1 (mget_of (codes "b")) ∷ plain n1 (mget_of (codes "c")) ∷ plain n2 (mget_of (codes "d")) ∷ [])
+mget_log = log_over (item (text (codes "2")) ∷ item (text (codes "3")) ∷ [])
+    (item (text (codes "1")) ∷ item nil ∷ [])
+    (plain n2 (mget_of (codes "a")) ∷ plain n1 (mget_of (codes "b")) ∷ plain n1 (mget_of (codes "c"))
+    ∷ plain n2 (mget_of (codes "d")) ∷ [])
 
 pub mget_is_legal : IsLegalCall on_halves [] mget mget_log
 unfolding destination rule_of table hash_slot splitting_of digits first_error
 mget_is_legal = (refl, (refl, (refl, (refl, refl))))
 
-pub mget_answers_in_order : answer_on on_halves mget mget_log ≡ Ok (Value (array_of (text (codes "1") ∷ text (codes "2") ∷ text (codes "3") ∷ nil ∷ [])))
+pub mget_answers_in_order : answer_on on_halves mget mget_log
+    ≡ Ok (Value (array_of (text (codes "1") ∷ text (codes "2") ∷ text (codes "3") ∷ nil ∷ [])))
 unfolding destination rule_of table hash_slot splitting_of digits first_error
 mget_answers_in_order = refl
 
 -- a push before n2's replies is no reply
-pub a_push_changes_nothing : log_over (item (text (codes "2")) ∷ item (text (codes "3")) ∷ []) (push invalidate no_trees ∷ item (text (codes "1")) ∷ item nil ∷ [])
-    (plain n2 (mget_of (codes "a")) ∷ plain n1 (mget_of (codes "b")) ∷ plain n1 (mget_of (codes "c")) ∷ plain n2 (mget_of (codes "d")) ∷ []) ≡ mget_log
+pub a_push_changes_nothing : log_over (item (text (codes "2")) ∷ item (text (codes "3")) ∷ [])
+    (push invalidate no_trees ∷ item (text (codes "1")) ∷ item nil ∷ [])
+    (plain n2 (mget_of (codes "a")) ∷ plain n1 (mget_of (codes "b")) ∷ plain n1 (mget_of (codes "c"))
+    ∷ plain n2 (mget_of (codes "d")) ∷ []) ≡ mget_log
 a_push_changes_nothing = refl
 
 -- ---- DEL a b a: a part has its tuples with repeats
@@ -67,7 +74,8 @@ abbrev pub del_aba : Call
 del_aba = query (del (codes "a" ∷ codes "b" ∷ codes "a" ∷ []))
 
 abbrev pub del_aba_log : List Exchange
-del_aba_log = log_over (one ∷ []) (one ∷ []) (plain n2 (del (codes "a" ∷ codes "a" ∷ [])) ∷ plain n1 (del (codes "b" ∷ [])) ∷ [])
+del_aba_log = log_over (one ∷ []) (one ∷ [])
+    (plain n2 (del (codes "a" ∷ codes "a" ∷ [])) ∷ plain n1 (del (codes "b" ∷ [])) ∷ [])
 
 pub repeats_stay_in_their_part : IsLegalCall on_halves [] del_aba del_aba_log
 unfolding destination rule_of table hash_slot splitting_of digits first_error
@@ -77,7 +85,8 @@ pub del_aba_sums : answer_on on_halves del_aba del_aba_log ≡ Ok (Value (int (p
 unfolding destination rule_of table hash_slot splitting_of digits first_error
 del_aba_sums = refl
 
-pub del_aba_is_sent : bytes_of (plain n2 (del (codes "a" ∷ codes "a" ∷ [])) ∷ []) ≡ codes "*3\r\n$3\r\nDEL\r\n$1\r\na\r\n$1\r\na\r\n"
+pub del_aba_is_sent : bytes_of (plain n2 (del (codes "a" ∷ codes "a" ∷ [])) ∷ [])
+    ≡ codes "*3\r\n$3\r\nDEL\r\n$1\r\na\r\n$1\r\na\r\n"
 unfolding digits
 del_aba_is_sent = refl
 
@@ -93,7 +102,8 @@ abbrev pub del_b : List (List ℕ)
 del_b = del (codes "b" ∷ [])
 
 abbrev pub del_moved_log : List Exchange
-del_moved_log = log_over (server_error moved_to_n2 ∷ one ∷ []) (one ∷ []) (plain n1 del_a ∷ plain n2 del_a ∷ plain n1 del_b ∷ [])
+del_moved_log = log_over (server_error moved_to_n2 ∷ one ∷ []) (one ∷ [])
+    (plain n1 del_a ∷ plain n2 del_a ∷ plain n1 del_b ∷ [])
 
 pub a_redirect_between_parts_is_legal : IsLegalCall (on_n1 1) [] del_ab del_moved_log
 unfolding destination rule_of table hash_slot splitting_of digits first_error is_utf8 chars encode server_kind
@@ -113,13 +123,15 @@ abbrev pub del_turned : Call
 del_turned = Ordered (plain_command (del (codes "a" ∷ codes "b" ∷ []))) (1 ∷ 0 ∷ []) 0
 
 abbrev pub del_turned_log : List Exchange
-del_turned_log = log_over (one ∷ []) (error (codes "TRYAGAIN") (codes "x") ∷ []) (plain n1 del_b ∷ plain n2 del_a ∷ [])
+del_turned_log = log_over (one ∷ []) (error (codes "TRYAGAIN") (codes "x") ∷ [])
+    (plain n1 del_b ∷ plain n2 del_a ∷ [])
 
 pub an_order_is_kept : IsLegalCall on_halves [] del_turned del_turned_log
 unfolding destination rule_of table hash_slot splitting_of digits first_error server_kind
 an_order_is_kept = (refl, (refl, refl))
 
-pub a_refused_part_refuses : kind on_halves [] a_fault del_turned del_turned_log ≡ Some (by_server (error_text (codes "TRYAGAIN") (codes "x")))
+pub a_refused_part_refuses : kind on_halves [] a_fault del_turned del_turned_log
+    ≡ Some (by_server (error_text (codes "TRYAGAIN") (codes "x")))
 unfolding destination rule_of table hash_slot splitting_of digits first_error server_kind
 a_refused_part_refuses = refl
 
@@ -128,13 +140,17 @@ unfolding destination rule_of table hash_slot splitting_of digits first_error se
 the_answered_part_counts = refl
 
 -- the later part is not sent behind a refused one
-pub nothing_goes_behind_a_refusal : IsLegalCall on_halves [] del_ab (log_over (one ∷ []) (error (codes "TRYAGAIN") (codes "x") ∷ []) (plain n2 del_a ∷ plain n1 del_b ∷ [])) → ⊥
+pub nothing_goes_behind_a_refusal : IsLegalCall on_halves [] del_ab
+    (log_over (one ∷ []) (error (codes "TRYAGAIN") (codes "x") ∷ []) (plain n2 del_a ∷ plain n1 del_b ∷ []))
+    → ⊥
 unfolding destination rule_of table hash_slot splitting_of digits first_error server_kind
 nothing_goes_behind_a_refusal = λ h. let (a, b) = h in cc
 
 -- ---- replies that make none
 
-pub a_sum_past_the_bound_is_bad : kind on_halves [] a_fault del_ab (log_over (one ∷ []) (int (pos (2 ^ 63 - 1)) ∷ []) (plain n2 del_a ∷ plain n1 del_b ∷ [])) ≡ Some bad_reply
+pub a_sum_past_the_bound_is_bad : kind on_halves [] a_fault del_ab
+    (log_over (one ∷ []) (int (pos (2 ^ 63 - 1)) ∷ []) (plain n2 del_a ∷ plain n1 del_b ∷ []))
+    ≡ Some bad_reply
 unfolding destination rule_of table hash_slot splitting_of digits first_error
 a_sum_past_the_bound_is_bad = refl
 
@@ -144,16 +160,23 @@ mset = query (codes "MSET" ∷ codes "a" ∷ codes "1" ∷ codes "b" ∷ codes "
 abbrev pub mset_of : List ℕ → List ℕ → List (List ℕ)
 mset_of key value = codes "MSET" ∷ key ∷ value ∷ []
 
-pub a_number_for_okay_is_bad : kind on_halves [] a_fault mset (log_over (one ∷ []) (okay ∷ []) (plain n2 (mset_of (codes "a") (codes "1")) ∷ plain n1 (mset_of (codes "b") (codes "2")) ∷ [])) ≡ Some bad_reply
+pub a_number_for_okay_is_bad : kind on_halves [] a_fault mset
+    (log_over (one ∷ []) (okay ∷ [])
+    (plain n2 (mset_of (codes "a") (codes "1")) ∷ plain n1 (mset_of (codes "b") (codes "2")) ∷ []))
+    ≡ Some bad_reply
 unfolding destination rule_of table hash_slot splitting_of digits first_error
 a_number_for_okay_is_bad = refl
 
-pub mset_answers_okay : answer_on on_halves mset (log_over (okay ∷ []) (okay ∷ []) (plain n2 (mset_of (codes "a") (codes "1")) ∷ plain n1 (mset_of (codes "b") (codes "2")) ∷ [])) ≡ Ok (Value okay)
+pub mset_answers_okay : answer_on on_halves mset
+    (log_over (okay ∷ []) (okay ∷ [])
+    (plain n2 (mset_of (codes "a") (codes "1")) ∷ plain n1 (mset_of (codes "b") (codes "2")) ∷ []))
+    ≡ Ok (Value okay)
 unfolding destination rule_of table hash_slot splitting_of digits first_error
 mset_answers_okay = refl
 
 pub a_long_reply_is_bad : kind on_halves [] a_fault (query (codes "MGET" ∷ codes "a" ∷ codes "b" ∷ []))
-    (log_over (item nil ∷ []) (array_of (text (codes "1") ∷ text (codes "2") ∷ []) ∷ []) (plain n2 (mget_of (codes "a")) ∷ plain n1 (mget_of (codes "b")) ∷ [])) ≡ Some bad_reply
+    (log_over (item nil ∷ []) (array_of (text (codes "1") ∷ text (codes "2") ∷ []) ∷ [])
+    (plain n2 (mget_of (codes "a")) ∷ plain n1 (mget_of (codes "b")) ∷ [])) ≡ Some bad_reply
 unfolding destination rule_of table hash_slot splitting_of digits first_error
 a_long_reply_is_bad = refl
 

@@ -1,4 +1,5 @@
--- Runs in which what counts is wrong: a command done twice, a refused part done all the same, responses that are another call's.
+-- Runs in which what counts is wrong: a command done twice, a refused part done all the same, responses that
+-- are another call's.
 use Rattle.std.specs.Prelude.{◌≡◌, ◌==◌, ℕ, suc, Bool, true, false, cond, List, [], ◌∷◌, ◌++◌, map, length, None, Ok, Err, codes, pos, refl}
 use Rattle.std.specs.List.{AllByRecursion}
 use Rattle.std.specs.Fmt.{digits}
@@ -62,11 +63,19 @@ incr_a_is_whole = refl
 
 pub to_one_done : DoOperation (RunCommand incr_a) (to_one ∷ []) (Reply one)
 unfolding destination rule_of table hash_slot splitting_of first_error
-to_one_done = (one, refl, (to_one, refl, record { deed = refl; slot = refl; response = refl; no_error = refl }))
+to_one_done = (
+  one,
+  refl,
+  (to_one, refl, record { deed = refl; slot = refl; response = refl; no_error = refl }),
+)
 
 pub to_two_done : DoOperation (RunCommand incr_a) (to_two ∷ []) (Reply (int (pos 2)))
 unfolding destination rule_of table hash_slot splitting_of first_error
-to_two_done = (int (pos 2), refl, (to_two, refl, record { deed = refl; slot = refl; response = refl; no_error = refl }))
+to_two_done = (
+  int (pos 2),
+  refl,
+  (to_two, refl, record { deed = refl; slot = refl; response = refl; no_error = refl }),
+)
 
 pub one_incr_leaves_one : AsOneServer counts no_keys none_done one_incr (a_is (codes "1"))
 one_incr_leaves_one = record {
@@ -77,13 +86,19 @@ one_incr_leaves_one = record {
 }
 
 pub one_incr_leaves_no_two : AsOneServer counts no_keys none_done one_incr (a_is (codes "2")) → ⊥
-one_incr_leaves_no_two h = one_command_cannot_lead counts incr_a no_keys (a_is (codes "2")) (concat h.responses) incr_a_is_whole none h.served
+one_incr_leaves_no_two h = one_command_cannot_lead counts incr_a no_keys (a_is (codes "2"))
+    (concat h.responses) incr_a_is_whole none h.served
   where
-    none : AllByRecursion (λ (x : Step). x.deed ≡ Whole incr_a → History no_keys (x ∷ []) (a_is (codes "2")) → ⊥) counts
-    none = (λ d leads. false≢true (ap (λ q. first_byte q == 50) (leads.1 slot_a)), (λ d leads. (let e = leads.0 in cc), tt))
+    none : AllByRecursion
+        (λ (x : Step). x.deed ≡ Whole incr_a → History no_keys (x ∷ []) (a_is (codes "2")) → ⊥) counts
+    none = (
+      λ d leads. false≢true (ap (λ q. first_byte q == 50) (leads.1 slot_a)),
+      (λ d leads. (let e = leads.0 in cc), tt),
+    )
 
 -- a server that is given the command twice leaves two, so the claim must count
-pub two_incrs_leave_two : OneServer counts no_keys (RunCommand incr_a ∷ RunCommand incr_a ∷ []) (Reply one ∷ Reply (int (pos 2)) ∷ []) (a_is (codes "2"))
+pub two_incrs_leave_two : OneServer counts no_keys (RunCommand incr_a ∷ RunCommand incr_a ∷ [])
+    (Reply one ∷ Reply (int (pos 2)) ∷ []) (a_is (codes "2"))
 two_incrs_leave_two = (
   (to_one ∷ []) ∷ (to_two ∷ []) ∷ [],
   ((to_one_done, ((0, lit< tt, refl), tt)), ((to_two_done, ((1, lit< tt, refl), tt)), tt)),
@@ -105,7 +120,8 @@ dels_a = does (PartOf (codes "DEL") (codes "a" ∷ []) []) slot_a one (codes "1"
 -- DEL a b, of which n1 refused the part with b
 abbrev pub half_refused : List RepliedCall
 half_refused = with_replies (taken (error (codes "TRYAGAIN") (codes "x") ∷ []) (one ∷ []))
-    (played (del (codes "a" ∷ codes "b" ∷ [])) (Err (by_server (error_text (codes "TRYAGAIN") (codes "x")))) (plain n2 (del (codes "a" ∷ [])) ∷ plain n1 (del (codes "b" ∷ [])) ∷ []) ∷ [])
+    (played (del (codes "a" ∷ codes "b" ∷ [])) (Err (by_server (error_text (codes "TRYAGAIN") (codes "x"))))
+    (plain n2 (del (codes "a" ∷ [])) ∷ plain n1 (del (codes "b" ∷ [])) ∷ []) ∷ [])
 
 -- the keys where the part with a alone was done
 abbrev pub without_a : Keyspace
@@ -116,21 +132,35 @@ unfolding destination rule_of table hash_slot splitting_of digits first_error se
 the_answered_part_was_done = record {
   responses = (Reply one ∷ []) ∷ [];
   counts = (refl, tt);
-  served = ((dels_a ∷ []) ∷ [], (((one, refl, ((record { deed = refl; slot = refl; response = inr refl }, tt), refl)), ((0, lit< tt, refl), tt)), tt), (refl, λ slot. refl));
+  served = (
+    (dels_a ∷ []) ∷ [],
+    (
+      (
+        (one, refl, ((record { deed = refl; slot = refl; response = inr refl }, tt), refl)),
+        ((0, lit< tt, refl), tt),
+      ),
+      tt,
+    ),
+    (refl, λ slot. refl),
+  );
   answers = (tt, tt);
 }
 
 -- whatever a server may do, and whatever of unanswered requests was done
-pub the_refused_part_was_not : (may : Meaning) (done : ℕ → Bool) → AsOneServer may a_and_b done half_refused no_keys → ⊥
+pub the_refused_part_was_not : (may : Meaning) (done : ℕ → Bool)
+    → AsOneServer may a_and_b done half_refused no_keys → ⊥
 unfolding destination rule_of table hash_slot splitting_of digits first_error server_kind
 the_refused_part_was_not may done h = by h.served.0 (concat h.responses) h.served.1 h.served.2
   where
-    on_a : (s : List Step) (r : Response) → DoOperation (RunCommand (del (codes "a" ∷ []))) s r → History a_and_b (s ++ []) no_keys → ⊥
+    on_a : (s : List Step) (r : Response) → DoOperation (RunCommand (del (codes "a" ∷ []))) s r
+        → History a_and_b (s ++ []) no_keys → ⊥
     on_a [] r d leads = absurd d.2.0
     on_a (x ∷ y ∷ s) r d leads = absurd d.2.0.1
-    on_a (x ∷ []) r d leads = let e = subst (λ n. with_cell a_and_b n x.after slot_b ≡ []) d.2.0.0.slot (leads.1 slot_b) in cc
+    on_a (x ∷ []) r d leads = let e = subst (λ n. with_cell a_and_b n x.after slot_b ≡ []) d.2.0.0.slot
+        (leads.1 slot_b) in cc
 
-    by : (ss : List (List Step)) (rs : List Response) → DoAll may (RunCommand (del (codes "a" ∷ [])) ∷ []) ss rs → History a_and_b (concat ss) no_keys → ⊥
+    by : (ss : List (List Step)) (rs : List Response)
+        → DoAll may (RunCommand (del (codes "a" ∷ [])) ∷ []) ss rs → History a_and_b (concat ss) no_keys → ⊥
     by [] rs a leads = absurd a
     by (s ∷ ss) [] a leads = absurd a
     by (s ∷ []) (r ∷ rs) a leads = on_a s r a.0.0 leads
@@ -140,7 +170,8 @@ the_refused_part_was_not may done h = by h.served.0 (concat h.responses) h.serve
 
 -- two pipelines of one command each, of which the second answers nothing
 abbrev pub piped : List (List ℕ) → List Tree → List Request → PlayedCall
-piped args trees log = record { call = Pipeline (entry args ∷ []); picks = []; answer = Ok (Value (array_of trees)); log = log }
+piped args trees log = record
+    { call = Pipeline (entry args ∷ []); picks = []; answer = Ok (Value (array_of trees)); log = log }
 
 abbrev pub silent : List RepliedCall
 silent = with_replies (taken (text (codes "2") ∷ []) (text (codes "1") ∷ []))
@@ -150,28 +181,43 @@ silent = with_replies (taken (text (codes "2") ∷ []) (text (codes "1") ∷ [])
 abbrev pub all_for_the_first : List (List Response)
 all_for_the_first = (Reply (text (codes "1")) ∷ Reply (text (codes "2")) ∷ []) ∷ [] ∷ []
 
-pub they_are_served : OneServer meaning a_and_b (all_counting none_done silent) (concat all_for_the_first) a_and_b
+pub they_are_served : OneServer meaning a_and_b (all_counting none_done silent)
+    (concat all_for_the_first) a_and_b
 they_are_served = (
   (gets_a ∷ []) ∷ (gets_b ∷ []) ∷ [],
   ((get_a_done, gets_a_allowed), ((get_b_done, gets_b_allowed), tt)),
-  (refl, (refl, λ slot. put_again (with_cell a_and_b slot_a (codes "1")) slot_b slot ∙ put_again a_and_b slot_a slot)),
+  (
+    refl,
+    (
+      refl,
+      λ slot. put_again
+          (with_cell a_and_b slot_a (codes "1")) slot_b slot ∙ put_again a_and_b slot_a slot,
+    ),
+  ),
 )
 
-pub they_are_the_answers : Pairwise (λ (t : RepliedCall) here. IsAnswerBy t.call t.answer here) silent all_for_the_first
+pub they_are_the_answers : Pairwise
+    (λ (t : RepliedCall) here. IsAnswerBy t.call t.answer here) silent all_for_the_first
 they_are_the_answers = ((text (codes "1") ∷ text (codes "2") ∷ [], refl, refl), (([], refl, refl), tt))
 
-pub they_do_not_count : Pairwise (λ (t : RepliedCall) here. length here ≡ length (counting none_done t.call t.answer t.log)) silent all_for_the_first → ⊥
+pub they_do_not_count : Pairwise
+    (λ (t : RepliedCall) here. length here ≡ length (counting none_done t.call t.answer t.log)) silent
+    all_for_the_first → ⊥
 they_do_not_count h = let e = h.0 in cc
 
 -- so no responses are the second pipeline's
-pub a_silent_pipeline_is_no_servers : (keys keys' : Keyspace) (may : Meaning) → AsOneServer may keys none_done silent keys' → ⊥
+pub a_silent_pipeline_is_no_servers : (keys keys' : Keyspace) (may : Meaning)
+    → AsOneServer may keys none_done silent keys' → ⊥
 a_silent_pipeline_is_no_servers keys keys' may h = by h.responses h.counts h.answers
   where
-    no_trees : (trees : List Tree) → suc 0 ≡ length (map Reply trees) → Value (array_of []) ≡ Value (array_of (not_ignored (entry get_b ∷ []) trees)) → ⊥
+    no_trees : (trees : List Tree) → suc 0 ≡ length (map Reply trees)
+        → Value (array_of []) ≡ Value (array_of (not_ignored (entry get_b ∷ []) trees)) → ⊥
     no_trees [] n e = cc
     no_trees (t ∷ ts) n e = cc
 
-    by : (rs : List (List Response)) → Pairwise (λ (t : RepliedCall) here. length here ≡ length (counting none_done t.call t.answer t.log)) silent rs → Pairwise (λ (t : RepliedCall) here. IsAnswerBy t.call t.answer here) silent rs → ⊥
+    by : (rs : List (List Response))
+        → Pairwise (λ (t : RepliedCall) here. length here ≡ length (counting none_done t.call t.answer t.log))
+        silent rs → Pairwise (λ (t : RepliedCall) here. IsAnswerBy t.call t.answer here) silent rs → ⊥
     by [] c a = absurd c
     by (r ∷ []) c a = absurd c.1
     by (r ∷ r2 ∷ rs) c a = no_trees a.1.0.0 (sym c.1.0 ∙ ap length a.1.0.1) a.1.0.2

@@ -1,5 +1,6 @@
--- Wrong rules for where others' steps stand on one server: each is `IsServed` without a clause, or with a weaker one, and beside each stands a
--- run that it lets through and that `IsServed` refuses. All steps here are looks. So the keys refuse none of it, and only the rule can.
+-- Wrong rules for where others' steps stand on one server: each is `IsServed` without a clause, or with a
+-- weaker one, and beside each stands a run that it lets through and that `IsServed` refuses. All steps here
+-- are looks. So the keys refuse none of it, and only the rule can.
 use Rattle.std.specs.Prelude.{◌≡◌, ℕ, ◌==◌, Bool, true, false, List, [], ◌∷◌, map, length, codes, refl}
 use Rattle.std.proofs.Common.{ap, sym, lit<}
 use Rattle.std.proofs.lemmas.Bool.{false≢true}
@@ -29,7 +30,8 @@ use Rattle.cluster_calls.specs.WholeCalls.WrongServers.{reply_byte}
 -- ---- the wrong rules
 
 -- nothing says that others' steps before the call stay there
-pub record WithoutBefore (meaning : Meaning) (done : ℕ → Bool) (t : RepliedCall) (s : ServedCall) : Type 0 where
+pub record WithoutBefore (meaning : Meaning) (done : ℕ → Bool) (t : RepliedCall)
+    (s : ServedCall) : Type 0 where
   pub operations : DoAll meaning (counting done t.call t.answer t.log) s.now.own s.responses
   pub answer : IsAnswerBy t.call t.answer s.responses
   pub same : (slot : ℕ) → turns_on slot (while_made s.now) ≡ turns_on slot (while_made s.was)
@@ -43,14 +45,17 @@ pub record WithoutSame (meaning : Meaning) (done : ℕ → Bool) (t : RepliedCal
   pub in_place : are_on_one_slot (concat s.was.own) ≡ true → while_made s.now ≡ while_made s.was
 
 -- nothing says that all stays as it was where the call is on one slot
-pub record WithoutInPlace (meaning : Meaning) (done : ℕ → Bool) (t : RepliedCall) (s : ServedCall) : Type 0 where
+pub record WithoutInPlace (meaning : Meaning) (done : ℕ → Bool) (t : RepliedCall)
+    (s : ServedCall) : Type 0 where
   pub operations : DoAll meaning (counting done t.call t.answer t.log) s.now.own s.responses
   pub answer : IsAnswerBy t.call t.answer s.responses
   pub before : s.now.before ≡ s.was.before
   pub same : (slot : ℕ) → turns_on slot (while_made s.now) ≡ turns_on slot (while_made s.was)
 
--- these calls are served as the rule says, and lead from the keys to the keys: `AsOneServerAmongOthers`, if the rule is `IsServed`
-pub record ServedBy (Rule : RepliedCall → ServedCall → Type 0) (keys : Keyspace) (ts : List RepliedCall) (calls : List CallTurns)
+-- these calls are served as the rule says, and lead from the keys to the keys: `AsOneServerAmongOthers`, if
+-- the rule is `IsServed`
+pub record ServedBy (Rule : RepliedCall → ServedCall → Type 0) (keys : Keyspace) (ts : List RepliedCall)
+    (calls : List CallTurns)
     (last : List Step) (keys' : Keyspace) (served : List ServedCall) : Type 0 where
   pub all : calls_were served ≡ calls
   pub each : Pairwise Rule ts served
@@ -58,13 +63,16 @@ pub record ServedBy (Rule : RepliedCall → ServedCall → Type 0) (keys : Keysp
 
 -- a call does its operations and has its answer
 abbrev pub DoesAndAnswers : Meaning → (ℕ → Bool) → RepliedCall → ServedCall → Type 0
-DoesAndAnswers meaning done t s = DoAll meaning (counting done t.call t.answer t.log) s.now.own s.responses × IsAnswerBy t.call t.answer s.responses
+DoesAndAnswers meaning done t s = DoAll meaning (counting done t.call t.answer t.log) s.now.own s.responses
+    × IsAnswerBy t.call t.answer s.responses
 
 -- on each slot all stays as it was over the whole run, but not call by call
-pub record SameOverTheRun (meaning : Meaning) (keys : Keyspace) (done : ℕ → Bool) (ts : List RepliedCall) (calls : List CallTurns)
+pub record SameOverTheRun (meaning : Meaning) (keys : Keyspace) (done : ℕ → Bool) (ts : List RepliedCall)
+    (calls : List CallTurns)
     (last : List Step) (keys' : Keyspace) (served : List ServedCall) : Type 0 where
   pub served_by : ServedBy (DoesAndAnswers meaning done) keys ts calls last keys' served
-  pub same : (slot : ℕ) → turns_on slot (run_turns (calls_now served) last) ≡ turns_on slot (run_turns calls last)
+  pub same : (slot : ℕ)
+      → turns_on slot (run_turns (calls_now served) last) ≡ turns_on slot (run_turns calls last)
 
 -- ---- a run: MGET a b in two parts, and then GET a
 
@@ -75,7 +83,8 @@ abbrev pub one_and_two : Tree
 one_and_two = array_of (text (codes "1") ∷ text (codes "2") ∷ [])
 
 abbrev pub mget_and_get : List RepliedCall
-mget_and_get = with_replies (taken (item (text (codes "2")) ∷ []) (item (text (codes "1")) ∷ text (codes "1") ∷ []))
+mget_and_get = with_replies
+    (taken (item (text (codes "2")) ∷ []) (item (text (codes "1")) ∷ text (codes "1") ∷ []))
     (answered mget_ab one_and_two (plain n2 (mget_of (codes "a")) ∷ plain n1 (mget_of (codes "b")) ∷ [])
     ∷ answered get_a (text (codes "1")) (plain n2 get_a ∷ [])
     ∷ [])
@@ -103,7 +112,11 @@ abbrev pub asks_for_a : Step
 asks_for_a = does (Whole (codes "EXISTS" ∷ codes "a" ∷ [])) slot_a one (codes "1") (codes "1")
 
 abbrev pub mget_was : CallTurns
-mget_was = record { before = finds_no_c ∷ []; during = [] ∷ (finds_a ∷ asks_for_a ∷ []) ∷ []; own = (looks_a ∷ []) ∷ (looks_b ∷ []) ∷ [] }
+mget_was = record {
+  before = finds_no_c ∷ [];
+  during = [] ∷ (finds_a ∷ asks_for_a ∷ []) ∷ [];
+  own = (looks_a ∷ []) ∷ (looks_b ∷ []) ∷ [];
+}
 
 abbrev pub get_was : CallTurns
 get_was = record { before = []; during = []; own = (gets_a ∷ []) ∷ [] }
@@ -111,27 +124,71 @@ get_was = record { before = []; during = []; own = (gets_a ∷ []) ∷ [] }
 abbrev pub calls_made : List CallTurns
 calls_made = mget_was ∷ get_was ∷ []
 
-pub mget_a_done : DoOperation (RunCommand (mget_of (codes "a"))) (looks_a ∷ []) (Reply (item (text (codes "1"))))
+pub mget_a_done : DoOperation (RunCommand (mget_of (codes "a"))) (looks_a ∷ [])
+    (Reply (item (text (codes "1"))))
 unfolding destination rule_of table hash_slot splitting_of digits first_error
-mget_a_done = (item (text (codes "1")), refl, ((record { deed = refl; slot = refl; response = refl }, tt), refl))
+mget_a_done = (
+  item (text (codes "1")),
+  refl,
+  ((record { deed = refl; slot = refl; response = refl }, tt), refl),
+)
 
-pub mget_b_done : DoOperation (RunCommand (mget_of (codes "b"))) (looks_b ∷ []) (Reply (item (text (codes "2"))))
+pub mget_b_done : DoOperation (RunCommand (mget_of (codes "b"))) (looks_b ∷ [])
+    (Reply (item (text (codes "2"))))
 unfolding destination rule_of table hash_slot splitting_of digits first_error
-mget_b_done = (item (text (codes "2")), refl, ((record { deed = refl; slot = refl; response = refl }, tt), refl))
+mget_b_done = (
+  item (text (codes "2")),
+  refl,
+  ((record { deed = refl; slot = refl; response = refl }, tt), refl),
+)
 
 pub mget_done : DoOperation (RunCommand mget_ab) (looks_a ∷ looks_b ∷ []) (Reply one_and_two)
 unfolding destination rule_of table hash_slot splitting_of digits first_error
-mget_done = (one_and_two, refl, ((record { deed = refl; slot = refl; response = refl }, (record { deed = refl; slot = refl; response = refl }, tt)), refl))
+mget_done = (
+  one_and_two,
+  refl,
+  (
+    (
+      record { deed = refl; slot = refl; response = refl },
+      (record { deed = refl; slot = refl; response = refl }, tt),
+    ),
+    refl,
+  ),
+)
 
 pub the_run_is_honest : HonestAmongOthers looks a_and_b none_done mget_and_get calls_made [] a_and_b
 unfolding first_error
 the_run_is_honest = record {
   requests = (
     (
-      record { response = Reply (item (text (codes "1"))); reply = refl; done = mget_a_done; allowed = ((0, lit< tt, refl), tt) },
-      (record { response = Reply (item (text (codes "2"))); reply = refl; done = mget_b_done; allowed = ((1, lit< tt, refl), tt) }, tt),
+      record {
+        response = Reply (item (text (codes "1")));
+        reply = refl;
+        done = mget_a_done;
+        allowed = ((0, lit< tt, refl), tt);
+      },
+      (
+        record {
+          response = Reply (item (text (codes "2")));
+          reply = refl;
+          done = mget_b_done;
+          allowed = ((1, lit< tt, refl), tt);
+        },
+        tt,
+      ),
     ),
-    ((record { response = Reply (text (codes "1")); reply = refl; done = get_a_done; allowed = ((2, lit< tt, refl), tt) }, tt), tt),
+    (
+      (
+        record {
+          response = Reply (text (codes "1"));
+          reply = refl;
+          done = get_a_done;
+          allowed = ((2, lit< tt, refl), tt);
+        },
+        tt,
+      ),
+      tt,
+    ),
   );
   history = looks_lead a_and_b (map step_of (run_turns calls_made []))
       ((refl, refl), ((refl, refl), ((refl, refl), ((refl, refl), ((refl, refl), ((refl, refl), tt))))));
@@ -156,9 +213,14 @@ mget_now before behind = record {
 }
 
 abbrev pub get_now : List Step → ServedCall
-get_now before = record { was = get_was; now = record { before = before; during = []; own = (gets_a ∷ []) ∷ [] }; responses = Reply (text (codes "1")) ∷ [] }
+get_now before = record {
+  was = get_was;
+  now = record { before = before; during = []; own = (gets_a ∷ []) ∷ [] };
+  responses = Reply (text (codes "1")) ∷ [];
+}
 
-mget_operations : DoAll looks (RunCommand mget_ab ∷ []) ((looks_a ∷ looks_b ∷ []) ∷ []) (Reply one_and_two ∷ [])
+mget_operations : DoAll looks (RunCommand mget_ab ∷ []) ((looks_a ∷ looks_b ∷ []) ∷ [])
+    (Reply one_and_two ∷ [])
 mget_operations = ((mget_done, ((0, lit< tt, refl), ((1, lit< tt, refl), tt))), tt)
 
 get_operations : DoAll looks (RunCommand get_a ∷ []) ((gets_a ∷ []) ∷ []) (Reply (text (codes "1")) ∷ [])
@@ -179,15 +241,32 @@ mget_turns behind = Own looks_a ∷ Own looks_b ∷ map Other behind
 abbrev mget_turns_were : List Turn
 mget_turns_were = Own looks_a ∷ Other finds_a ∷ Other asks_for_a ∷ Own looks_b ∷ []
 
-mget_same : (slot : ℕ) → turns_on slot (mget_turns (finds_a ∷ asks_for_a ∷ [])) ≡ turns_on slot mget_turns_were
-mget_same = same_on_each (slot_a ∷ slot_b ∷ []) (mget_turns (finds_a ∷ asks_for_a ∷ [])) mget_turns_were refl refl (refl, (refl, tt))
+mget_same : (slot : ℕ)
+    → turns_on slot (mget_turns (finds_a ∷ asks_for_a ∷ [])) ≡ turns_on slot mget_turns_were
+mget_same = same_on_each (slot_a ∷ slot_b ∷ [])
+    (mget_turns (finds_a ∷ asks_for_a ∷ [])) mget_turns_were refl refl (refl, (refl, tt))
 
 pub so_it_is_served : ServesTheRun (IsServed looks none_done) as_it_should_be
 so_it_is_served = record {
   all = refl;
   each = (
-    record { operations = mget_operations; answer = (one_and_two, refl, refl); before = refl; same = mget_same; in_place = mget_is_on_two },
-    (record { operations = get_operations; answer = (text (codes "1"), refl, refl); before = refl; same = λ slot. refl; in_place = λ e. refl }, tt),
+    record {
+      operations = mget_operations;
+      answer = (one_and_two, refl, refl);
+      before = refl;
+      same = mget_same;
+      in_place = mget_is_on_two;
+    },
+    (
+      record {
+        operations = get_operations;
+        answer = (text (codes "1"), refl, refl);
+        before = refl;
+        same = λ slot. refl;
+        in_place = λ e. refl;
+      },
+      tt,
+    ),
   );
   history = looks_lead a_and_b (map step_of (run_turns (calls_now as_it_should_be) []))
       ((refl, refl), ((refl, refl), ((refl, refl), ((refl, refl), ((refl, refl), ((refl, refl), tt))))));
@@ -208,12 +287,26 @@ abbrev pub moved_past : List ServedCall
 moved_past = with_looks (asks_for_a ∷ finds_a ∷ [])
 
 -- without `same` any looks that the keys allow will do
-pub any_looks_without_same : (behind : List Step) → LeadsToItself (with_looks behind) → ServesTheRun (WithoutSame looks none_done) (with_looks behind)
+pub any_looks_without_same : (behind : List Step) → LeadsToItself (with_looks behind)
+    → ServesTheRun (WithoutSame looks none_done) (with_looks behind)
 any_looks_without_same behind leads = record {
   all = refl;
   each = (
-    record { operations = mget_operations; answer = (one_and_two, refl, refl); before = refl; in_place = mget_is_on_two },
-    (record { operations = get_operations; answer = (text (codes "1"), refl, refl); before = refl; in_place = λ e. refl }, tt),
+    record {
+      operations = mget_operations;
+      answer = (one_and_two, refl, refl);
+      before = refl;
+      in_place = mget_is_on_two;
+    },
+    (
+      record {
+        operations = get_operations;
+        answer = (text (codes "1"), refl, refl);
+        before = refl;
+        in_place = λ e. refl;
+      },
+      tt,
+    ),
   );
   history = leads;
 }
@@ -225,8 +318,13 @@ left_out_without_same = any_looks_without_same (finds_a ∷ [])
 
 pub doubled_without_same : ServesTheRun (WithoutSame looks none_done) doubled
 doubled_without_same = any_looks_without_same (finds_a ∷ finds_a ∷ asks_for_a ∷ [])
-    (looks_lead a_and_b (map step_of (run_turns (calls_now doubled) []))
-    ((refl, refl), ((refl, refl), ((refl, refl), ((refl, refl), ((refl, refl), ((refl, refl), ((refl, refl), tt))))))))
+    (looks_lead a_and_b (map step_of (run_turns (calls_now doubled) [])) (
+      (refl, refl),
+      (
+        (refl, refl),
+        ((refl, refl), ((refl, refl), ((refl, refl), ((refl, refl), ((refl, refl), tt))))),
+      ),
+    ))
 
 pub moved_past_without_same : ServesTheRun (WithoutSame looks none_done) moved_past
 moved_past_without_same = any_looks_without_same (asks_for_a ∷ finds_a ∷ [])
@@ -247,7 +345,8 @@ second_byte ts = 0
 pub moved_past_is_refused : ServesTheRun (IsServed looks none_done) moved_past → ⊥
 moved_past_is_refused h = false≢true (ap (λ q. second_byte q == 49) (h.each.0.same slot_a))
 
--- ---- a look that is moved out of the time of its call, from before the MGET to behind it: `before` refuses it
+-- ---- a look that is moved out of the time of its call, from before the MGET to behind it: `before` refuses
+--   it
 
 abbrev pub out_of_time : List ServedCall
 out_of_time = mget_now [] (finds_a ∷ asks_for_a ∷ []) ∷ get_now (finds_no_c ∷ []) ∷ []
@@ -260,21 +359,39 @@ pub out_of_time_without_before : ServesTheRun (WithoutBefore looks none_done) ou
 out_of_time_without_before = record {
   all = refl;
   each = (
-    record { operations = mget_operations; answer = (one_and_two, refl, refl); same = mget_same; in_place = mget_is_on_two },
-    (record { operations = get_operations; answer = (text (codes "1"), refl, refl); same = λ slot. refl; in_place = λ e. refl }, tt),
+    record {
+      operations = mget_operations;
+      answer = (one_and_two, refl, refl);
+      same = mget_same;
+      in_place = mget_is_on_two;
+    },
+    (
+      record {
+        operations = get_operations;
+        answer = (text (codes "1"), refl, refl);
+        same = λ slot. refl;
+        in_place = λ e. refl;
+      },
+      tt,
+    ),
   );
   history = out_of_time_leads;
 }
 
 -- over the whole run each slot has the same turns all the same
-pub out_of_time_with_same_over_the_run : SameOverTheRun looks a_and_b none_done mget_and_get calls_made [] a_and_b out_of_time
+pub out_of_time_with_same_over_the_run : SameOverTheRun looks a_and_b none_done mget_and_get calls_made
+    [] a_and_b out_of_time
 out_of_time_with_same_over_the_run = record {
   served_by = record {
     all = refl;
-    each = ((mget_operations, (one_and_two, refl, refl)), ((get_operations, (text (codes "1"), refl, refl)), tt));
+    each = (
+      (mget_operations, (one_and_two, refl, refl)),
+      ((get_operations, (text (codes "1"), refl, refl)), tt),
+    );
     history = out_of_time_leads;
   };
-  same = same_on_each (slot_a ∷ slot_b ∷ slot_c ∷ []) (run_turns (calls_now out_of_time) []) (run_turns calls_made []) refl refl (refl, (refl, (refl, tt)));
+  same = same_on_each (slot_a ∷ slot_b ∷ slot_c ∷ []) (run_turns (calls_now out_of_time) [])
+      (run_turns calls_made []) refl refl (refl, (refl, (refl, tt)));
 }
 
 pub out_of_time_is_refused : ServesTheRun (IsServed looks none_done) out_of_time → ⊥
@@ -290,9 +407,11 @@ abbrev pub get_before_a_look : CallTurns
 get_before_a_look = record { before = []; during = [] ∷ (gets_b ∷ []) ∷ []; own = (gets_a ∷ []) ∷ [] }
 
 abbrev pub out_of_place : List ServedCall
-out_of_place = record { was = get_behind_a_look; now = get_before_a_look; responses = Reply (text (codes "1")) ∷ [] } ∷ []
+out_of_place = record
+    { was = get_behind_a_look; now = get_before_a_look; responses = Reply (text (codes "1")) ∷ [] } ∷ []
 
-pub out_of_place_without_in_place : ServedBy (WithoutInPlace looks none_done) a_and_b one_get (get_behind_a_look ∷ []) [] a_and_b out_of_place
+pub out_of_place_without_in_place : ServedBy (WithoutInPlace looks none_done) a_and_b one_get
+    (get_behind_a_look ∷ []) [] a_and_b out_of_place
 out_of_place_without_in_place = record {
   all = refl;
   each = (
@@ -300,7 +419,8 @@ out_of_place_without_in_place = record {
       operations = get_operations;
       answer = (text (codes "1"), refl, refl);
       before = refl;
-      same = same_on_each (slot_a ∷ slot_b ∷ []) (Own gets_a ∷ Other gets_b ∷ []) (Other gets_b ∷ Own gets_a ∷ []) refl refl (refl, (refl, tt));
+      same = same_on_each (slot_a ∷ slot_b ∷ []) (Own gets_a ∷ Other gets_b ∷ [])
+          (Other gets_b ∷ Own gets_a ∷ []) refl refl (refl, (refl, tt));
     },
     tt,
   );
@@ -311,5 +431,6 @@ abbrev begins_with_own : List Turn → Bool
 begins_with_own (Own x ∷ ts) = true
 begins_with_own ts = false
 
-pub out_of_place_is_refused : ServedBy (IsServed looks none_done) a_and_b one_get (get_behind_a_look ∷ []) [] a_and_b out_of_place → ⊥
+pub out_of_place_is_refused : ServedBy (IsServed looks none_done) a_and_b one_get (get_behind_a_look ∷ [])
+    [] a_and_b out_of_place → ⊥
 out_of_place_is_refused h = false≢true (sym (ap begins_with_own (h.each.0.in_place refl)))

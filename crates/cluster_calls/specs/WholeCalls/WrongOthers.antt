@@ -1,4 +1,5 @@
--- A step of another client that is left out, moved or doubled: then the premise of the claim does not hold. `RunsAmongOthers` has the right one.
+-- A step of another client that is left out, moved or doubled: then the premise of the claim does not hold.
+-- `RunsAmongOthers` has the right one.
 use Rattle.std.specs.Prelude.{◌≡◌, ◌==◌, List, [], ◌∷◌, ◌++◌, map, codes}
 use Rattle.std.specs.List.{AllByRecursion}
 use Rattle.std.proofs.Common.{ap, subst}
@@ -11,7 +12,8 @@ use Rattle.cluster_calls.specs.WholeCalls.KeyRuns.{get_a, sets_a, meaning, none_
 use Rattle.cluster_calls.specs.WholeCalls.RunsAmongOthers.{nothing, one_get}
 use Rattle.cluster_calls.specs.WholeCalls.WrongServers.{of_each, step_of as command_step, deed_byte, get_a_is_whole}
 
--- GET a is answered with 1, and another client's SET a 1 before it is left out, whatever else is done behind the GET
+-- GET a is answered with 1, and another client's SET a 1 before it is left out, whatever else is done behind
+-- the GET
 abbrev pub nothing_before : List (List Step) → List (List Step) → CallTurns
 nothing_before later own = record { before = []; during = [] ∷ later; own = own }
 
@@ -30,30 +32,36 @@ a_get_finds_what_was_set_before_it later own last keys' h = by own h.requests h.
     none : AllByRecursion (λ (x : Step). x.deed ≡ Whole get_a → nothing x.slot ≡ x.before → ⊥) meaning
     none = (λ d e. cc, (λ d e. cc, (λ d e. false≢true (ap (λ q. deed_byte q == 97) d), tt)))
 
-    by : (ss : List (List Step)) → Pairwise (AreItsRequests meaning none_done) one_get (nothing_before later ss ∷ [])
+    by : (ss : List (List Step))
+        → Pairwise (AreItsRequests meaning none_done) one_get (nothing_before later ss ∷ [])
         → History nothing (map step_of (run_of later ss last)) keys' → ⊥
     by [] a leads = absurd a.0
     by (s ∷ s2 ∷ ss) a leads = absurd a.0.1
     by (s ∷ []) a leads =
         let x = command_step meaning get_a s a.0.0.response get_a_is_whole a.0.0.done a.0.0.allowed in
-        of_each (λ (y : Step). y.deed ≡ Whole get_a → nothing y.slot ≡ y.before → ⊥) meaning x.step none x.allowed x.deed
+        of_each (λ (y : Step). y.deed ≡ Whole get_a → nothing y.slot ≡ y.before → ⊥) meaning x.step none
+        x.allowed x.deed
         (subst (λ q. History nothing (map step_of (run_of later (q ∷ []) last)) keys') x.alone leads).0
 
 -- so it is not left out
-pub a_set_is_not_left_out : (own : List (List Step)) (keys' : Keyspace) → IsHonestWith (nothing_before [] own) [] keys' → ⊥
+pub a_set_is_not_left_out : (own : List (List Step)) (keys' : Keyspace)
+    → IsHonestWith (nothing_before [] own) [] keys' → ⊥
 a_set_is_not_left_out own = a_get_finds_what_was_set_before_it [] own []
 
 -- nor moved past the GET, which is on its slot
-pub a_set_is_not_moved_past_a_get : (own : List (List Step)) (keys' : Keyspace) → IsHonestWith (nothing_before ((sets_a ∷ []) ∷ []) own) [] keys' → ⊥
+pub a_set_is_not_moved_past_a_get : (own : List (List Step)) (keys' : Keyspace)
+    → IsHonestWith (nothing_before ((sets_a ∷ []) ∷ []) own) [] keys' → ⊥
 a_set_is_not_moved_past_a_get own = a_get_finds_what_was_set_before_it ((sets_a ∷ []) ∷ []) own []
 
 -- nor from before the call to behind it
-pub a_set_is_not_moved_behind_the_call : (own : List (List Step)) (keys' : Keyspace) → IsHonestWith (nothing_before [] own) (sets_a ∷ []) keys' → ⊥
+pub a_set_is_not_moved_behind_the_call : (own : List (List Step)) (keys' : Keyspace)
+    → IsHonestWith (nothing_before [] own) (sets_a ∷ []) keys' → ⊥
 a_set_is_not_moved_behind_the_call own = a_get_finds_what_was_set_before_it [] own (sets_a ∷ [])
 
 -- nor doubled: the second would find a at 1, and it found none
 abbrev pub behind_two_sets : List (List Step) → CallTurns
 behind_two_sets own = record { before = sets_a ∷ sets_a ∷ []; during = []; own = own }
 
-pub a_set_is_not_doubled : (own : List (List Step)) (keys' : Keyspace) → IsHonestWith (behind_two_sets own) [] keys' → ⊥
+pub a_set_is_not_doubled : (own : List (List Step)) (keys' : Keyspace)
+    → IsHonestWith (behind_two_sets own) [] keys' → ⊥
 a_set_is_not_doubled own keys' h = let e : codes "1" ≡ [] = h.history.1.0 in cc

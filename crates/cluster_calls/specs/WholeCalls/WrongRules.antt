@@ -1,4 +1,5 @@
--- Wrong rules that a client might follow, each beside a call of the other files that tells it from the definition.
+-- Wrong rules that a client might follow, each beside a call of the other files that tells it from the
+-- definition.
 use Rattle.std.specs.Prelude.{◌≡◌, ℕ, ◌-◌, ◌||◌, Bool, true, false, if◌then◌else◌, List, [], ◌∷◌, map, slice_get, Option, Some, None, codes, pos, refl}
 use Rattle.std.specs.List.{list_any}
 use Rattle.std.specs.Fmt.{digits}
@@ -44,7 +45,8 @@ pub moved_inside_fails : sort_of (array_of (server_error moved_to_n1 ∷ [])) �
 unfolding first_error
 moved_inside_fails = refl
 
-pub moved_inside_would_be_followed_by_a_wrong_rule : wrong_sort (array_of (server_error moved_to_n1 ∷ [])) ≡ Moved moved_to_n1
+pub moved_inside_would_be_followed_by_a_wrong_rule : wrong_sort (array_of (server_error moved_to_n1 ∷ []))
+    ≡ Moved moved_to_n1
 unfolding first_error server_kind
 moved_inside_would_be_followed_by_a_wrong_rule = refl
 
@@ -61,7 +63,8 @@ pub an_unreadable_redirect_stays : hop_by_link both false (redirect_target witho
 unfolding is_utf8 chars encode
 an_unreadable_redirect_stays = refl
 
-pub an_unreadable_redirect_would_want_a_link_by_a_wrong_rule : wrong_hop_by_link both false (redirect_target without_host) ≡ Lost
+pub an_unreadable_redirect_would_want_a_link_by_a_wrong_rule : wrong_hop_by_link both false
+    (redirect_target without_host) ≡ Lost
 unfolding is_utf8 chars encode
 an_unreadable_redirect_would_want_a_link_by_a_wrong_rule = refl
 
@@ -74,13 +77,15 @@ abbrev pub WrongFollowsRedirects : List Address → ℕ → Hop → List (List �
 WrongFollowsRedirects links budget hop args [] = ⊥
 WrongFollowsRedirects links budget hop args (x ∷ xs) =
     (x.request ≡ request_of hop args)
-    × MatchNext (next_of links budget x.reply) (xs ≡ []) (λ next. WrongFollowsRedirects links (wrong_budget_left budget next) next args xs)
+    × MatchNext (next_of links budget x.reply) (xs ≡ [])
+    (λ next. WrongFollowsRedirects links (wrong_budget_left budget next) next args xs)
 
 pub two_redirects_are_too_many : IsLegalCall (on_n1 1) [] get_a twice_log → ⊥
 unfolding destination rule_of table hash_slot splitting_of digits first_error is_utf8 chars encode server_kind
 two_redirects_are_too_many = λ h. let (a, b) = h in let (c, d) = b in cc
 
-pub two_redirects_would_do_by_a_wrong_rule : WrongFollowsRedirects both 1 (record { node = n1; asking = false }) get twice_log
+pub two_redirects_would_do_by_a_wrong_rule : WrongFollowsRedirects both 1
+    (record { node = n1; asking = false }) get twice_log
 unfolding first_error is_utf8 chars encode server_kind
 two_redirects_would_do_by_a_wrong_rule = (refl, (refl, (refl, refl)))
 
@@ -92,7 +97,8 @@ wrong_reply_at trees request = slice_get trees 0
 pub the_reply_behind_asking_answers : reply_at (okay ∷ one ∷ []) (behind_asking n2 get) ≡ Some one
 the_reply_behind_asking_answers = refl
 
-pub the_reply_to_asking_would_answer_by_a_wrong_rule : wrong_reply_at (okay ∷ one ∷ []) (behind_asking n2 get) ≡ Some okay
+pub the_reply_to_asking_would_answer_by_a_wrong_rule : wrong_reply_at (okay ∷ one ∷ []) (behind_asking n2 get)
+    ≡ Some okay
 the_reply_to_asking_would_answer_by_a_wrong_rule = refl
 
 -- ---- each redirect wants a refresh
@@ -119,7 +125,8 @@ abbrev pub wrong_entries_by : SlotEntries → List ℕ → Option Tree → SlotE
 wrong_entries_by entries host None = entries
 wrong_entries_by entries host (Some tree) = put_all entries (ranges tree host)
 
-pub a_refresh_puts_another_map : map_after halves (Refresh n1) (log_over (okay ∷ []) [] (plain n1 get ∷ [])) ≡ []
+pub a_refresh_puts_another_map : map_after halves (Refresh n1) (log_over (okay ∷ []) [] (plain n1 get ∷ []))
+    ≡ []
 unfolding first_error
 a_refresh_puts_another_map = refl
 
@@ -145,11 +152,13 @@ entries_of_three = entry set_a ∷ entry (get_of (codes "b")) ∷ entry (get_of 
 abbrev pub wrong_pipeline_reply : List Entry → List Exchange → Tree
 wrong_pipeline_reply entries xs = array_of (not_ignored entries (map reply_or_nil xs))
 
-pub answers_stand_by_position : pipeline_reply entries_of_three fine ≡ array_of (okay ∷ nil ∷ text (codes "1") ∷ [])
+pub answers_stand_by_position : pipeline_reply entries_of_three fine
+    ≡ array_of (okay ∷ nil ∷ text (codes "1") ∷ [])
 unfolding destination rule_of table hash_slot splitting_of digits
 answers_stand_by_position = refl
 
-pub answers_would_stand_by_node_by_a_wrong_rule : wrong_pipeline_reply entries_of_three fine ≡ array_of (okay ∷ text (codes "1") ∷ nil ∷ [])
+pub answers_would_stand_by_node_by_a_wrong_rule : wrong_pipeline_reply entries_of_three fine
+    ≡ array_of (okay ∷ text (codes "1") ∷ nil ∷ [])
 answers_would_stand_by_node_by_a_wrong_rule = refl
 
 -- ---- MOVED of a refused link call counts in a pipeline

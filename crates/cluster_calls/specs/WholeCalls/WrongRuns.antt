@@ -1,4 +1,5 @@
--- Runs gone wrong on the client's side: no clause of what `play` promises lets them pass. Beside each stands a right one.
+-- Runs gone wrong on the client's side: no clause of what `play` promises lets them pass. Beside each stands
+-- a right one.
 use Rattle.std.specs.Prelude.{◌≡◌, ◌==◌, ℕ, Bool, true, false, List, [], ◌∷◌, ◌++◌, map, length, Option, None, Ok, Err, codes, refl}
 use Rattle.std.specs.Fmt.{digits}
 use Rattle.std.proofs.Common.{ap, sym, ◌∙◌}
@@ -34,7 +35,8 @@ use Rattle.cluster_calls.specs.WholeCalls.WrongCounts.{del, half_refused}
 -- ---- an answer that the replies do not make: OK, where "1" was replied
 
 abbrev pub other_answer : List RepliedCall
-other_answer = with_replies (taken [] (text (codes "1") ∷ [])) (answered get_a okay (plain n2 get_a ∷ []) ∷ [])
+other_answer = with_replies (taken [] (text (codes "1") ∷ []))
+    (answered get_a okay (plain n2 get_a ∷ []) ∷ [])
 
 pub an_answer_is_what_was_replied : IsPlayedFrom None on_halves a_fault other_answer → ⊥
 unfolding destination rule_of table hash_slot splitting_of digits first_error
@@ -48,21 +50,25 @@ a_refusal_by_a_node = (refl, (refl, (refl, refl)), refl, tt)
 
 abbrev pub other_refusal : List RepliedCall
 other_refusal = with_replies (taken (error (codes "TRYAGAIN") (codes "x") ∷ []) (one ∷ []))
-    (played (del (codes "a" ∷ codes "b" ∷ [])) (Err (by_cause Io)) (plain n2 (del (codes "a" ∷ [])) ∷ plain n1 (del (codes "b" ∷ [])) ∷ []) ∷ [])
+    (played (del (codes "a" ∷ codes "b" ∷ [])) (Err (by_cause Io))
+    (plain n2 (del (codes "a" ∷ [])) ∷ plain n1 (del (codes "b" ∷ [])) ∷ []) ∷ [])
 
 pub is_none_by_its_link : IsPlayedFrom None on_halves a_fault other_refusal → ⊥
 unfolding destination rule_of table hash_slot splitting_of digits first_error server_kind
-is_none_by_its_link h = let e : Err (by_cause Io) ≡ Err (by_server (error_text (codes "TRYAGAIN") (codes "x"))) = h.2 in cc
+is_none_by_its_link h = let e : Err (by_cause Io)
+    ≡ Err (by_server (error_text (codes "TRYAGAIN") (codes "x"))) = h.2 in cc
 
 -- ---- a log that is handed to the next call: GET a shows the request of SET a too
 
 abbrev pub handed_on : List RepliedCall
 handed_on = with_replies (taken [] (okay ∷ okay ∷ text (codes "1") ∷ []))
-    (answered set_a okay (plain n2 set_a ∷ []) ∷ answered get_a (text (codes "1")) (plain n2 set_a ∷ plain n2 get_a ∷ []) ∷ [])
+    (answered set_a okay (plain n2 set_a ∷ [])
+    ∷ answered get_a (text (codes "1")) (plain n2 set_a ∷ plain n2 get_a ∷ []) ∷ [])
 
 pub a_log_is_its_calls_own : IsPlayedFrom None on_halves a_fault handed_on → ⊥
 unfolding destination rule_of table hash_slot splitting_of digits first_error
-a_log_is_its_calls_own h = let e : plain n2 set_a ≡ plain n2 get_a = h.3.1.0 in false≢true (ap (λ (q : Request). length q.args == 2) e)
+a_log_is_its_calls_own h = let e : plain n2 set_a ≡ plain n2 get_a = h.3.1.0
+    in false≢true (ap (λ (q : Request). length q.args == 2) e)
 
 -- ---- an answer without a request
 
@@ -75,63 +81,78 @@ an_answer_wants_a_request h = absurd h.1
 
 -- ---- a request to a node that does not serve the slot
 
-pub a_request_goes_to_its_slots_node : IsLegalCall on_halves [] (query get_a) (log_over [] (text (codes "1") ∷ []) (plain n2 get_a ∷ []))
+pub a_request_goes_to_its_slots_node : IsLegalCall on_halves [] (query get_a)
+    (log_over [] (text (codes "1") ∷ []) (plain n2 get_a ∷ []))
 unfolding destination rule_of table hash_slot splitting_of digits first_error
 a_request_goes_to_its_slots_node = (refl, refl)
 
-pub and_to_no_other : IsLegalCall on_halves [] (query get_a) (log_over (text (codes "1") ∷ []) [] (plain n1 get_a ∷ [])) → ⊥
+pub and_to_no_other : IsLegalCall on_halves [] (query get_a)
+    (log_over (text (codes "1") ∷ []) [] (plain n1 get_a ∷ [])) → ⊥
 unfolding destination rule_of table hash_slot splitting_of digits first_error
-and_to_no_other h = let e : plain n1 get_a ≡ plain n2 get_a = h.0 in false≢true (ap (λ (q : Request). q.node.port == 7002) e)
+and_to_no_other h = let e : plain n1 get_a ≡ plain n2 get_a = h.0
+    in false≢true (ap (λ (q : Request). q.node.port == 7002) e)
 
 -- ---- a link that failed, and is used by the next call
 
 abbrev pub failed_then : List PlayedCall → List RepliedCall
-failed_then later = with_replies (taken [] []) (played get_a (Err (by_cause Io)) (plain n2 get_a ∷ []) ∷ later)
+failed_then later = with_replies (taken [] [])
+    (played get_a (Err (by_cause Io)) (plain n2 get_a ∷ []) ∷ later)
 
 pub a_failed_link_refuses : IsPlayedFrom None on_halves a_fault (failed_then [])
 unfolding destination rule_of table hash_slot splitting_of digits first_error
 a_failed_link_refuses = (refl, (refl, refl), refl, tt)
 
-pub and_stays_closed : IsPlayedFrom None on_halves a_fault (failed_then (played get_a (Err (by_cause Io)) (plain n2 get_a ∷ []) ∷ [])) → ⊥
+pub and_stays_closed : IsPlayedFrom None on_halves a_fault
+    (failed_then (played get_a (Err (by_cause Io)) (plain n2 get_a ∷ []) ∷ [])) → ⊥
 unfolding destination rule_of table hash_slot splitting_of digits first_error
 and_stays_closed h = let e = h.3.1 in cc
 
 -- ---- calls that are left out, shown twice, or forgotten, whatever the client
 
-pub three_are_the_calls : query set_a ∷ query get_a ∷ query get_b ∷ [] ≡ map (λ (p : PlayedCall). p.call) three_calls ++ []
+pub three_are_the_calls : query set_a ∷ query get_a ∷ query get_b ∷ []
+    ≡ map (λ (p : PlayedCall). p.call) three_calls ++ []
 three_are_the_calls = refl
 
 abbrev pub argument_count : Call → ℕ
 argument_count (Query command number) = length command.args
 argument_count call = 0
 
-pub another_call_is_not_the_first : (left : List Call) → query get_a ∷ left ≡ map (λ (p : PlayedCall). p.call) three_calls → ⊥
-another_call_is_not_the_first left first = let e : query get_a ≡ query set_a = cc in false≢true (sym (ap (λ c. argument_count c == 2) e))
+pub another_call_is_not_the_first : (left : List Call)
+    → query get_a ∷ left ≡ map (λ (p : PlayedCall). p.call) three_calls → ⊥
+another_call_is_not_the_first left first = let e : query get_a ≡ query set_a = cc
+    in false≢true (sym (ap (λ c. argument_count c == 2) e))
 
-pub a_call_is_not_left_out : (strategy : Option Strategy) (old new : World) (call : Call) → Plays strategy old new (call ∷ []) [] [] true → ⊥
+pub a_call_is_not_left_out : (strategy : Option Strategy) (old new : World) (call : Call)
+    → Plays strategy old new (call ∷ []) [] [] true → ⊥
 a_call_is_not_left_out strategy old new call p = by p.run p.left p.first p.shown (p.whole refl)
   where
-    by : (run : List PlayedCall) (left : List Call) → call ∷ [] ≡ map (λ (t : PlayedCall). t.call) run ++ left → [] ≡ map shown_of run → left ≡ [] → ⊥
+    by : (run : List PlayedCall) (left : List Call) → call ∷ [] ≡ map (λ (t : PlayedCall). t.call) run ++ left
+        → [] ≡ map shown_of run → left ≡ [] → ⊥
     by [] left first shown whole = cc
     by (t ∷ ts) left first shown whole = cc
 
-pub a_call_is_not_shown_twice : (strategy : Option Strategy) (old new : World) (call : Call) (a b : Shown) (all : Bool) → Plays strategy old new (call ∷ []) [] (a ∷ b ∷ []) all → ⊥
+pub a_call_is_not_shown_twice : (strategy : Option Strategy) (old new : World) (call : Call) (a b : Shown)
+    (all : Bool) → Plays strategy old new (call ∷ []) [] (a ∷ b ∷ []) all → ⊥
 a_call_is_not_shown_twice strategy old new call a b all p = by p.run p.first p.shown
   where
-    by : (run : List PlayedCall) → call ∷ [] ≡ map (λ (t : PlayedCall). t.call) run ++ p.left → a ∷ b ∷ [] ≡ map shown_of run → ⊥
+    by : (run : List PlayedCall) → call ∷ [] ≡ map (λ (t : PlayedCall). t.call) run ++ p.left
+        → a ∷ b ∷ [] ≡ map shown_of run → ⊥
     by [] first shown = cc
     by (t ∷ []) first shown = cc
     by (t ∷ u ∷ ts) first shown = cc
 
-pub what_was_shown_is_not_forgotten : (strategy : Option Strategy) (old new : World) (calls : List Call) (shown : Shown) (all : Bool) → Plays strategy old new calls (shown ∷ []) [] all → ⊥
+pub what_was_shown_is_not_forgotten : (strategy : Option Strategy) (old new : World) (calls : List Call)
+    (shown : Shown) (all : Bool) → Plays strategy old new calls (shown ∷ []) [] all → ⊥
 what_was_shown_is_not_forgotten strategy old new calls shown all p = let e = p.shown in cc
 
 -- ---- a link call that is no call's
 
-pub no_calls_have_no_link_calls : (strategy : Option Strategy) (world : World) → CallsMade strategy world world [] []
+pub no_calls_have_no_link_calls : (strategy : Option Strategy) (world : World)
+    → CallsMade strategy world world [] []
 no_calls_have_no_link_calls strategy world = (refl, refl)
 
-pub a_link_call_is_some_calls : (strategy : Option Strategy) (old new : World) (x : Event) (xs : List Event) → CallsMade strategy old new [] (x ∷ xs) → ⊥
+pub a_link_call_is_some_calls : (strategy : Option Strategy) (old new : World) (x : Event) (xs : List Event)
+    → CallsMade strategy old new [] (x ∷ xs) → ⊥
 a_link_call_is_some_calls strategy old new x xs h = let e = h.1 in cc
 
 -- ---- bytes that went out twice
@@ -140,17 +161,21 @@ pub a_request_goes_out : IsSentFor false ((plain n2 get_a ∷ []) ∷ []) (codes
 unfolding digits
 a_request_goes_out = refl
 
-pub a_request_goes_out_once : IsSentFor false ((plain n2 get_a ∷ []) ∷ []) (codes "*2\r\n$3\r\nGET\r\n$1\r\na\r\n*2\r\n$3\r\nGET\r\n$1\r\na\r\n") → ⊥
+pub a_request_goes_out_once : IsSentFor false ((plain n2 get_a ∷ []) ∷ [])
+    (codes "*2\r\n$3\r\nGET\r\n$1\r\na\r\n*2\r\n$3\r\nGET\r\n$1\r\na\r\n") → ⊥
 unfolding digits
 a_request_goes_out_once e = false≢true (ap (λ q. length q == 20) e)
 
 -- ---- a node that changes without being asked, and one that is asked over a closed link
 
-pub a_node_that_is_not_asked_stays : (old new : Seen) (taken : List Tree) (lost : Bool) (fault : LinkFault) → (new ≡ old → ⊥) → NodeMade old new [] taken lost fault → ⊥
+pub a_node_that_is_not_asked_stays : (old new : Seen) (taken : List Tree) (lost : Bool) (fault : LinkFault)
+    → (new ≡ old → ⊥) → NodeMade old new [] taken lost fault → ⊥
 a_node_that_is_not_asked_stays old new taken lost fault other made = other (made.untouched refl)
 
-pub a_closed_link_is_not_asked : (old new : Seen) (q : Request) (taken : List Tree) (lost : Bool) (fault : LinkFault) → old.usable ≡ false → NodeMade old new ((q ∷ []) ∷ []) taken lost fault → ⊥
-a_closed_link_is_not_asked old new q taken lost fault closed made = false≢true (sym closed ∙ made.was_open (λ e. cc))
+pub a_closed_link_is_not_asked : (old new : Seen) (q : Request) (taken : List Tree) (lost : Bool)
+    (fault : LinkFault) → old.usable ≡ false → NodeMade old new ((q ∷ []) ∷ []) taken lost fault → ⊥
+a_closed_link_is_not_asked old new q taken lost fault closed made = false≢true
+    (sym closed ∙ made.was_open (λ e. cc))
 
 -- ---- what is supposed: memory, and calls on slots
 

@@ -38,10 +38,13 @@ impl<L: ConnectionLike + Drop> ClusterClient<L> {
         strategy: Option<&dyn ReadRoutingStrategy>,
     ) -> Result<T, RedisError>
         // What happened, also where memory is refused.
-        ensures happened { Happened (option_map (λ s. admits s.now) strategy.entry) (whole L.seen self.old) (whole L.seen self.new) (Ordered cmd.now order.now number) }
+        ensures happened { Happened (option_map (λ s. admits s.now) strategy.entry) (whole L.seen self.old)
+            (whole L.seen self.new) (Ordered cmd.now order.now number) }
         ensures answered { result ≢ Err (by_cause Memory)
-            → ValueMade (option_map (λ s. admits s.now) strategy.entry) (whole L.seen self.old) (whole L.seen self.new) (Ordered cmd.now order.now number) T.meaning T.convert result }
-        ensures unpicked { result ≡ Err (by_cause Memory) → (whole L.seen self.new).log ≡ [] → (whole L.seen self.new).picked ≡ [] }
+            → ValueMade (option_map (λ s. admits s.now) strategy.entry) (whole L.seen self.old)
+            (whole L.seen self.new) (Ordered cmd.now order.now number) T.meaning T.convert result }
+        ensures unpicked { result ≡ Err (by_cause Memory) → (whole L.seen self.new).log ≡ []
+            → (whole L.seen self.new).picked ≡ [] }
     {
         let reply = self.reply_in_order(alloc, cmd, Some(order), number, strategy)?;
         Ok(from_redis_value(alloc, reply)?)

@@ -31,8 +31,10 @@ impl<L: ConnectionLike + Drop> ClusterClient<L> {
     /// # Errors
     /// `AllocError` where memory is refused: the client stays as it was, and the link is dropped.
     pub fn set_link(&mut self, node: NodeAddress, link: L) -> Result<Option<L>, AllocError>
-        ensures put { IfOk result (λ _. whole L.seen self.new ≡ with_link (whole L.seen self.old) (address node) (L.seen link)) }
-        ensures old { IfOk result (λ old. option_map L.seen old ≡ link_at (whole L.seen self.old).nodes (address node)) }
+        ensures put { IfOk result
+            (λ _. whole L.seen self.new ≡ with_link (whole L.seen self.old) (address node) (L.seen link)) }
+        ensures old { IfOk result
+            (λ old. option_map L.seen old ≡ link_at (whole L.seen self.old).nodes (address node)) }
         ensures stays { IfErr result (λ _. whole L.seen self.new ≡ whole L.seen self.old) }
     {
         match self.links.place_of(&node) {
@@ -66,7 +68,8 @@ impl<L: ConnectionLike + Drop> ClusterClient<L> {
 /// Puts a link in the place of the one that stands there, which is handed back.
 fn replace_link<L: ConnectionLike>(links: &mut Links<L>, which: usize, link: L) -> L
     requires { which < vec_len links.old.nodes }
-    ensures { Calls (nodes L.seen links.old.nodes.items) (nodes L.seen links.new.nodes.items) which (λ before after. (before ≡ L.seen result) × (after ≡ L.seen link)) }
+    ensures { Calls (nodes L.seen links.old.nodes.items) (nodes L.seen links.new.nodes.items) which
+        (λ before after. (before ≡ L.seen result) × (after ≡ L.seen link)) }
 {
     mem::replace(&mut links.nodes[which].1, link)
 }

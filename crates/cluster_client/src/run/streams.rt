@@ -27,7 +27,9 @@ impl<L: ConnectionLike + Drop> ClusterClient<L> {
         fields: &[(Vec<u8>, Vec<u8>)],
         strategy: Option<&dyn ReadRoutingStrategy>,
     ) -> Result<Answer, RedisError>
-        ensures { CallMade (option_map (λ s. admits s.now) strategy.entry) (whole L.seen self.old) (whole L.seen self.new) (OnStreams (Xadd key.now options.now id.now (pairs fields.now))) (answer_result result) }
+        ensures { CallMade (option_map (λ s. admits s.now) strategy.entry) (whole L.seen self.old)
+            (whole L.seen self.new) (OnStreams (Xadd key.now options.now id.now (pairs fields.now)))
+            (answer_result result) }
     {
         let answer = self.xadd(alloc, key, options, id, fields, strategy)?;
         Ok(Answer::Added(answer))
@@ -40,7 +42,8 @@ impl<L: ConnectionLike + Drop> ClusterClient<L> {
         options: &StreamTrimOptions,
         strategy: Option<&dyn ReadRoutingStrategy>,
     ) -> Result<Answer, RedisError>
-        ensures { CallMade (option_map (λ s. admits s.now) strategy.entry) (whole L.seen self.old) (whole L.seen self.new) (OnStreams (Xtrim key.now options.now)) (answer_result result) }
+        ensures { CallMade (option_map (λ s. admits s.now) strategy.entry) (whole L.seen self.old)
+            (whole L.seen self.new) (OnStreams (Xtrim key.now options.now)) (answer_result result) }
     {
         let answer = self.xtrim(alloc, key, options, strategy)?;
         Ok(Answer::Trimmed(answer))
@@ -53,7 +56,9 @@ impl<L: ConnectionLike + Drop> ClusterClient<L> {
         options: &StreamReadOptions,
         strategy: Option<&dyn ReadRoutingStrategy>,
     ) -> Result<Answer, RedisError>
-        ensures { CallMade (option_map (λ s. admits s.now) strategy.entry) (whole L.seen self.old) (whole L.seen self.new) (OnStreams (Xread (streams_in streams.now) options.now)) (answer_result result) }
+        ensures { CallMade (option_map (λ s. admits s.now) strategy.entry) (whole L.seen self.old)
+            (whole L.seen self.new) (OnStreams (Xread (streams_in streams.now) options.now))
+            (answer_result result) }
     {
         let answer = self.xread(alloc, streams, options, strategy)?;
         Ok(Answer::Read(answer))
@@ -67,7 +72,8 @@ impl<L: ConnectionLike + Drop> ClusterClient<L> {
         end: &[u8],
         strategy: Option<&dyn ReadRoutingStrategy>,
     ) -> Result<Answer, RedisError>
-        ensures { CallMade (option_map (λ s. admits s.now) strategy.entry) (whole L.seen self.old) (whole L.seen self.new) (OnStreams (Xrange key.now start.now end.now)) (answer_result result) }
+        ensures { CallMade (option_map (λ s. admits s.now) strategy.entry) (whole L.seen self.old)
+            (whole L.seen self.new) (OnStreams (Xrange key.now start.now end.now)) (answer_result result) }
     {
         let answer = self.xrange(alloc, key, start, end, strategy)?;
         Ok(Answer::Range(answer))
@@ -81,7 +87,10 @@ impl<L: ConnectionLike + Drop> ClusterClient<L> {
         options: &StreamClaimOptions,
         strategy: Option<&dyn ReadRoutingStrategy>,
     ) -> Result<Answer, RedisError>
-        ensures { CallMade (option_map (λ s. admits s.now) strategy.entry) (whole L.seen self.old) (whole L.seen self.new) (OnStreams (Xclaim (claimant_in claimant.now) (texts ids.now) options.now)) (answer_result result) }
+        ensures { CallMade (option_map (λ s. admits s.now) strategy.entry) (whole L.seen self.old)
+            (whole L.seen self.new)
+            (OnStreams (Xclaim (claimant_in claimant.now) (texts ids.now) options.now))
+            (answer_result result) }
     {
         let answer = self.xclaim(
             alloc,
@@ -104,7 +113,9 @@ impl<L: ConnectionLike + Drop> ClusterClient<L> {
         options: &StreamAutoClaimOptions,
         strategy: Option<&dyn ReadRoutingStrategy>,
     ) -> Result<Answer, RedisError>
-        ensures { CallMade (option_map (λ s. admits s.now) strategy.entry) (whole L.seen self.old) (whole L.seen self.new) (OnStreams (Xautoclaim (claimant_in claimant.now) start.now options.now)) (answer_result result) }
+        ensures { CallMade (option_map (λ s. admits s.now) strategy.entry) (whole L.seen self.old)
+            (whole L.seen self.new) (OnStreams (Xautoclaim (claimant_in claimant.now) start.now options.now))
+            (answer_result result) }
     {
         let answer = self.xautoclaim(
             alloc,
@@ -126,7 +137,8 @@ impl<L: ConnectionLike + Drop> ClusterClient<L> {
         group: &[u8],
         strategy: Option<&dyn ReadRoutingStrategy>,
     ) -> Result<Answer, RedisError>
-        ensures { CallMade (option_map (λ s. admits s.now) strategy.entry) (whole L.seen self.old) (whole L.seen self.new) (OnStreams (Xpending key.now group.now)) (answer_result result) }
+        ensures { CallMade (option_map (λ s. admits s.now) strategy.entry) (whole L.seen self.old)
+            (whole L.seen self.new) (OnStreams (Xpending key.now group.now)) (answer_result result) }
     {
         let answer = self.xpending(alloc, key, group, strategy)?;
         Ok(Answer::Pending(answer))
@@ -138,7 +150,8 @@ impl<L: ConnectionLike + Drop> ClusterClient<L> {
         key: &[u8],
         strategy: Option<&dyn ReadRoutingStrategy>,
     ) -> Result<Answer, RedisError>
-        ensures { CallMade (option_map (λ s. admits s.now) strategy.entry) (whole L.seen self.old) (whole L.seen self.new) (OnStreams (XinfoStream key.now)) (answer_result result) }
+        ensures { CallMade (option_map (λ s. admits s.now) strategy.entry) (whole L.seen self.old)
+            (whole L.seen self.new) (OnStreams (XinfoStream key.now)) (answer_result result) }
     {
         let answer = self.xinfo_stream(alloc, key, strategy)?;
         Ok(Answer::Stream(answer))
@@ -150,7 +163,8 @@ impl<L: ConnectionLike + Drop> ClusterClient<L> {
         key: &[u8],
         strategy: Option<&dyn ReadRoutingStrategy>,
     ) -> Result<Answer, RedisError>
-        ensures { CallMade (option_map (λ s. admits s.now) strategy.entry) (whole L.seen self.old) (whole L.seen self.new) (OnStreams (XinfoGroups key.now)) (answer_result result) }
+        ensures { CallMade (option_map (λ s. admits s.now) strategy.entry) (whole L.seen self.old)
+            (whole L.seen self.new) (OnStreams (XinfoGroups key.now)) (answer_result result) }
     {
         let answer = self.xinfo_groups(alloc, key, strategy)?;
         Ok(Answer::Groups(answer))
@@ -163,7 +177,8 @@ impl<L: ConnectionLike + Drop> ClusterClient<L> {
         group: &[u8],
         strategy: Option<&dyn ReadRoutingStrategy>,
     ) -> Result<Answer, RedisError>
-        ensures { CallMade (option_map (λ s. admits s.now) strategy.entry) (whole L.seen self.old) (whole L.seen self.new) (OnStreams (XinfoConsumers key.now group.now)) (answer_result result) }
+        ensures { CallMade (option_map (λ s. admits s.now) strategy.entry) (whole L.seen self.old)
+            (whole L.seen self.new) (OnStreams (XinfoConsumers key.now group.now)) (answer_result result) }
     {
         let answer = self.xinfo_consumers(alloc, key, group, strategy)?;
         Ok(Answer::Consumers(answer))
@@ -177,7 +192,9 @@ impl<L: ConnectionLike + Drop> ClusterClient<L> {
         policy: &StreamDeletionPolicy,
         strategy: Option<&dyn ReadRoutingStrategy>,
     ) -> Result<Answer, RedisError>
-        ensures { CallMade (option_map (λ s. admits s.now) strategy.entry) (whole L.seen self.old) (whole L.seen self.new) (OnStreams (XdelEx key.now (texts ids.now) policy.now)) (answer_result result) }
+        ensures { CallMade (option_map (λ s. admits s.now) strategy.entry) (whole L.seen self.old)
+            (whole L.seen self.new) (OnStreams (XdelEx key.now (texts ids.now) policy.now))
+            (answer_result result) }
     {
         let answer = self.xdel_ex(alloc, key, ids, same(policy), strategy)?;
         Ok(Answer::Deleted(answer))

@@ -19,7 +19,8 @@ use std::alloc::{AllocError, Global};
 /// # Errors
 /// `UnexpectedReturnType` where a reply is no array. `Memory` where memory is refused.
 pub fn combine_array_results(alloc: Global, values: Vec<Value>) -> Result<Value, RedisError>
-    ensures { result ≢ Err (by_cause Memory) → tree_or_refusal result ≡ or_bad_reply (array_of_all (map view values.items)) }
+    ensures { result ≢ Err (by_cause Memory)
+        → tree_or_refusal result ≡ or_bad_reply (array_of_all (map view values.items)) }
 {
     match items_of_all(alloc, values)? {
         Some(items) => Ok(Value::Array(items)),
@@ -28,7 +29,8 @@ pub fn combine_array_results(alloc: Global, values: Vec<Value>) -> Result<Value,
 }
 
 fn items_of_all(alloc: Global, values: Vec<Value>) -> Result<Option<Vec<Value>>, AllocError>
-    ensures { IfOk result (λ o. option_map (λ v. array_of (map view v.items)) o ≡ array_of_all (map view values.items)) }
+    ensures { IfOk result
+        (λ o. option_map (λ v. array_of (map view v.items)) o ≡ array_of_all (map view values.items)) }
 {
     if !are_arrays(&values) {
         return Ok(None);

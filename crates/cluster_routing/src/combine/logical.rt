@@ -25,7 +25,8 @@ pub fn logical_aggregate(
     values: Vec<Value>,
     op: LogicalAggregateOp,
 ) -> Result<Value, RedisError>
-    ensures { result ≢ Err (by_cause Memory) → tree_or_refusal result ≡ or_bad_reply (and_tree (map view values.items)) }
+    ensures { result ≢ Err (by_cause Memory)
+        → tree_or_refusal result ≡ or_bad_reply (and_tree (map view values.items)) }
 {
     let LogicalAggregateOp::And = op;
     match numbers_of_all(alloc, &values)? {
@@ -35,7 +36,8 @@ pub fn logical_aggregate(
 }
 
 fn numbers_of_all(alloc: Global, values: &[Value]) -> Result<Option<Vec<Value>>, AllocError>
-    ensures { IfOk result (λ o. option_map (λ v. array_of (map view v.items)) o ≡ and_tree (map view values.now)) }
+    ensures { IfOk result
+        (λ o. option_map (λ v. array_of (map view v.items)) o ≡ and_tree (map view values.now)) }
 {
     match all_flags(alloc, values)? {
         Some(flags) => Ok(Some(numbers_of(alloc, &flags)?)),
@@ -46,7 +48,9 @@ fn numbers_of_all(alloc: Global, values: &[Value]) -> Result<Option<Vec<Value>>,
 /// Whether no reply has a zero at each place; `None` where one is of another shape or length.
 #[tactic(auto, using(crate::proofs::Flags::first_flags))]
 fn all_flags(alloc: Global, values: &[Value]) -> Result<Option<Vec<bool>>, AllocError>
-    ensures { IfOk result (λ o. option_map (λ v. v.items) o ≡ option_and_then all_flags (traverse flags_in (map view values.now))) }
+    ensures { IfOk result
+        (λ o. option_map (λ v. v.items) o
+        ≡ option_and_then all_flags (traverse flags_in (map view values.now))) }
 {
     match values {
         [] => Ok(Some(Vec::new(alloc))),
@@ -63,7 +67,9 @@ fn with_flags(
     mut flags: Vec<bool>,
     more: &[Value],
 ) -> Result<Option<Vec<bool>>, AllocError>
-    ensures { IfOk result (λ o. option_map (λ v. v.items) o ≡ option_and_then (λ lists. all_flags (flags.items ∷ lists)) (traverse flags_in (map view more.now))) }
+    ensures { IfOk result
+        (λ o. option_map (λ v. v.items) o
+        ≡ option_and_then (λ lists. all_flags (flags.items ∷ lists)) (traverse flags_in (map view more.now))) }
 {
     'more: for value in more {
         match and_flags(alloc, &flags, value)? {
@@ -75,7 +81,9 @@ fn with_flags(
 }
 
 fn and_flags(alloc: Global, flags: &[bool], value: &Value) -> Result<Option<Vec<bool>>, AllocError>
-    ensures { IfOk result (λ o. option_map (λ v. v.items) o ≡ option_and_then (both_flags flags.now) (flags_in (view value.now))) }
+    ensures { IfOk result
+        (λ o. option_map (λ v. v.items) o
+        ≡ option_and_then (both_flags flags.now) (flags_in (view value.now))) }
 {
     match flags_in(alloc, value)? {
         Some(others) => both_flags(alloc, flags, &others),
@@ -120,7 +128,9 @@ fn flags_in(alloc: Global, value: &Value) -> Result<Option<Vec<bool>>, AllocErro
 }
 
 fn flags_of(alloc: Global, items: &[Value]) -> Result<Option<Vec<bool>>, AllocError>
-    ensures { IfOk result (λ o. option_map (λ v. v.items) o ≡ traverse (λ t. option_map (λ n. not (is_zero n)) (int_in t)) (map view items.now)) }
+    ensures { IfOk result
+        (λ o. option_map (λ v. v.items) o
+        ≡ traverse (λ t. option_map (λ n. not (is_zero n)) (int_in t)) (map view items.now)) }
 {
     let mut flags = Vec::new(alloc);
     'items: for item in items {

@@ -28,7 +28,8 @@ use std::collections::BTreeMap;
 /// `UnexpectedReturnType` where a reply is of another shape, or a sum does not fit 64 bits. `Memory`
 /// where memory is refused.
 pub fn combine_map_results(alloc: Global, values: Vec<Value>) -> Result<Value, RedisError>
-    ensures { result ≢ Err (by_cause Memory) → tree_or_refusal result ≡ or_bad_reply (counts_tree (map view values.items)) }
+    ensures { result ≢ Err (by_cause Memory)
+        → tree_or_refusal result ≡ or_bad_reply (counts_tree (map view values.items)) }
 {
     match pairs_of_all(alloc, values)? {
         Some(pairs) => Ok(Value::Map(pairs)),
@@ -40,7 +41,9 @@ fn pairs_of_all(
     alloc: Global,
     values: Vec<Value>,
 ) -> Result<Option<Vec<(Value, Value)>>, AllocError>
-    ensures { IfOk result (λ o. option_map (λ v. map_tree (pairs_of (map pair_view v.items))) o ≡ counts_tree (map view values.items)) }
+    ensures { IfOk result
+        (λ o. option_map (λ v. map_tree (pairs_of (map pair_view v.items))) o
+        ≡ counts_tree (map view values.items)) }
 {
     match counts_in_all(alloc, values)? {
         Some(counts) => pairs_of(alloc, sums_of(alloc, counts)?),
@@ -53,7 +56,9 @@ fn counts_in_all(
     alloc: Global,
     values: Vec<Value>,
 ) -> Result<Option<Vec<(Vec<u8>, i64)>>, AllocError>
-    ensures { IfOk result (λ o. option_map (λ v. shown_counts v.items) o ≡ option_map (λ lists. concat lists) (traverse counts_in (map view values.items))) }
+    ensures { IfOk result
+        (λ o. option_map (λ v. shown_counts v.items) o
+        ≡ option_map (λ lists. concat lists) (traverse counts_in (map view values.items))) }
 {
     let mut counts = Vec::new(alloc);
     'values: for value in values {
@@ -66,7 +71,9 @@ fn counts_in_all(
 
 /// Puts the counts of a reply behind others; false where it has another shape.
 fn push_counts(counts: &mut Vec<(Vec<u8>, i64)>, value: Value) -> Result<bool, AllocError>
-    ensures { IfOk result (λ fits. (if fits then Some (shown_counts counts.new.items) else None) ≡ option_map (λ more. shown_counts counts.old.items ++ more) (counts_in (view value))) }
+    ensures { IfOk result
+        (λ fits. (if fits then Some (shown_counts counts.new.items) else None)
+        ≡ option_map (λ more. shown_counts counts.old.items ++ more) (counts_in (view value))) }
 {
     match value.into_map_iter() {
         Ok(pairs) => push_pairs(counts, pairs),
@@ -75,7 +82,9 @@ fn push_counts(counts: &mut Vec<(Vec<u8>, i64)>, value: Value) -> Result<bool, A
 }
 
 fn push_pairs(counts: &mut Vec<(Vec<u8>, i64)>, pairs: OwnedMapIter) -> Result<bool, AllocError>
-    ensures { IfOk result (λ fits. (if fits then Some (shown_counts counts.new.items) else None) ≡ option_map (λ more. shown_counts counts.old.items ++ more) (traverse count_in (owned_left pairs))) }
+    ensures { IfOk result
+        (λ fits. (if fits then Some (shown_counts counts.new.items) else None)
+        ≡ option_map (λ more. shown_counts counts.old.items ++ more) (traverse count_in (owned_left pairs))) }
 {
     'pairs: for pair in pairs {
         match count_in(pair) {
@@ -114,7 +123,8 @@ fn sums_of(
     alloc: Global,
     counts: Vec<(Vec<u8>, i64)>,
 ) -> Result<BTreeMap<Vec<u8>, i128>, AllocError>
-    ensures { IfOk result (λ sums. shown_counts sums.entries ≡ fold (λ sums c. add_count c sums) [] (shown_counts counts.items)) }
+    ensures { IfOk result
+        (λ sums. shown_counts sums.entries ≡ fold (λ sums c. add_count c sums) [] (shown_counts counts.items)) }
 {
     let mut sums = BTreeMap::new(alloc);
     'counts: for count in counts {
@@ -125,7 +135,8 @@ fn sums_of(
 
 fn add_count(sums: &mut BTreeMap<Vec<u8>, i128>, key: Vec<u8>, n: i64) -> Result<(), AllocError>
     requires { AreWithin (2 ^ 126) (shown_counts sums.old.entries) }
-    ensures { IfOk result (λ _. shown_counts sums.new.entries ≡ add_count (key.items, n) (shown_counts sums.old.entries)) }
+    ensures { IfOk result
+        (λ _. shown_counts sums.new.entries ≡ add_count (key.items, n) (shown_counts sums.old.entries)) }
 {
     let sum = sum_under(sums, &key) + i128::from(n);
     sums.insert(key, sum)?;
@@ -147,7 +158,8 @@ fn pairs_of(
     alloc: Global,
     mut sums: BTreeMap<Vec<u8>, i128>,
 ) -> Result<Option<Vec<(Value, Value)>>, AllocError>
-    ensures { IfOk result (λ o. option_map (λ v. map pair_view v.items) o ≡ traverse count_pair (shown_counts sums.entries)) }
+    ensures { IfOk result
+        (λ o. option_map (λ v. map pair_view v.items) o ≡ traverse count_pair (shown_counts sums.entries)) }
 {
     let mut pairs = Vec::new(alloc);
     'sums: while let Some((key, sum)) = sums.pop_first() {

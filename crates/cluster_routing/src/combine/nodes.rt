@@ -34,7 +34,8 @@ pub fn combine_nodes(
     policy: ResponsePolicy,
     outcomes: Vec<(NodeAddress, Result<Value, RedisError>)>,
 ) -> Result<Value, RedisError>
-    ensures { result ≢ Err (by_cause Memory) → tree_or_refusal result ≡ combine_outcomes policy (outcomes_of outcomes.items) }
+    ensures { result ≢ Err (by_cause Memory)
+        → tree_or_refusal result ≡ combine_outcomes policy (outcomes_of outcomes.items) }
 {
     match policy {
         ResponsePolicy::AllSucceeded => all_succeeded(outcomes),
@@ -51,7 +52,9 @@ fn combine_values(
     policy: ResponsePolicy,
     values: Vec<Value>,
 ) -> Result<Value, RedisError>
-    ensures { policy ≢ Special → (replies : List (Address × Tree)) → map view values.items ≡ trees_by replies → result ≢ Err (by_cause Memory) → tree_or_refusal result ≡ or_bad_reply (combine_replies policy replies) }
+    ensures { policy ≢ Special → (replies : List (Address × Tree)) → map view values.items ≡ trees_by replies
+        → result ≢ Err (by_cause Memory)
+        → tree_or_refusal result ≡ or_bad_reply (combine_replies policy replies) }
 {
     match policy {
         ResponsePolicy::Aggregate(op) => aggregate(values, op),
@@ -67,7 +70,8 @@ fn values_in(
     alloc: Global,
     outcomes: Vec<(NodeAddress, Result<Value, RedisError>)>,
 ) -> Result<Vec<Value>, RedisError>
-    ensures { result ≢ Err (by_cause Memory) → values_or_refusal result ≡ trees_or_refusal (all_replies (outcomes_of outcomes.items)) }
+    ensures { result ≢ Err (by_cause Memory)
+        → values_or_refusal result ≡ trees_or_refusal (all_replies (outcomes_of outcomes.items)) }
 {
     let mut values = Vec::new(alloc);
     'outcomes: for outcome in outcomes {
@@ -82,7 +86,8 @@ fn by_address(
     alloc: Global,
     outcomes: Vec<(NodeAddress, Result<Value, RedisError>)>,
 ) -> Result<Value, RedisError>
-    ensures { result ≢ Err (by_cause Memory) → tree_or_refusal result ≡ map_or_refusal (all_replies (outcomes_of outcomes.items)) }
+    ensures { result ≢ Err (by_cause Memory)
+        → tree_or_refusal result ≡ map_or_refusal (all_replies (outcomes_of outcomes.items)) }
 {
     let mut pairs = Vec::new(alloc);
     'outcomes: for outcome in outcomes {

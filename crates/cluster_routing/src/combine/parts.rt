@@ -34,8 +34,15 @@ pub fn combine_parts(
     pattern: MultiSlotArgPattern,
     policy: ResponsePolicy,
 ) -> Result<Value, RedisError>
-    ensures any { result ≢ Err (by_cause Memory) → tree_or_refusal result ≡ or_bad_reply (combine_at policy (width_of pattern) (map (λ p. p.1) (map shown_part routes.now)) (map view values.items)) }
-    ensures cut { (args : List (List ℕ)) (s : Split) (order : List ℕ) → IsCutInto args s order (record { pattern = pattern; policy = policy }) (map (λ p. p.1) (map shown_part routes.now)) (length values.items) → result ≢ Err (by_cause Memory) → tree_or_refusal result ≡ or_bad_reply (combine s (part_replies (slots_by order s) (map view values.items))) }
+    ensures any { result ≢ Err (by_cause Memory)
+        → tree_or_refusal result
+        ≡ or_bad_reply (combine_at policy (width_of pattern) (map (λ p. p.1) (map shown_part routes.now))
+        (map view values.items)) }
+    ensures cut { (args : List (List ℕ)) (s : Split) (order : List ℕ)
+        → IsCutInto args s order (record { pattern = pattern; policy = policy })
+        (map (λ p. p.1) (map shown_part routes.now)) (length values.items) → result ≢ Err (by_cause Memory)
+        → tree_or_refusal result
+        ≡ or_bad_reply (combine s (part_replies (slots_by order s) (map view values.items))) }
 {
     match policy {
         ResponsePolicy::CombineArrays => {

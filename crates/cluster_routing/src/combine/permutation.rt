@@ -27,8 +27,10 @@ fn marks_each_once(marks: &mut [bool], places: &[usize]) -> bool
 
 /// Marks each place; false where one is too large, or marked already.
 fn mark_each(marks: &mut [bool], places: &[usize]) -> bool
-    ensures fresh { result ≡ (list_all (λ p. not (slice_index_or marks.old p true)) places.now && is_distinct nat_eq places.now) }
-    ensures marked { result ≡ true → (p : ℕ) → slice_index_or marks.new p true ≡ (slice_index_or marks.old p true || among nat_eq p places.now) }
+    ensures fresh { result
+        ≡ (list_all (λ p. not (slice_index_or marks.old p true)) places.now && is_distinct nat_eq places.now) }
+    ensures marked { result ≡ true → (p : ℕ)
+        → slice_index_or marks.new p true ≡ (slice_index_or marks.old p true || among nat_eq p places.now) }
     ensures len { length marks.new ≡ length marks.old }
 {
     'places: for place in places {

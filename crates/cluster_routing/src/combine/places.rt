@@ -31,7 +31,10 @@ pub fn combine_and_sort_array_results(
     order: &[(Route, Vec<usize>)],
     pattern: MultiSlotArgPattern,
 ) -> Result<Value, RedisError>
-    ensures { result ≢ Err (by_cause Memory) → tree_or_refusal result ≡ or_bad_reply (items_by_place (map (λ p. tuple_places (width_of pattern) p.1.items) order.now) (map view values.items)) }
+    ensures { result ≢ Err (by_cause Memory)
+        → tree_or_refusal result
+        ≡ or_bad_reply (items_by_place (map (λ p. tuple_places (width_of pattern) p.1.items) order.now)
+        (map view values.items)) }
 {
     match items_by_place(alloc, values, order, width_of(pattern))? {
         Some(items) => Ok(Value::Array(items)),
@@ -57,7 +60,9 @@ fn items_by_place(
     width: usize,
 ) -> Result<Option<Vec<Value>>, AllocError>
     requires { 0 < width }
-    ensures { IfOk result (λ o. option_map (λ v. array_of (map view v.items)) o ≡ items_by_place (map (λ p. tuple_places width p.1.items) order.now) (map view values.items)) }
+    ensures { IfOk result
+        (λ o. option_map (λ v. array_of (map view v.items)) o
+        ≡ items_by_place (map (λ p. tuple_places width p.1.items) order.now) (map view values.items)) }
 {
     let lists = lists_of(alloc, order, width)?;
     if !are_lists_of(&lists, &values) {
@@ -78,7 +83,8 @@ fn lists_of(
     width: usize,
 ) -> Result<Vec<Vec<usize>>, AllocError>
     requires { 0 < width }
-    ensures { IfOk result (λ v. map (λ l. l.items) v.items ≡ map (λ p. tuple_places width p.1.items) order.now) }
+    ensures { IfOk result
+        (λ v. map (λ l. l.items) v.items ≡ map (λ p. tuple_places width p.1.items) order.now) }
 {
     let mut lists = Vec::new(alloc);
     'order: for part in order {
@@ -164,7 +170,8 @@ pub(super) fn items_in(alloc: Global, values: Vec<Value>) -> Result<Vec<Value>, 
 }
 
 fn push_items(items: &mut Vec<Value>, value: Value) -> Result<(), AllocError>
-    ensures { IfOk result (λ _. map view items.new.items ≡ map view items.old.items ++ items_or_none (view value)) }
+    ensures { IfOk result
+        (λ _. map view items.new.items ≡ map view items.old.items ++ items_or_none (view value)) }
 {
     match value {
         Value::Array(mut more) => items.append(&mut more),
@@ -201,7 +208,8 @@ fn fill(
     requires same { length items.items ≡ length places.now }
     requires below { list_all (λ p. nat_lt p (length places.now)) places.now ≡ true }
     requires empty { map (option_map view) table.items ≡ map (λ _. None) (numbers_below (length places.now)) }
-    ensures { map (option_map view) result.items ≡ map (item_at places.now (map view items.items)) (numbers_below (length places.now)) }
+    ensures { map (option_map view) result.items
+        ≡ map (item_at places.now (map view items.items)) (numbers_below (length places.now)) }
 {
     'items: while let Some(item) = items.pop() {
         put(&mut table, places[items.len()], item);

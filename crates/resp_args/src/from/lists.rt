@@ -42,7 +42,8 @@ impl<T: FromRedisValue> FromRedisValue for Option<T> {
     }
 }
 
-/// The items of an array or a set, no items for no value, the pairs of a map each as a map of its own, or a bulk alone.
+/// The items of an array or a set, no items for no value, the pairs of a map each as a map of its own, or a
+/// bulk alone.
 #[tactic(auto, using(crate::proofs::Answering::answering))]
 impl<T: FromRedisValue> FromRedisValue for Vec<T> {
     ghost Meaning = { List T.Meaning };
@@ -113,7 +114,8 @@ fn each_pair<T: FromRedisValue>(
     alloc: Global,
     pairs: Vec<(Value, Value)>,
 ) -> Result<Vec<T>, ParsingError>
-    ensures { Answers (λ v. each T.meaning v.items) (traverse (λ p. T.convert (one_pair p)) (each pair_view pairs.items)) result }
+    ensures { Answers (λ v. each T.meaning v.items)
+        (traverse (λ p. T.convert (one_pair p)) (each pair_view pairs.items)) result }
 {
     let mut list = Vec::with_capacity(alloc, pairs.len())?;
     for pair in pairs {

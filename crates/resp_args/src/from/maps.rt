@@ -51,7 +51,8 @@ fn convert_pairs<K: FieldName, V: FromRedisValue>(
     alloc: Global,
     value: Value,
 ) -> Result<IndexMap<K, V>, ParsingError>
-    ensures { Answers (λ m. each (λ e. (K.meaning e.0, V.meaning e.1)) m.entries) (option_and_then (fields_of K.convert V.convert K.same) (pairs_in (view value))) result }
+    ensures { Answers (λ m. each (λ e. (K.meaning e.0, V.meaning e.1)) m.entries)
+        (option_and_then (fields_of K.convert V.convert K.same) (pairs_in (view value))) result }
 {
     match value.into_map_iter() {
         Ok(pairs) => collect(alloc, each_pair(alloc, pairs)?),
@@ -63,7 +64,8 @@ fn convert_pairs_ref<K: FieldName, V: FromRedisValue>(
     alloc: Global,
     value: &Value,
 ) -> Result<IndexMap<K, V>, ParsingError>
-    ensures { Answers (λ m. each (λ e. (K.meaning e.0, V.meaning e.1)) m.entries) (option_and_then (fields_of K.convert V.convert K.same) (pairs_in (view value.now))) result }
+    ensures { Answers (λ m. each (λ e. (K.meaning e.0, V.meaning e.1)) m.entries)
+        (option_and_then (fields_of K.convert V.convert K.same) (pairs_in (view value.now))) result }
 {
     match value.as_map_iter() {
         Some(pairs) => collect(alloc, each_pair_ref(alloc, pairs)?),
@@ -90,7 +92,8 @@ fn each_pair<K: FromRedisValue, V: FromRedisValue>(
     alloc: Global,
     pairs: OwnedMapIter,
 ) -> Result<Vec<(K, V)>, ParsingError>
-    ensures { Answers (λ v. each (λ e. (K.meaning e.0, V.meaning e.1)) v.items) (traverse (part_by_part K.convert V.convert) (owned_left pairs)) result }
+    ensures { Answers (λ v. each (λ e. (K.meaning e.0, V.meaning e.1)) v.items)
+        (traverse (part_by_part K.convert V.convert) (owned_left pairs)) result }
 {
     let mut list = Vec::new(alloc);
     for pair in pairs {
@@ -103,7 +106,8 @@ fn convert_both<K: FromRedisValue, V: FromRedisValue>(
     alloc: Global,
     pair: (Value, Value),
 ) -> Result<(K, V), ParsingError>
-    ensures { Answers (λ e. (K.meaning e.0, V.meaning e.1)) (part_by_part K.convert V.convert (pair_view pair)) result }
+    ensures { Answers (λ e. (K.meaning e.0, V.meaning e.1))
+        (part_by_part K.convert V.convert (pair_view pair)) result }
 {
     let (key, value) = pair;
     Ok((
@@ -116,7 +120,8 @@ fn each_pair_ref<K: FromRedisValue, V: FromRedisValue>(
     alloc: Global,
     pairs: MapIter<'_>,
 ) -> Result<Vec<(K, V)>, ParsingError>
-    ensures { Answers (λ v. each (λ e. (K.meaning e.0, V.meaning e.1)) v.items) (traverse (part_by_part K.convert V.convert) (pairs_left pairs.entry)) result }
+    ensures { Answers (λ v. each (λ e. (K.meaning e.0, V.meaning e.1)) v.items)
+        (traverse (part_by_part K.convert V.convert) (pairs_left pairs.entry)) result }
 {
     let mut list = Vec::new(alloc);
     for pair in pairs {
@@ -129,7 +134,8 @@ fn convert_both_ref<K: FromRedisValue, V: FromRedisValue>(
     alloc: Global,
     pair: (&Value, &Value),
 ) -> Result<(K, V), ParsingError>
-    ensures { Answers (λ e. (K.meaning e.0, V.meaning e.1)) (part_by_part K.convert V.convert (view pair.entry.0.now, view pair.entry.1.now)) result }
+    ensures { Answers (λ e. (K.meaning e.0, V.meaning e.1))
+        (part_by_part K.convert V.convert (view pair.entry.0.now, view pair.entry.1.now)) result }
 {
     Ok((
         K::from_redis_value_ref(alloc, pair.0)?,

@@ -38,7 +38,8 @@ fn two<A: FromRedisValue, B: FromRedisValue>(
     alloc: Global,
     items: Vec<Value>,
 ) -> Result<(A, B), ParsingError>
-    ensures { Answers (λ p. (A.meaning p.0, B.meaning p.1)) (pair_of A.convert B.convert (each view items.items)) result }
+    ensures { Answers (λ p. (A.meaning p.0, B.meaning p.1))
+        (pair_of A.convert B.convert (each view items.items)) result }
 {
     match <[Value; 2]>::try_from(items) {
         Ok(both) => {
@@ -56,7 +57,8 @@ fn lone<A: FromRedisValue, B: FromRedisValue>(
     alloc: Global,
     mut pairs: Vec<(Value, Value)>,
 ) -> Result<(A, B), ParsingError>
-    ensures { Answers (λ p. (A.meaning p.0, B.meaning p.1)) (lone_pair A.convert B.convert (each pair_view pairs.items)) result }
+    ensures { Answers (λ p. (A.meaning p.0, B.meaning p.1))
+        (lone_pair A.convert B.convert (each pair_view pairs.items)) result }
 {
     if pairs.len() != 1 {
         return Err(ParsingError::fixed("a map of one pair was wanted"));
@@ -98,7 +100,8 @@ fn triple<A: FromRedisValue, B: FromRedisValue, C: FromRedisValue>(
     alloc: Global,
     items: Vec<Value>,
 ) -> Result<(A, B, C), ParsingError>
-    ensures { Answers (λ p. (A.meaning p.0, B.meaning p.1, C.meaning p.2)) (triple_of A.convert B.convert C.convert (each view items.items)) result }
+    ensures { Answers (λ p. (A.meaning p.0, B.meaning p.1, C.meaning p.2))
+        (triple_of A.convert B.convert C.convert (each view items.items)) result }
 {
     match <[Value; 3]>::try_from(items) {
         Ok(all) => {
@@ -142,7 +145,8 @@ fn quadruple<A: FromRedisValue, B: FromRedisValue, C: FromRedisValue, D: FromRed
     alloc: Global,
     items: Vec<Value>,
 ) -> Result<(A, B, C, D), ParsingError>
-    ensures { Answers (λ p. (A.meaning p.0, B.meaning p.1, C.meaning p.2, D.meaning p.3)) (quadruple_of A.convert B.convert C.convert D.convert (each view items.items)) result }
+    ensures { Answers (λ p. (A.meaning p.0, B.meaning p.1, C.meaning p.2, D.meaning p.3))
+        (quadruple_of A.convert B.convert C.convert D.convert (each view items.items)) result }
 {
     match <[Value; 4]>::try_from(items) {
         Ok(all) => {

@@ -50,7 +50,8 @@ pub(crate) fn write_two<A: ToRedisArgs, B: ToRedisArgs, W: RedisWrite>(
     second: &B,
     out: &mut W,
 ) -> Result<(), AllocError>
-    ensures writes { Writes result (W.written out.old) (A.args first.now ++ B.args second.now) (W.written out.new) }
+    ensures writes { Writes result (W.written out.old) (A.args first.now ++ B.args second.now)
+        (W.written out.new) }
     ensures keeps { W.beside out.new ≡ W.beside out.old }
 {
     first.write_redis_args(out)?;
@@ -63,7 +64,8 @@ fn write_three<A: ToRedisArgs, B: ToRedisArgs, C: ToRedisArgs, W: RedisWrite>(
     third: &C,
     out: &mut W,
 ) -> Result<(), AllocError>
-    ensures writes { Writes result (W.written out.old) (A.args first.now ++ B.args second.now ++ C.args third.now) (W.written out.new) }
+    ensures writes { Writes result (W.written out.old)
+        (A.args first.now ++ B.args second.now ++ C.args third.now) (W.written out.new) }
     ensures keeps { W.beside out.new ≡ W.beside out.old }
 {
     write_two(first, second, out)?;

@@ -66,7 +66,8 @@ fn number_word(word: &[u8]) -> Option<u16>
 
 /// The address text and the number that a redirect's detail names.
 pub(crate) fn redirect_words(detail: &str) -> Option<(&str, u16)>
-    ensures { option_map (λ words. record { address = words.0.now; slot = words.1 }) result ≡ redirect_words detail.now }
+    ensures { option_map (λ words. record { address = words.0.now; slot = words.1 }) result
+        ≡ redirect_words detail.now }
 {
     let number = behind_space(detail.as_bytes());
     let Some(slot) = number_word(front_word(number)) else {

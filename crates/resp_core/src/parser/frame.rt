@@ -37,7 +37,8 @@ pub(crate) enum Opened {
 }
 
 fn open_array(alloc: Global, count: u64) -> Opened
-    ensures opens { (k : ℕ) → (bs : List ℕ) → Opens k bs result (grouped rows.Array (group_at (value_at k) rows.Array count bs)) }
+    ensures opens { (k : ℕ) → (bs : List ℕ)
+        → Opens k bs result (grouped rows.Array (group_at (value_at k) rows.Array count bs)) }
     ensures room { room_at_opening result ≡ 0 }
 {
     let items = Vec::new(alloc);
@@ -48,7 +49,8 @@ fn open_array(alloc: Global, count: u64) -> Opened
 }
 
 fn open_set(alloc: Global, count: u64) -> Opened
-    ensures opens { (k : ℕ) → (bs : List ℕ) → Opens k bs result (grouped rows.Set (group_at (value_at k) rows.Set count bs)) }
+    ensures opens { (k : ℕ) → (bs : List ℕ)
+        → Opens k bs result (grouped rows.Set (group_at (value_at k) rows.Set count bs)) }
     ensures room { room_at_opening result ≡ 0 }
 {
     let items = Vec::new(alloc);
@@ -60,7 +62,8 @@ fn open_set(alloc: Global, count: u64) -> Opened
 
 fn open_map(alloc: Global, count: u64) -> Opened
     requires { Splits rows.Map count }
-    ensures opens { (k : ℕ) → (bs : List ℕ) → Opens k bs result (grouped rows.Map (group_at (value_at k) rows.Map count bs)) }
+    ensures opens { (k : ℕ) → (bs : List ℕ)
+        → Opens k bs result (grouped rows.Map (group_at (value_at k) rows.Map count bs)) }
     ensures room { room_at_opening result ≡ 0 }
 {
     let pairs = Vec::new(alloc);
@@ -72,14 +75,16 @@ fn open_map(alloc: Global, count: u64) -> Opened
 
 fn open_attribute(alloc: Global, count: u64) -> Opened
     requires { Splits rows.Attribute count }
-    ensures opens { (k : ℕ) → (bs : List ℕ) → Opens k bs result (grouped rows.Attribute (group_at (value_at k) rows.Attribute count bs)) }
+    ensures opens { (k : ℕ) → (bs : List ℕ)
+        → Opens k bs result (grouped rows.Attribute (group_at (value_at k) rows.Attribute count bs)) }
     ensures room { room_at_opening result ≡ 0 }
 {
     Opened::Open(Frame::Attribute(Vec::new(alloc), None, count / 2))
 }
 
 fn open_push(alloc: Global, count: u64) -> Opened
-    ensures opens { (k : ℕ) → (bs : List ℕ) → Opens k bs result (grouped rows.Push (group_at (value_at k) rows.Push count bs)) }
+    ensures opens { (k : ℕ) → (bs : List ℕ)
+        → Opens k bs result (grouped rows.Push (group_at (value_at k) rows.Push count bs)) }
     ensures room { room_at_opening result ≡ 0 }
 {
     if count == 0 {
@@ -93,7 +98,8 @@ fn open_push(alloc: Global, count: u64) -> Opened
 /// A row of so many values, none of which was read.
 pub(crate) fn open_row(alloc: Global, marker: Marker, count: u64) -> Opened
     requires { Splits marker count }
-    ensures opens { (k : ℕ) → (bs : List ℕ) → Opens k bs result (grouped marker (group_at (value_at k) marker count bs)) }
+    ensures opens { (k : ℕ) → (bs : List ℕ)
+        → Opens k bs result (grouped marker (group_at (value_at k) marker count bs)) }
     ensures room { room_at_opening result ≡ 0 }
 {
     match marker {
@@ -112,7 +118,9 @@ fn put_into_array(
     to_come: &mut u64,
     value: Value,
 ) -> Result<Option<Value>, Stop>
-    ensures { (k : ℕ) → (bs : List ℕ) → Puts k bs result (frames.Array items.new to_come.new) (rest_of k (frames.Array items.old to_come.old) (view value, bs)) }
+    ensures { (k : ℕ) → (bs : List ℕ)
+        → Puts k bs result (frames.Array items.new to_come.new)
+        (rest_of k (frames.Array items.old to_come.old) (view value, bs)) }
 {
     items.push(value)?;
     if *to_come == 0 {
@@ -128,7 +136,9 @@ fn put_into_set(
     to_come: &mut u64,
     value: Value,
 ) -> Result<Option<Value>, Stop>
-    ensures { (k : ℕ) → (bs : List ℕ) → Puts k bs result (frames.Set items.new to_come.new) (rest_of k (frames.Set items.old to_come.old) (view value, bs)) }
+    ensures { (k : ℕ) → (bs : List ℕ)
+        → Puts k bs result (frames.Set items.new to_come.new)
+        (rest_of k (frames.Set items.old to_come.old) (view value, bs)) }
 {
     items.push(value)?;
     if *to_come == 0 {
@@ -145,7 +155,9 @@ fn put_into_push(
     to_come: &mut u64,
     value: Value,
 ) -> Result<Option<Value>, Stop>
-    ensures { (k : ℕ) → (bs : List ℕ) → Puts k bs result (frames.Push kind.new items.new to_come.new) (rest_of k (frames.Push kind.old items.old to_come.old) (view value, bs)) }
+    ensures { (k : ℕ) → (bs : List ℕ)
+        → Puts k bs result (frames.Push kind.new items.new to_come.new)
+        (rest_of k (frames.Push kind.old items.old to_come.old) (view value, bs)) }
 {
     items.push(value)?;
     if *to_come == 0 {
@@ -165,7 +177,9 @@ fn put_into_map(
     to_come: &mut u64,
     value: Value,
 ) -> Result<Option<Value>, Stop>
-    ensures { (k : ℕ) → (bs : List ℕ) → Puts k bs result (frames.Map pairs.new key.new to_come.new) (rest_of k (frames.Map pairs.old key.old to_come.old) (view value, bs)) }
+    ensures { (k : ℕ) → (bs : List ℕ)
+        → Puts k bs result (frames.Map pairs.new key.new to_come.new)
+        (rest_of k (frames.Map pairs.old key.old to_come.old) (view value, bs)) }
 {
     let Some(first) = key.take() else {
         *key = Some(value);
@@ -187,7 +201,9 @@ fn put_into_attribute(
     to_come: &mut u64,
     value: Value,
 ) -> Result<Option<Value>, Stop>
-    ensures { (k : ℕ) → (bs : List ℕ) → Puts k bs result (frames.Attribute pairs.new key.new to_come.new) (rest_of k (frames.Attribute pairs.old key.old to_come.old) (view value, bs)) }
+    ensures { (k : ℕ) → (bs : List ℕ)
+        → Puts k bs result (frames.Attribute pairs.new key.new to_come.new)
+        (rest_of k (frames.Attribute pairs.old key.old to_come.old) (view value, bs)) }
 {
     if let Some(first) = key.take() {
         pairs.push((first, value))?;
@@ -205,7 +221,8 @@ fn put_into_attribute(
 
 // The first value of a push.
 fn name(alloc: Global, value: Value, to_come: u64) -> Result<Opened, Stop>
-    ensures names { (k : ℕ) → (bs : List ℕ) → Names k bs result (rest_of k (frames.Naming to_come) (view value, bs)) }
+    ensures names { (k : ℕ) → (bs : List ℕ)
+        → Names k bs result (rest_of k (frames.Naming to_come) (view value, bs)) }
     ensures room { IfOk result (λ o. room_at_opening o ≡ 0) }
 {
     let kind = kind_in(value)?;

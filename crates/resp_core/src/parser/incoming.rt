@@ -26,23 +26,33 @@ impl Parser {
     /// refuses so for good.
     pub fn parse_value<R: LinkRead>(&mut self, reader: &mut R) -> Result<Value, RedisError>
         ensures value { IfOk result (λ v. (held : List ℕ) → Stands self.old held → (allowed : ℕ)
-            × Reads (reading R.left R.counts reader.old (level_limit self.old) held (2 ^ 32)) (reading R.left R.counts reader.new (level_limit self.new) (waiting self.new) allowed) (view v ∷ [])
+            × Reads (reading R.left R.counts reader.old (level_limit self.old) held (2 ^ 32))
+            (reading R.left R.counts reader.new (level_limit self.new) (waiting self.new) allowed)
+            (view v ∷ [])
             × Stands self.new (waiting self.new)) }
-        ensures stops { IsErrOf result (by_cause Io) → (held : List ℕ) → Stands self.old held → (allowed : ℕ) × (rest : List ℕ)
-            × Stops (reading R.left R.counts reader.old (level_limit self.old) held (2 ^ 32)) (reading R.left R.counts reader.new (level_limit self.new) rest allowed) []
+        ensures stops { IsErrOf result (by_cause Io) → (held : List ℕ) → Stands self.old held → (allowed : ℕ)
+            × (rest : List ℕ)
+            × Stops (reading R.left R.counts reader.old (level_limit self.old) held (2 ^ 32))
+            (reading R.left R.counts reader.new (level_limit self.new) rest allowed) []
             × Stands self.new rest }
-        ensures meets { IsErrOf result (by_cause Parse) → (held : List ℕ) → Stands self.old held → (allowed : ℕ) × (rest : List ℕ)
-            × Meets (reading R.left R.counts reader.old (level_limit self.old) held (2 ^ 32)) (reading R.left R.counts reader.new (level_limit self.new) rest allowed) []
+        ensures meets { IsErrOf result (by_cause Parse) → (held : List ℕ) → Stands self.old held
+            → (allowed : ℕ) × (rest : List ℕ)
+            × Meets (reading R.left R.counts reader.old (level_limit self.old) held (2 ^ 32))
+            (reading R.left R.counts reader.new (level_limit self.new) rest allowed) []
             × Stands self.new rest }
         // Want of memory takes no value, and what was read is lost.
-        ensures starves { IsErrOf result (by_cause Memory) → (held : List ℕ) → Stands self.old held → (allowed : ℕ) × (rest : List ℕ)
-            × Seeks (reading R.left R.counts reader.old (level_limit self.old) held (2 ^ 32)) (reading R.left R.counts reader.new (level_limit self.new) rest allowed) [] }
-        ensures causes { IfErr result (λ e. (e ≡ by_cause Io) ⊎ (e ≡ by_cause Parse) ⊎ (e ≡ by_cause Memory)) }
+        ensures starves { IsErrOf result (by_cause Memory) → (held : List ℕ) → Stands self.old held
+            → (allowed : ℕ) × (rest : List ℕ)
+            × Seeks (reading R.left R.counts reader.old (level_limit self.old) held (2 ^ 32))
+            (reading R.left R.counts reader.new (level_limit self.new) rest allowed) [] }
+        ensures causes { IfErr result
+            (λ e. (e ≡ by_cause Io) ⊎ (e ≡ by_cause Parse) ⊎ (e ≡ by_cause Memory)) }
         // A fault and a want of memory are told for good.
         ensures has_fault { IsErrOf result (by_cause Parse) ↔ (has_fault self.new ≡ true) }
         ensures is_starved { IsErrOf result (by_cause Memory) ↔ (is_starved self.new ≡ true) }
         ensures fault_stays { has_fault self.old ≡ true → IsErrOf result (by_cause Parse) }
-        ensures starved_stays { is_starved self.old ≡ true → has_fault self.old ≡ false → IsErrOf result (by_cause Memory) }
+        ensures starved_stays { is_starved self.old ≡ true → has_fault self.old ≡ false
+            → IsErrOf result (by_cause Memory) }
         ensures limit { level_limit self.new ≡ level_limit self.old }
     {
         let mut allowed = READS;
@@ -58,24 +68,34 @@ impl Parser {
         allowed: &mut u64,
     ) -> Result<Value, RedisError>
         ensures value { IfOk result (λ v. (held : List ℕ) → Stands self.old held
-            → Reads (reading R.left R.counts reader.old (level_limit self.old) held allowed.old) (reading R.left R.counts reader.new (level_limit self.new) (waiting self.new) allowed.new) (view v ∷ [])
+            → Reads (reading R.left R.counts reader.old (level_limit self.old) held allowed.old)
+            (reading R.left R.counts reader.new (level_limit self.new) (waiting self.new) allowed.new)
+            (view v ∷ [])
             × Stands self.new (waiting self.new)) }
-        ensures stops { IsErrOf result (by_cause Io) → (held : List ℕ) → Stands self.old held → (rest : List ℕ)
-            × Stops (reading R.left R.counts reader.old (level_limit self.old) held allowed.old) (reading R.left R.counts reader.new (level_limit self.new) rest allowed.new) []
+        ensures stops { IsErrOf result (by_cause Io) → (held : List ℕ) → Stands self.old held
+            → (rest : List ℕ)
+            × Stops (reading R.left R.counts reader.old (level_limit self.old) held allowed.old)
+            (reading R.left R.counts reader.new (level_limit self.new) rest allowed.new) []
             × Stands self.new rest }
-        ensures meets { IsErrOf result (by_cause Parse) → (held : List ℕ) → Stands self.old held → (rest : List ℕ)
-            × Meets (reading R.left R.counts reader.old (level_limit self.old) held allowed.old) (reading R.left R.counts reader.new (level_limit self.new) rest allowed.new) []
+        ensures meets { IsErrOf result (by_cause Parse) → (held : List ℕ) → Stands self.old held
+            → (rest : List ℕ)
+            × Meets (reading R.left R.counts reader.old (level_limit self.old) held allowed.old)
+            (reading R.left R.counts reader.new (level_limit self.new) rest allowed.new) []
             × Stands self.new rest }
-        ensures starves { IsErrOf result (by_cause Memory) → (held : List ℕ) → Stands self.old held → (rest : List ℕ)
-            × Seeks (reading R.left R.counts reader.old (level_limit self.old) held allowed.old) (reading R.left R.counts reader.new (level_limit self.new) rest allowed.new) [] }
-        ensures causes { IfErr result (λ e. (e ≡ by_cause Io) ⊎ (e ≡ by_cause Parse) ⊎ (e ≡ by_cause Memory)) }
+        ensures starves { IsErrOf result (by_cause Memory) → (held : List ℕ) → Stands self.old held
+            → (rest : List ℕ)
+            × Seeks (reading R.left R.counts reader.old (level_limit self.old) held allowed.old)
+            (reading R.left R.counts reader.new (level_limit self.new) rest allowed.new) [] }
+        ensures causes { IfErr result
+            (λ e. (e ≡ by_cause Io) ⊎ (e ≡ by_cause Parse) ⊎ (e ≡ by_cause Memory)) }
         // After a value none is half read.
         ensures rests { IfOk result (λ _. is_resting self.new ≡ true) }
         // A fault and a want of memory are told for good.
         ensures has_fault { IsErrOf result (by_cause Parse) ↔ (has_fault self.new ≡ true) }
         ensures is_starved { IsErrOf result (by_cause Memory) ↔ (is_starved self.new ≡ true) }
         ensures fault_stays { has_fault self.old ≡ true → IsErrOf result (by_cause Parse) }
-        ensures starved_stays { is_starved self.old ≡ true → has_fault self.old ≡ false → IsErrOf result (by_cause Memory) }
+        ensures starved_stays { is_starved self.old ≡ true → has_fault self.old ≡ false
+            → IsErrOf result (by_cause Memory) }
         ensures limit { level_limit self.new ≡ level_limit self.old }
     {
         loop {
@@ -94,13 +114,20 @@ impl Parser {
     ) -> Result<(), RedisError>
         requires whole { has_fault self.old ≡ false }
         requires fed { is_starved self.old ≡ false }
-        ensures more { OnOk result ((held : List ℕ) → BeginsUnfinished (level_limit self.old) held → Stands self.old held → (rest : List ℕ)
-            × Seeks (reading R.left R.counts reader.old (level_limit self.old) held allowed.old) (reading R.left R.counts reader.new (level_limit self.new) rest allowed.new) []
+        ensures more { OnOk result
+            ((held : List ℕ) → BeginsUnfinished (level_limit self.old) held → Stands self.old held
+            → (rest : List ℕ)
+            × Seeks (reading R.left R.counts reader.old (level_limit self.old) held allowed.old)
+            (reading R.left R.counts reader.new (level_limit self.new) rest allowed.new) []
             × Stands self.new rest) }
-        ensures starves { IsErrOf result (by_cause Memory) → (held : List ℕ) → BeginsUnfinished (level_limit self.old) held → Stands self.old held → (rest : List ℕ)
-            × Seeks (reading R.left R.counts reader.old (level_limit self.old) held allowed.old) (reading R.left R.counts reader.new (level_limit self.new) rest allowed.new) [] }
-        ensures stops { IsErrOf result (by_cause Io) → (held : List ℕ) → BeginsUnfinished (level_limit self.old) held → Stands self.old held
-            → Stops (reading R.left R.counts reader.old (level_limit self.old) held allowed.old) (reading R.left R.counts reader.new (level_limit self.new) held allowed.new) []
+        ensures starves { IsErrOf result (by_cause Memory) → (held : List ℕ)
+            → BeginsUnfinished (level_limit self.old) held → Stands self.old held → (rest : List ℕ)
+            × Seeks (reading R.left R.counts reader.old (level_limit self.old) held allowed.old)
+            (reading R.left R.counts reader.new (level_limit self.new) rest allowed.new) [] }
+        ensures stops { IsErrOf result (by_cause Io) → (held : List ℕ)
+            → BeginsUnfinished (level_limit self.old) held → Stands self.old held
+            → Stops (reading R.left R.counts reader.old (level_limit self.old) held allowed.old)
+            (reading R.left R.counts reader.new (level_limit self.new) held allowed.new) []
             × Stands self.new held }
         ensures fewer { OnOk result (allowed.new + 1 ≡ allowed.old) }
         ensures causes { IfErr result (λ e. (e ≡ by_cause Io) ⊎ (e ≡ by_cause Memory)) }
@@ -124,7 +151,8 @@ impl Parser {
     fn feed_or_starve(&mut self, piece: &[u8]) -> Result<(), RedisError>
         requires whole { has_fault self.old ≡ false }
         requires fed { is_starved self.old ≡ false }
-        ensures ok { OnOk result ((bytes : List ℕ) → Stands self.old bytes → Stands self.new (bytes ++ piece.now)) }
+        ensures ok { OnOk result
+            ((bytes : List ℕ) → Stands self.old bytes → Stands self.new (bytes ++ piece.now)) }
         ensures causes { IfErr result (λ e. e ≡ by_cause Memory) }
         ensures has_fault { has_fault self.new ≡ false }
         ensures limit { level_limit self.new ≡ level_limit self.old }

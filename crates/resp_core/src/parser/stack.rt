@@ -26,7 +26,8 @@ pub(crate) enum Progress {
 /// Puts a whole value into the innermost row, and what is whole by that into the next one, and so on.
 #[inline(always)]
 pub(crate) fn settle(alloc: Global, frames: &mut Vec<Frame>, value: Value) -> Result<Progress, Stop>
-    ensures settles { (levels : ℕ) → Settles levels result (λ bs. Ok (view value, bs)) frames.old.items frames.new.items }
+    ensures settles { (levels : ℕ)
+        → Settles levels result (λ bs. Ok (view value, bs)) frames.old.items frames.new.items }
     ensures leaves_line { LeavesLine result }
     ensures levels { length frames.new.items ≤ length frames.old.items }
 {
@@ -50,7 +51,10 @@ pub(crate) fn enter(
     announced: Announced,
 ) -> Result<Progress, Stop>
     requires { SplitsIn marker announced }
-    ensures settles { (levels : ℕ) → Settles levels result (follow (value_at (levels - length frames.old.items - 1)) marker (Some (next_view announced))) frames.old.items frames.new.items }
+    ensures settles { (levels : ℕ)
+        → Settles levels result
+        (follow (value_at (levels - length frames.old.items - 1)) marker (Some (next_view announced)))
+        frames.old.items frames.new.items }
     ensures leaves_line { LeavesLine result }
     ensures levels { length frames.new.items ≤ length frames.old.items + 1 }
 {

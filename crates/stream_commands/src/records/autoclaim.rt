@@ -34,7 +34,8 @@ pub struct StreamAutoClaimReply {
 impl StreamAutoClaimReply {
     /// A reply of an empty id that claims nothing.
     pub fn empty(alloc: Global) -> StreamAutoClaimReply
-        ensures { autoclaim_view result ≡ record { next = []; claimed = record { entries = []; some_invalid = false }; deleted = [] } }
+        ensures { autoclaim_view result
+            ≡ record { next = []; claimed = record { entries = []; some_invalid = false }; deleted = [] } }
     {
         StreamAutoClaimReply {
             next_stream_id: String::new(alloc),
@@ -117,7 +118,10 @@ fn read_claimed(alloc: Global, list: Value) -> Result<(Vec<StreamId>, bool), Par
 }
 
 fn read_items(alloc: Global, items: Vec<Value>) -> Result<(Vec<StreamId>, bool), ParsingError>
-    ensures { Answers (λ p. claimed_view p.0.items p.1) (option_map (claimed_from (each view items.items)) (entries_by_first (spec_first_no_null (each view items.items)) (array (trees_of (each view items.items))))) result }
+    ensures { Answers (λ p. claimed_view p.0.items p.1)
+        (option_map (claimed_from (each view items.items))
+        (entries_by_first (spec_first_no_null (each view items.items))
+        (array (trees_of (each view items.items))))) result }
 {
     let count = items.len();
     let ids = read_ids(alloc, items)?;
@@ -126,7 +130,9 @@ fn read_items(alloc: Global, items: Vec<Value>) -> Result<(Vec<StreamId>, bool),
 }
 
 fn read_ids(alloc: Global, items: Vec<Value>) -> Result<Vec<StreamId>, ParsingError>
-    ensures { Answers (λ v. entries_view v.items) (entries_by_first (spec_first_no_null (each view items.items)) (array (trees_of (each view items.items)))) result }
+    ensures { Answers (λ v. entries_view v.items)
+        (entries_by_first (spec_first_no_null (each view items.items))
+        (array (trees_of (each view items.items)))) result }
 {
     match first_no_null(items.as_slice()) {
         None => Ok(Vec::new(alloc)),
@@ -153,7 +159,9 @@ fn first_no_null(items: &[Value]) -> Option<&Value>
 }
 
 fn read_id_list(alloc: Global, items: Vec<Value>) -> Result<Vec<StreamId>, ParsingError>
-    ensures { Answers (λ v. entries_view v.items) (option_map (λ ids. each id_alone (keep_present ids)) (list_of (perhaps a_text) (array (trees_of (each view items.items))))) result }
+    ensures { Answers (λ v. entries_view v.items)
+        (option_map (λ ids. each id_alone (keep_present ids))
+        (list_of (perhaps a_text) (array (trees_of (each view items.items))))) result }
 {
     let optional_ids = Vec::<Option<String>>::from_redis_value(alloc, Value::Array(items))?;
     ids_without_fields(alloc, optional_ids)
@@ -163,7 +171,10 @@ fn ids_without_fields(
     alloc: Global,
     optional_ids: Vec<Option<String>>,
 ) -> Result<Vec<StreamId>, ParsingError>
-    ensures { MatchResult result (λ v. entries_view v.items ≡ each id_alone (keep_present (each (λ o. option_map string_bytes o) optional_ids.items))) (λ e. e ≡ no_memory) }
+    ensures { MatchResult result
+        (λ v. entries_view v.items
+        ≡ each id_alone (keep_present (each (λ o. option_map string_bytes o) optional_ids.items)))
+        (λ e. e ≡ no_memory) }
 {
     let mut ids = Vec::new(alloc);
     for item in optional_ids {

@@ -152,7 +152,9 @@ fn list_consumers(
     alloc: Global,
     parts: Vec<ConsumerFields>,
 ) -> Result<Vec<StreamInfoConsumer>, ParsingError>
-    ensures { MatchResult result (λ v. each consumer_view v.items ≡ each (λ r. consumer_view r.consumer) parts.items) (λ e. e ≡ no_memory) }
+    ensures { MatchResult result
+        (λ v. each consumer_view v.items ≡ each (λ r. consumer_view r.consumer) parts.items)
+        (λ e. e ≡ no_memory) }
 {
     let mut list = Vec::with_capacity(alloc, parts.len())?;
     for part in parts {

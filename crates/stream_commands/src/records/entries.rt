@@ -46,7 +46,10 @@ impl StreamId {
     /// The value of a field, read as a `T`: none where there is no such field, or where its value
     /// is read as no `T`.
     pub fn get<T: FromRedisValue>(&self, key: &str) -> Result<Option<T>, RedisError>
-        ensures { MatchResult result (λ o. option_map T.meaning o ≡ option_and_then T.convert (under key.now (fields_view self.now.map))) (λ e. e ≡ unread no_memory) }
+        ensures { MatchResult result
+            (λ o. option_map T.meaning o
+            ≡ option_and_then T.convert (under key.now (fields_view self.now.map)))
+            (λ e. e ≡ unread no_memory) }
     {
         match self.map.get(key) {
             None => Ok(None),
@@ -161,7 +164,10 @@ fn list_entries(
     alloc: Global,
     maps: Vec<IndexMap<String, Fields>>,
 ) -> Result<Vec<StreamId>, ParsingError>
-    ensures { MatchResult result (λ v. entries_view v.items ≡ flat_map (λ m. each (λ e. without_times (string_bytes e.0, fields_view e.1)) m.entries) maps.items) (λ e. e ≡ no_memory) }
+    ensures { MatchResult result
+        (λ v. entries_view v.items
+        ≡ flat_map (λ m. each (λ e. without_times (string_bytes e.0, fields_view e.1)) m.entries) maps.items)
+        (λ e. e ≡ no_memory) }
 {
     let mut ids = Vec::new(alloc);
     for map in maps {
@@ -174,7 +180,10 @@ fn add_entries(
     ids: &mut Vec<StreamId>,
     entries: IndexMap<String, Fields>,
 ) -> Result<(), ParsingError>
-    ensures { MatchResult result (λ _. entries_view ids.new.items ≡ entries_view ids.old.items ++ each (λ e. without_times (string_bytes e.0, fields_view e.1)) entries.entries) (λ e. e ≡ no_memory) }
+    ensures { MatchResult result
+        (λ _. entries_view ids.new.items ≡ entries_view ids.old.items
+        ++ each (λ e. without_times (string_bytes e.0, fields_view e.1)) entries.entries)
+        (λ e. e ≡ no_memory) }
 {
     for (id, map) in entries {
         ids.push(StreamId {
@@ -236,7 +245,10 @@ impl EntryForm for ClaimedEntries {
 }
 
 fn list_claimed(alloc: Global, claimed: Vec<Claimed>) -> Result<Vec<StreamId>, ParsingError>
-    ensures { MatchResult result (λ v. entries_view v.items ≡ each (λ e. with_times (string_bytes e.0, fields_view e.1, option_map pos e.2, option_map pos e.3)) claimed.items) (λ e. e ≡ no_memory) }
+    ensures { MatchResult result
+        (λ v. entries_view v.items
+        ≡ each (λ e. with_times (string_bytes e.0, fields_view e.1, option_map pos e.2, option_map pos e.3))
+        claimed.items) (λ e. e ≡ no_memory) }
 {
     let mut ids = Vec::with_capacity(alloc, claimed.len())?;
     for entry in claimed {

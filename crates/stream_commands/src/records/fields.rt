@@ -24,7 +24,8 @@ fn copy_pairs(
     fields: &Fields,
     count: usize,
 ) -> Result<Vec<(String, Value)>, AllocError>
-    ensures { IfOk result (λ pairs. each (λ f. (string_bytes f.0, view f.1)) pairs.items ≡ fields_view fields.now) }
+    ensures { IfOk result
+        (λ pairs. each (λ f. (string_bytes f.0, view f.1)) pairs.items ≡ fields_view fields.now) }
 {
     let mut pairs = Vec::with_capacity(alloc, count)?;
     for (name, value) in fields {

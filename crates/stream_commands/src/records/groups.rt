@@ -164,7 +164,8 @@ impl FromRedisValue for StreamInfoGroupsReply {
 }
 
 fn list_groups(alloc: Global, parts: Vec<GroupFields>) -> Result<Vec<StreamInfoGroup>, ParsingError>
-    ensures { MatchResult result (λ v. each group_view v.items ≡ each (λ r. group_view r.group) parts.items) (λ e. e ≡ no_memory) }
+    ensures { MatchResult result (λ v. each group_view v.items ≡ each (λ r. group_view r.group) parts.items)
+        (λ e. e ≡ no_memory) }
 {
     let mut list = Vec::with_capacity(alloc, parts.len())?;
     for part in parts {

@@ -110,7 +110,13 @@ impl FromRedisValue for StreamPendingReply {
 }
 
 fn pending(alloc: Global, parts: Parts) -> Result<StreamPendingReply, ParsingError>
-    ensures { Answers pending_view (pending_of (pos parts.0, option_map string_bytes parts.1, option_map string_bytes parts.2, each (λ o. option_map pair_view o) parts.3.items)) result }
+    ensures { Answers pending_view
+        (pending_of (
+          pos parts.0,
+          option_map string_bytes parts.1,
+          option_map string_bytes parts.2,
+          each (λ o. option_map pair_view o) parts.3.items,
+        )) result }
 {
     let (count, start, end, consumers) = parts;
     if count == 0 {
@@ -134,7 +140,10 @@ fn pending_consumers(
     alloc: Global,
     parts: Vec<Option<(String, String)>>,
 ) -> Result<Vec<StreamInfoConsumer>, ParsingError>
-    ensures { MatchResult result (λ v. each consumer_view v.items ≡ each spec_pending_consumer (keep_present (each (λ o. option_map pair_view o) parts.items))) (λ e. e ≡ no_memory) }
+    ensures { MatchResult result
+        (λ v. each consumer_view v.items
+        ≡ each spec_pending_consumer (keep_present (each (λ o. option_map pair_view o) parts.items)))
+        (λ e. e ≡ no_memory) }
 {
     let mut consumers = Vec::new(alloc);
     for item in parts {

@@ -35,7 +35,8 @@ pub struct StreamPendingCountReply {
 impl StreamPendingId {
     /// A pending entry of which nothing is known.
     pub fn empty(alloc: Global) -> StreamPendingId
-        ensures { pending_id_view result ≡ record { id = []; consumer = []; milliseconds = pos 0; deliveries = pos 0 } }
+        ensures { pending_id_view result
+            ≡ record { id = []; consumer = []; milliseconds = pos 0; deliveries = pos 0 } }
     {
         StreamPendingId {
             id: String::new(alloc),
@@ -88,14 +89,16 @@ impl FromRedisValue for StreamPendingCountReply {
 }
 
 fn pending_count(alloc: Global, rows: Vec<Value>) -> Result<StreamPendingCountReply, ParsingError>
-    ensures { Answers (λ r. each pending_id_view r.ids.items) (traverse pending_row (each view rows.items)) result }
+    ensures { Answers (λ r. each pending_id_view r.ids.items)
+        (traverse pending_row (each view rows.items)) result }
 {
     let ids = pending_ids(alloc, rows)?;
     Ok(StreamPendingCountReply { ids })
 }
 
 fn pending_ids(alloc: Global, rows: Vec<Value>) -> Result<Vec<StreamPendingId>, ParsingError>
-    ensures { Answers (λ v. each pending_id_view v.items) (traverse pending_row (each view rows.items)) result }
+    ensures { Answers (λ v. each pending_id_view v.items)
+        (traverse pending_row (each view rows.items)) result }
 {
     let mut ids = Vec::with_capacity(alloc, rows.len())?;
     for row in rows {

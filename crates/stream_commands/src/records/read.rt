@@ -109,7 +109,10 @@ fn all_rows<F: EntryForm>(
     alloc: Global,
     maps: Vec<IndexMap<String, F>>,
 ) -> Result<Vec<StreamKey>, ParsingError>
-    ensures { MatchResult result (λ v. rows_view v.items ≡ flat_map (λ m. each (λ e. row (string_bytes e.0, F.lists e.1)) m.entries) maps.items) (λ e. e ≡ no_memory) }
+    ensures { MatchResult result
+        (λ v. rows_view v.items
+        ≡ flat_map (λ m. each (λ e. row (string_bytes e.0, F.lists e.1)) m.entries) maps.items)
+        (λ e. e ≡ no_memory) }
 {
     let mut keys = Vec::new(alloc);
     for map in maps {
@@ -122,7 +125,9 @@ fn add_rows<F: EntryForm>(
     keys: &mut Vec<StreamKey>,
     rows: IndexMap<String, F>,
 ) -> Result<(), ParsingError>
-    ensures { MatchResult result (λ _. rows_view keys.new.items ≡ rows_view keys.old.items ++ each (λ e. row (string_bytes e.0, F.lists e.1)) rows.entries) (λ e. e ≡ no_memory) }
+    ensures { MatchResult result
+        (λ _. rows_view keys.new.items ≡ rows_view keys.old.items
+        ++ each (λ e. row (string_bytes e.0, F.lists e.1)) rows.entries) (λ e. e ≡ no_memory) }
 {
     for (key, entries) in rows {
         let ids = entries.into_ids();

@@ -72,7 +72,8 @@ impl StreamInfoStreamReply {
 impl StreamInfoStreamReplyWithIdempotency {
     /// A reply that says nothing of the stream and its idempotent ids.
     pub fn empty(alloc: Global) -> StreamInfoStreamReplyWithIdempotency
-        ensures { idempotent_info_view result ≡ idempotent_info no_stream_info (pos 0) (pos 0) (pos 0) (pos 0) (pos 0) (pos 0) }
+        ensures { idempotent_info_view result
+            ≡ idempotent_info no_stream_info (pos 0) (pos 0) (pos 0) (pos 0) (pos 0) (pos 0) }
     {
         StreamInfoStreamReplyWithIdempotency {
             base: StreamInfoStreamReply::empty(alloc),

@@ -15,7 +15,8 @@ pub(crate) fn read_under<T: FromRedisValue>(
     name: &str,
     missing: T,
 ) -> Result<T, ParsingError>
-    ensures { Answers T.meaning (read_or T.convert (T.meaning missing) (under name.now (fields_view fields.now))) result }
+    ensures { Answers T.meaning
+        (read_or T.convert (T.meaning missing) (under name.now (fields_view fields.now))) result }
 {
     match fields.get(name) {
         Some(value) => T::from_redis_value_ref(alloc, value),
