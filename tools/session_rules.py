@@ -8,15 +8,16 @@ import re
 LARGEST_NUMBER = 2**64 - 1
 LARGEST_PIECE = 2**32 - 1
 LARGEST_BUDGET = 2**16 - 1
+MOST_LEVELS = 512
 LARGEST_PORT = 2**16 - 1
 HOW = {
     "node": "node ADDR PIECE BYTES", "fault": "fault ADDR read N, or fault ADDR write N",
-    "readonly": "readonly NAME", "budget": "budget N", "refresh": "refresh ADDR",
-    "query": "query NUMBER BYTES..", "order": "order I,J,.. BYTES..", "fan": "fan BYTES..", "pipe": "pipe",
+    "readonly": "readonly NAME", "budget": "budget N", "levels": "levels N",
+    "refresh": "refresh ADDR", "query": "query NUMBER BYTES..", "order": "order I,J,.. BYTES..", "fan": "fan BYTES..", "pipe": "pipe",
     "cmd": "cmd BYTES..", "skip": "skip BYTES..", "run": "run", "xrange": "xrange KEY START END",
     "xread": "xread KEY,.. ID,..",
 }
-SETTINGS = ("node", "fault", "readonly", "budget")
+SETTINGS = ("node", "fault", "readonly", "budget", "levels")
 
 
 class Bad(Exception):
@@ -68,7 +69,7 @@ class Reader:
     def __init__(self, lines):
         self.last_run = max((place for place, line in enumerate(lines) if line == b"run"), default=-1)
         self.nodes, self.faults = set(), set()
-        self.has_budget = self.has_call = self.in_pipeline = False
+        self.has_budget = self.has_levels = self.has_call = self.in_pipeline = False
 
     def take(self, place, line):
         """Reads a line that is neither empty nor a comment."""
@@ -132,6 +133,12 @@ class Reader:
             raise Bad("a line above has the budget")
         number(count, "a budget", most=LARGEST_BUDGET)
         self.has_budget = True
+
+    def levels(self, _, count):
+        if self.has_levels:
+            raise Bad("a line above has the limit of levels")
+        number(count, "a limit of levels", 1, MOST_LEVELS)
+        self.has_levels = True
 
     def refresh(self, _, at):
         address(at)

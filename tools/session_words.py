@@ -3,7 +3,10 @@
 Texts are bytes; here each byte is one character, so that any file is read and written as it is.
 """
 import re
+import sys
 
+# An answer of 512 levels is read in some 2,000 calls within one another.
+sys.setrecursionlimit(10_000)
 INDENT = "  "
 QUOTED = r'"(?:[^"\\]|\\.)*"|' + r"'(?:[^'\\]|\\.)*'"
 WORD = re.compile(rf"({QUOTED}|[^ \"'\r]+)(?: |$)")
@@ -13,7 +16,7 @@ ESCAPES = {"\n": "n", "\r": "r", "\t": "t", "\a": "a", "\b": "b", '"': '"', "\\"
 NAMED = {"n": "\n", "r": "\r", "t": "\t", "a": "\a", "b": "\b"}
 # How many words of a line stand as they are, behind its first; then words that are bytes, or lists of them.
 WORDS = {"query": 1, "order": 1, "fan": 0, "cmd": 0, "skip": 0, "xrange": 0}
-AS_THEY_ARE = ("fault", "readonly", "budget", "refresh", "pipe", "run")
+AS_THEY_ARE = ("fault", "readonly", "budget", "levels", "refresh", "pipe", "run")
 
 
 class Unreadable(Exception):

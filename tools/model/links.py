@@ -9,13 +9,14 @@ ASKING = packed([b"ASKING"])
 class Link:
     """The bytes that come from a node, so many a read, and what went out to it.
 
-    `failing` has the reads and the writes that fail, each as ("read", N) or ("write", N).
+    `failing` has the reads and the writes that fail, each as ("read", N) or ("write", N); `levels` is how
+    deep values may nest.
     """
 
-    def __init__(self, stream, piece, failing):
+    def __init__(self, stream, piece, failing, levels):
         self.piece, self.failing = min(piece, BUFFER), failing
         self.size = len(stream)
-        self.values, self.fault = values(stream)
+        self.values, self.fault = values(stream, levels)
         self.come = self.taken = self.reads = self.writes = 0
         self.sent = b""
         self.is_open = True

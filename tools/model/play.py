@@ -19,9 +19,10 @@ class Run:
 
     def __init__(self, said, faults=(), memory=None):
         self.memory = memory or Memory()
+        levels = 100 if said.levels is None else said.levels
         self.links = {
             node: self.make_link(
-                stream, piece, said.failing[node] | {it[1:] for it in faults if it[0] == node}
+                stream, piece, said.failing[node] | {it[1:] for it in faults if it[0] == node}, levels
             )
             for node, (stream, piece) in said.nodes.items()
         }

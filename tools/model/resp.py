@@ -10,10 +10,12 @@ and where each ends; how many of the bytes were read then says which of them are
 """
 import functools
 import re
+import sys
 
 from .numbers import signed, trimmed, utf8
 
-LEVELS = 100
+# A value of 512 levels is read in some 1,500 calls within one another.
+sys.setrecursionlimit(10_000)
 DOUBLE = re.compile(
     r"[+-]?(inf|infinity|nan|([0-9]+(\.[0-9]*)?|\.[0-9]+)(e[+-]?[0-9]+)?)", re.I | re.A
 )
@@ -32,12 +34,15 @@ class Fault(Exception):
 
 
 @functools.cache
-def values(stream):
-    """The trees in order, each with the place behind it, and the place of the fault behind them or None."""
+def values(stream, levels):
+    """The trees in order, each with the place behind it, and the place of the fault behind them or None.
+
+    They nest so many levels deep at most.
+    """
     found, at = [], 0
     while True:
         try:
-            tree, at = value(stream, at, 1)
+            tree, at = value(stream, at, levels)
         except Short:
             return found, None
         except Fault as fault:
@@ -75,30 +80,30 @@ def counted(stream, at, count):
     return stream[at:end], end + 2
 
 
-def items(stream, at, count, level):
+def items(stream, at, count, levels):
     found = []
     for _ in range(count):
-        tree, at = value(stream, at, level)
+        tree, at = value(stream, at, levels)
         found.append(tree)
     return found, at
 
 
-def pairs(stream, at, level):
+def pairs(stream, at, levels):
     count, at = number(stream, at)
     if count < 0:
         raise Fault(at)
-    found, at = items(stream, at, 2 * count, level)
+    found, at = items(stream, at, 2 * count, levels)
     return list(zip(found[::2], found[1::2])), at
 
 
-def value(stream, at, level):
-    """The tree that begins here, and the place behind it."""
+def value(stream, at, levels):
+    """The tree that begins here, so many levels deep at most, and the place behind it."""
     if at >= len(stream):
         raise Short
     read = READERS.get(stream[at : at + 1])
-    if read is None or level > LEVELS:
+    if read is None or not levels:
         raise Fault(at + 1)
-    return read(stream, at + 1, level)
+    return read(stream, at + 1, levels)
 
 
 def simple(stream, at, _):
@@ -130,35 +135,35 @@ def bulk(stream, at, _):
 
 
 def listed(form):
-    def read(stream, at, level):
+    def read(stream, at, levels):
         count, at = number(stream, at)
         if count < 0:
             return ("nil",), at
-        found, at = items(stream, at, count, level + 1)
+        found, at = items(stream, at, count, levels - 1)
         return (form, found), at
 
     return read
 
 
-def mapped(stream, at, level):
-    found, at = pairs(stream, at, level + 1)
+def mapped(stream, at, levels):
+    found, at = pairs(stream, at, levels - 1)
     return ("map", found), at
 
 
-def attribute(stream, at, level):
-    found, at = pairs(stream, at, level + 1)
-    inner, at = value(stream, at, level + 1)
+def attribute(stream, at, levels):
+    found, at = pairs(stream, at, levels - 1)
+    inner, at = value(stream, at, levels - 1)
     return ("attribute", found, inner), at
 
 
-def push(stream, at, level):
+def push(stream, at, levels):
     count, at = number(stream, at)
     if count <= 0:
         return ("push", b"", []), at
-    kind, at = value(stream, at, level + 1)
+    kind, at = value(stream, at, levels - 1)
     if kind[0] not in ("simple", "bulk") or utf8(kind[1]) is None:
         raise Fault(at)
-    found, at = items(stream, at, count - 1, level + 1)
+    found, at = items(stream, at, count - 1, levels - 1)
     return ("push", kind[1], found), at
 
 

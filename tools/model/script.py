@@ -5,6 +5,7 @@ from .numbers import unsigned, utf8
 from .slots import address
 
 LARGEST_PIECE = (1 << 32) - 1
+MOST_LEVELS = 512
 
 
 class BadLine(Exception):
@@ -51,7 +52,8 @@ class Script:
 
     def __init__(self):
         self.nodes, self.failing = {}, {}
-        self.budget, self.calls, self.pipeline = None, [], None
+        self.budget = self.levels = self.pipeline = None
+        self.calls = []
 
     def node(self, at, piece, bytes_word):
         node = need(address(at))
@@ -72,6 +74,11 @@ class Script:
         if self.calls or self.budget is not None:
             raise Bad
         self.budget = number(word, 0, 65535)
+
+    def set_levels(self, word):
+        if self.calls or self.levels is not None:
+            raise Bad
+        self.levels = number(word, 1, MOST_LEVELS)
 
     def add(self, *call):
         self.calls.append(call)
@@ -101,7 +108,7 @@ class Script:
             self.add("xrange", data(key), data(start), data(end))
         else:
             found = {"node": self.node, "fault": self.fault, "budget": self.set_budget,
-                     "order": self.order, "xread": self.xread}.get(word)
+                     "levels": self.set_levels, "order": self.order, "xread": self.xread}.get(word)
             need(found)(*words)
 
     def inside(self, word, words):

@@ -63,6 +63,7 @@ pub use resp_core::Cause;
 pub use resp_core::ErrorKind;
 pub use resp_core::LEVELS;
 pub use resp_core::LinkRead;
+pub use resp_core::MOST_LEVELS;
 pub use resp_core::MapIter;
 pub use resp_core::OwnedMapIter;
 pub use resp_core::Parser;

@@ -76,12 +76,18 @@ const CAUSES: &[(Cause, &str)] = &[
         Cause::ClaimsIdsAlone,
         "the command can not be sent so (refusal 18): a claim of ids alone has another reply",
     ),
+    (
+        Cause::LevelsOutOfRange,
+        "the client's settings are invalid (refusal 19): the limit of levels is out of range",
+    ),
 ];
 
 #[test]
 fn causes(rt: HostRuntime) {
     for (cause, text) in CAUSES {
-        prints(&rt, rt.alloc(), &RedisError::from(*cause), text);
+        let e = RedisError::from(*cause);
+        prints(&rt, rt.alloc(), &e, text);
+        assert_eq!(rt; e.cause(), Some(*cause));
     }
 }
 
@@ -260,8 +266,19 @@ fn errors_of_a_pipeline(rt: HostRuntime) -> Result<(), Fail> {
     Ok(())
 }
 
+#[test]
+fn no_cause_of_this_library(rt: HostRuntime) -> Result<(), Fail> {
+    let alloc = rt.alloc();
+    assert_eq!(rt; refusal_by(alloc, "ERR b")?.cause(), None);
+    assert_eq!(rt; two_errors(alloc)?.cause(), None);
+    assert_eq!(rt; RedisError::at_position(3).cause(), None);
+    Ok(())
+}
+
 fn is_unreadable<R: Abort>(rt: &R, alloc: Global, e: ParsingError, text: &str) {
-    prints(rt, alloc, &RedisError::from(e), text);
+    let e = RedisError::from(e);
+    prints(rt, alloc, &e, text);
+    assert_eq!(rt; e.cause(), Some(Cause::UnexpectedReturnType));
 }
 
 #[test]

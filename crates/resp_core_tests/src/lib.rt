@@ -6,6 +6,8 @@ mod errors;
 #[cfg(test)]
 mod known;
 #[cfg(test)]
+mod limits;
+#[cfg(test)]
 mod machine;
 #[cfg(test)]
 mod memory;
