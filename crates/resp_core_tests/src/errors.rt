@@ -71,7 +71,10 @@ const CAUSES: &[(Cause, &str)] = &[
         Cause::UnexpectedReturnType,
         "the reply has an unexpected type (refusal 16): the reply has not the shape that was asked for",
     ),
-    (Cause::Memory, "out of memory (refusal 17): memory was refused"),
+    (
+        Cause::Memory,
+        "out of memory (refusal 17): memory was refused",
+    ),
     (
         Cause::ClaimsIdsAlone,
         "the command can not be sent so (refusal 18): a claim of ids alone has another reply",
