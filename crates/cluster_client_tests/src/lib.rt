@@ -8,6 +8,8 @@ mod clients;
 #[cfg(test)]
 mod failing;
 #[cfg(test)]
+mod limits;
+#[cfg(test)]
 mod links;
 #[cfg(test)]
 mod pipelines;

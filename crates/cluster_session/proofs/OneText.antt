@@ -19,8 +19,8 @@ use Rattle.cluster_session.specs.Session.{Session, Setup, link_at_start, node_at
 
 -- ---- the links at the start
 
-link_promised : (setup : Setup) → IsFaultless setup → IsPromised (link_at_start setup)
-link_promised setup h = record {
+link_promised : (levels : ℕ) (setup : Setup) → IsFaultless setup → IsPromised (link_at_start levels setup)
+link_promised levels setup h = record {
   reads = ap refuses_at h.reads;
   writes = ap refuses_at h.writes;
   bytes = setup.bytes;
@@ -30,12 +30,13 @@ link_promised setup h = record {
   told = refl;
 }
 
-promised : (nodes : List (Address × Setup)) → AllByRecursion (λ (node : Address × Setup). IsFaultless node.1) nodes → ArePromised (map node_at_start nodes)
-promised [] h a link e = cc
-promised (n ∷ nodes) h a link e = by (same_address n.0 a) (promised nodes h.1 a link) e
+promised : (levels : ℕ) (nodes : List (Address × Setup)) → AllByRecursion (λ (node : Address × Setup). IsFaultless node.1) nodes → ArePromised (map (node_at_start levels) nodes)
+promised levels [] h a link e = cc
+promised levels (n ∷ nodes) h a link e = by (same_address n.0 a) (promised levels nodes h.1 a link) e
   where
-    by : (b : Bool) → (link_at (map node_at_start nodes) a ≡ Some link → IsPromised link) → cond b (Some (link_at_start n.1)) (link_at (map node_at_start nodes) a) ≡ Some link → IsPromised link
-    by true later e = let same : link_at_start n.1 ≡ link = cc in subst IsPromised same (link_promised n.1 h.0)
+    by : (b : Bool) → (link_at (map (node_at_start levels) nodes) a ≡ Some link → IsPromised link)
+        → cond b (Some (link_at_start levels n.1)) (link_at (map (node_at_start levels) nodes) a) ≡ Some link → IsPromised link
+    by true later e = let same : link_at_start levels n.1 ≡ link = cc in subst IsPromised same (link_promised levels n.1 h.0)
     by false later e = later e
 
 -- ---- the lines of the nodes
@@ -76,7 +77,7 @@ same_lines (n ∷ ns) (m ∷ ms) e d s =
 
 pub one_text : OneText
 one_text session output output' p q faultless there there' =
-    let same = promised_plays (start session) p.after q.after session.calls [] p.shown q.shown p.plays q.plays (promised session.nodes faultless) there.0 there'.0 there.1 there'.1 in
+    let same = promised_plays (start session) p.after q.after session.calls [] p.shown q.shown p.plays q.plays (promised session.levels session.nodes faultless) there.0 there'.0 there.1 there'.1 in
     let left = (p.plays.is_run.played there.0).made.addresses in
     let right = (q.plays.is_run.played there'.0).made.addresses in
     let distinct : has_repeats (addresses_of p.after.nodes) ≡ false = subst (λ as'. has_repeats as' ≡ false) (sym left) p.distinct in

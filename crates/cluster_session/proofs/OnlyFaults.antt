@@ -44,8 +44,8 @@ record Stands (setup : Setup) (link : Seen) : Type 0 where
   is_open : link.usable ≡ true → (link.counts.refused ≡ 0) × RefusesNone (refuses_at setup.failing_read) 0 link.counts.reads
       × (link.write_counts.refused ≡ 0) × (link.write_counts.no_room ≡ 0) × RefusesNone (refuses_at setup.failing_write) 0 link.write_counts.writes
 
-at_first : (setup : Setup) → Stands setup (link_at_start setup)
-at_first setup = record {
+at_first : (levels : ℕ) (setup : Setup) → Stands setup (link_at_start levels setup)
+at_first levels setup = record {
   promise = refl;
   write_promise = refl;
   reads = no_read refl (none_at_first setup.failing_read);
@@ -145,9 +145,9 @@ AllStand [] [] = Unit {0}
 AllStand (s ∷ ss) (n ∷ ns) = (n.address ≡ s.0) × Stands s.1 n.link × AllStand ss ns
 AllStand _ _ = ⊥
 
-all_at_first : (ss : List (Address × Setup)) → AllStand ss (map node_at_start ss)
-all_at_first [] = tt
-all_at_first (s ∷ ss) = (refl, at_first s.1, all_at_first ss)
+all_at_first : (levels : ℕ) (ss : List (Address × Setup)) → AllStand ss (map (node_at_start levels) ss)
+all_at_first levels [] = tt
+all_at_first levels (s ∷ ss) = (refl, at_first levels s.1, all_at_first levels ss)
 
 one_set : (ss : List (Address × Setup)) (ns : List Node) (a : Address) (old new : Seen) → link_at ns a ≡ Some old → ((setup : Setup) → Stands setup old → Stands setup new) → AllStand ss ns → AllStand ss (set_link ns a new)
 one_set [] [] a old new found step all = tt
@@ -176,4 +176,4 @@ pub only_faults : OnlyFaults
 only_faults session output p =
     let run = p.plays.is_run in
     shown session.nodes p.after.nodes
-    (all_run session.nodes (start session).nodes p.after.nodes run.events (all_at_first session.nodes) (calls_run None (start session) p.after p.plays.run run.events run.calls))
+    (all_run session.nodes (start session).nodes p.after.nodes run.events (all_at_first session.levels session.nodes) (calls_run None (start session) p.after p.plays.run run.events run.calls))

@@ -1,7 +1,7 @@
 -- What is seen of a link over bytes in memory.
 use Rattle.std.proofs.Common.{map, drop, Some}
 use Rattle.resp_core.specs.Promise.{refuses_at}
-use Rattle.resp_core.specs.Standing.{waiting}
+use Rattle.resp_core.specs.Standing.{waiting, level_limit}
 use Rattle.resp_core.specs.View.{push_view}
 use Rattle.resp_link.specs.Call.{Seen}
 use Rattle.resp_link.specs.declared.byte_link.ByteLink.{ByteLink}
@@ -18,4 +18,5 @@ link_seen l = record {
   write_counts = record { promise = refuses_at l.writer.refused_at; writes = l.writer.writes; refused = l.writer.refused; no_room = l.writer.no_room };
   flushed = l.writer.flushed;
   usable = l.usable;
+  limit = level_limit l.parser;
 }

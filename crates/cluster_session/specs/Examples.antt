@@ -7,7 +7,7 @@ use Rattle.cluster_calls.specs.Calls.Call.{Pipeline}
 use Rattle.cluster_session.specs.Lines.{command_of, said_by}
 use Rattle.cluster_session.specs.Script.{session_in_text}
 
-pub nothing_sets_up_nothing : session_in_text [] ≡ Ok (record { nodes = []; read_only = []; budget = 1; calls = [] })
+pub nothing_sets_up_nothing : session_in_text [] ≡ Ok (record { nodes = []; read_only = []; budget = 1; levels = 100; calls = [] })
 unfolding said_by is_utf8 chars encode decode_pairs
 nothing_sets_up_nothing = refl
 
@@ -24,6 +24,14 @@ pub a_budget_comes_before_a_call : session_in_text (codes "fan 61\nbudget 2") �
 unfolding said_by is_utf8 chars encode decode_pairs
 a_budget_comes_before_a_call = refl
 
+pub levels_are_set_once : session_in_text (codes "levels 7\nlevels 7") ≡ Err 2
+unfolding said_by is_utf8 chars encode decode_pairs
+levels_are_set_once = refl
+
+pub no_level_is_none : session_in_text (codes "levels 0") ≡ Err 1
+unfolding said_by is_utf8 chars encode decode_pairs
+no_level_is_none = refl
+
 -- the line that begins it is the bad one, and not the text's last
 pub a_pipeline_has_an_end : session_in_text (codes "pipe\ncmd 61\n") ≡ Err 1
 unfolding said_by is_utf8 chars encode decode_pairs
@@ -31,6 +39,6 @@ a_pipeline_has_an_end = refl
 
 pub a_pipeline_takes_its_commands :
     session_in_text (codes "budget 3\npipe\ncmd 61\nrun")
-    ≡ Ok (record { nodes = []; read_only = []; budget = 3; calls = Pipeline (record { command = command_of ((97 ∷ []) ∷ []); ignored = false } ∷ []) ∷ [] })
+    ≡ Ok (record { nodes = []; read_only = []; budget = 3; levels = 100; calls = Pipeline (record { command = command_of ((97 ∷ []) ∷ []); ignored = false } ∷ []) ∷ [] })
 unfolding said_by is_utf8 chars encode decode_pairs
 a_pipeline_takes_its_commands = refl

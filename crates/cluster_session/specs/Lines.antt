@@ -20,6 +20,7 @@ pub data Meaning : Type 0 where
   fault : (at : Address) → (access : Access) → (number : ℕ) → Meaning
   read_only : (name : List ℕ) → Meaning
   budget : ℕ → Meaning
+  levels : ℕ → Meaning
   call : Call → Meaning
   pipe : Meaning
   command : Entry → Meaning
@@ -63,6 +64,9 @@ piece_size n = some_where (nat_lt 0 n && nat_lt n (2 ^ 32)) n
 abbrev pub budget_size : ℕ → Option ℕ
 budget_size n = some_where (nat_lt n (2 ^ 16)) n
 
+abbrev pub levels_size : ℕ → Option ℕ
+levels_size n = some_where (nat_lt 0 n && nat_lt n 513) n
+
 -- pairs of hexadecimal digits in any case, or a dash for no bytes
 abbrev pub bytes_word : List ℕ → Option (List ℕ)
 bytes_word word = if bytes_eq word [] then None else if bytes_eq word (codes "-") then Some [] else result_ok (decode_of word)
@@ -101,6 +105,10 @@ fault_line _ = None
 abbrev pub budget_line : Words → Option Meaning
 budget_line (number ∷ []) = option_map budget (option_and_then budget_size (number_word number))
 budget_line _ = None
+
+abbrev pub levels_line : Words → Option Meaning
+levels_line (number ∷ []) = option_map levels (option_and_then levels_size (number_word number))
+levels_line _ = None
 
 abbrev pub refresh_line : Words → Option Meaning
 refresh_line (at ∷ []) = option_map (λ a. call (Refresh a)) (address_read at)
@@ -145,6 +153,7 @@ said_by word args =
     if bytes_eq word (codes "node") then node_line args else
     if bytes_eq word (codes "fault") then fault_line args else
     if bytes_eq word (codes "budget") then budget_line args else
+    if bytes_eq word (codes "levels") then levels_line args else
     if bytes_eq word (codes "refresh") then refresh_line args else
     if bytes_eq word (codes "query") then query_line args else
     if bytes_eq word (codes "order") then order_line args else

@@ -8,7 +8,7 @@ use Rattle.std.specs.BTreeMap.{insert_entry, is_at}
 use Rattle.std.specs.Map.{lookup, set_value}
 use Rattle.cluster_routing.specs.Address.{Address, address_cmp}
 use Rattle.cluster_calls.specs.Calls.Call.{Call, Pipeline, Entry}
-use Rattle.cluster_session.specs.Lines.{Access, reading, writing, Meaning, node, fault, read_only, budget, call, pipe, command, run, Words, is_skipped, pieces, said_by_text}
+use Rattle.cluster_session.specs.Lines.{Access, reading, writing, Meaning, node, fault, read_only, budget, levels, call, pipe, command, run, Words, is_skipped, pieces, said_by_text}
 use Rattle.cluster_session.specs.Session.{Session, Setup}
 
 -- what is set up for each node, by ascending address
@@ -20,11 +20,12 @@ pub record Draft : Type 0 where
   pub nodes : Nodes
   pub read_only : List (List ℕ)
   pub budget : Option ℕ
+  pub levels : Option ℕ
   pub calls : List Call
   pub pipeline : Option (List Entry)
 
 abbrev pub nothing_yet : Draft
-nothing_yet = record { nodes = []; read_only = []; budget = None; calls = []; pipeline = None }
+nothing_yet = record { nodes = []; read_only = []; budget = None; levels = None; calls = []; pipeline = None }
 
 -- ---- what a line adds; nothing where it is bad at its place
 
@@ -69,6 +70,10 @@ add_read_only name draft = record draft { read_only = draft.read_only ++ name �
 abbrev pub set_budget : ℕ → Draft → Option Draft
 set_budget number draft = if is_some draft.budget then None else Some (record draft { budget = Some number })
 
+-- how deep values may nest, where no line has set it
+abbrev pub set_levels : ℕ → Draft → Option Draft
+set_levels number draft = if is_some draft.levels then None else Some (record draft { levels = Some number })
+
 abbrev pub add_call : Call → Draft → Draft
 add_call c draft = record draft { calls = draft.calls ++ c ∷ [] }
 
@@ -87,6 +92,7 @@ add_outside later (node at piece bytes) draft =
 add_outside later (fault at access number) draft = before_calls draft (add_fault at access number draft)
 add_outside later (read_only name) draft = before_calls draft (Some (add_read_only name draft))
 add_outside later (budget number) draft = before_calls draft (set_budget number draft)
+add_outside later (levels number) draft = before_calls draft (set_levels number draft)
 add_outside later (call c) draft = Some (add_call c draft)
 add_outside later pipe draft = begin_pipeline later draft
 add_outside later (command entry) draft = None
@@ -129,9 +135,9 @@ abbrev pub add_lines : ℕ → Words → Draft → Result Draft ℕ
 add_lines number [] draft = Ok draft
 add_lines number (line ∷ later) draft = and_then (λ next. add_lines (suc number) later next) (ok_or (add_line later line draft) number)
 
--- without a line for it a request follows one redirect
+-- without a line for it a request follows one redirect, and values nest a hundred deep at most
 abbrev pub session_of : Draft → Session
-session_of draft = record { nodes = draft.nodes; read_only = draft.read_only; budget = unwrap_or draft.budget 1; calls = draft.calls }
+session_of draft = record { nodes = draft.nodes; read_only = draft.read_only; budget = unwrap_or draft.budget 1; levels = unwrap_or draft.levels 100; calls = draft.calls }
 
 -- the session of a text, whose lines are what stands between the bytes LF
 abbrev pub session_in_text : List ℕ → Result Session ℕ

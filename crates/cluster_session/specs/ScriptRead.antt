@@ -1,5 +1,5 @@
 -- What the code reads of a session's lines.
-use Rattle.std.specs.Prelude.{◌≡◌, ⊤, ℕ, map, Option, Some, None, Result, Ok, Err}
+use Rattle.std.specs.Prelude.{◌≡◌, ⊤, ℕ, map, option_map, Option, Some, None, Result, Ok, Err}
 use Rattle.std.specs.BTreeMap.{BTreeMap}
 use Rattle.cluster_routing.specs.Address.{Address}
 use Rattle.cluster_routing.specs.Info.{texts}
@@ -34,6 +34,7 @@ draft_in script = record {
   nodes = nodes_in script.nodes;
   read_only = texts script.read_only.items;
   budget = script.budget;
+  levels = option_map (λ levels. levels.limit) script.levels;
   calls = map call_in script.calls.items;
   pipeline = script.pipeline;
 }

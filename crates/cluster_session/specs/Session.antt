@@ -18,19 +18,20 @@ pub record Setup : Type 0 where
   pub failing_write : ℕ
 
 -- The nodes in the ascending order of their addresses, the names of commands that only read, how many redirects a request
--- follows, and the calls in order.
+-- follows, how deep the values nest that the nodes answer, and the calls in order.
 pub record Session : Type 0 where
   pub nodes : List (Address × Setup)
   pub read_only : List (List ℕ)
   pub budget : ℕ
+  pub levels : ℕ
   pub calls : List Call
 
 -- ---- the client before the first call
 
--- An open link: nothing was sent, and all the bytes are still to come. It refuses the read and the write that are to fail, and no
--- other.
-abbrev pub link_at_start : Setup → Seen
-link_at_start setup = record {
+-- An open link with this limit: nothing was sent, and all the bytes are still to come. It refuses the read and the write that are
+-- to fail, and no other.
+abbrev pub link_at_start : ℕ → Setup → Seen
+link_at_start levels setup = record {
   sent = Some [];
   left = Some setup.bytes;
   held = [];
@@ -39,10 +40,11 @@ link_at_start setup = record {
   write_counts = no_writes (refuses_at setup.failing_write);
   flushed = true;
   usable = true;
+  limit = levels;
 }
 
-abbrev pub node_at_start : Address × Setup → Node
-node_at_start node = record { address = node.0; link = link_at_start node.1 }
+abbrev pub node_at_start : ℕ → Address × Setup → Node
+node_at_start levels node = record { address = node.0; link = link_at_start levels node.1 }
 
 abbrev pub start : Session → World
-start session = new_world (map node_at_start session.nodes) (record { budget = session.budget; read_only = session.read_only })
+start session = new_world (map (node_at_start session.levels) session.nodes) (record { budget = session.budget; read_only = session.read_only })

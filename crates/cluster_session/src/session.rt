@@ -8,6 +8,7 @@ ghost use Rattle.cluster_session.specs.Output.{Prints};
 ghost use Rattle.cluster_session.specs.Streams.{NoneRefused, ReadingFailed};
 
 mod calls;
+mod levels;
 mod lines;
 mod play;
 mod print;

@@ -12,6 +12,7 @@ ghost use Rattle.cluster_session.specs.PrintedRun.{sent_bytes};
 ghost use Rattle.cluster_session.specs.ScriptRead.{setup_in};
 ghost use Rattle.cluster_session.specs.Session.{link_at_start};
 
+use crate::session::levels::Levels;
 use crate::session::lines::LineError;
 use crate::session::script::Node;
 use cluster_client::{
@@ -41,11 +42,15 @@ pub(super) fn address(alloc: Global, word: &str) -> Result<NodeAddress, LineErro
 }
 
 /// A link to a node as it is set up.
-pub(super) fn link(alloc: Global, node: Node) -> Link
-    ensures { ⟦<ByteLink<MemoryReader, MemoryWriter> as ConnectionLike>⟧.seen result ≡ link_at_start (setup_in node) }
+pub(super) fn link(alloc: Global, levels: Levels, node: Node) -> Link
+    ensures { ⟦<ByteLink<MemoryReader, MemoryWriter> as ConnectionLike>⟧.seen result ≡ link_at_start levels.limit (setup_in node) }
 {
     let reader = MemoryReader::new(node.bytes, node.piece, node.failing_read);
-    ByteLink::new(alloc, reader, MemoryWriter::new(alloc, node.failing_write))
+    let writer = MemoryWriter::new(alloc, node.failing_write);
+    match ByteLink::with_level_limit(alloc, reader, writer, levels.limit) {
+        Ok(link) => link,
+        Err(_) => unreachable!(),
+    }
 }
 
 /// A client over these links that follows at most `budget` redirects for a request.

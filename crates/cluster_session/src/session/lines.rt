@@ -4,11 +4,12 @@ ghost use Rattle.std.specs.Result.{result_ok};
 ghost use Rattle.hex.specs.Hex.{decode_of};
 ghost use Rattle.cluster_routing.specs.Info.{texts};
 ghost use Rattle.cluster_client.specs.Shown.{streams_in};
-ghost use Rattle.cluster_session.specs.Lines.{is_skipped, said_by_text, said_by_words, said_by, name_line, node_line, fault_line, budget_line, refresh_line, query_line, order_line, fan_line, command_line, xrange_line, xread_line, alone, command_words, each_read, bytes_word, number_word, from_one, piece_size, budget_size, access_word, between_commas, pieces, streams_of, streams_word, command_of};
+ghost use Rattle.cluster_session.specs.Lines.{is_skipped, said_by_text, said_by_words, said_by, name_line, node_line, fault_line, budget_line, levels_line, refresh_line, query_line, order_line, fan_line, command_line, xrange_line, xread_line, alone, command_words, each_read, bytes_word, number_word, from_one, piece_size, budget_size, levels_size, access_word, between_commas, pieces, streams_of, streams_word, command_of};
 ghost use Rattle.cluster_session.specs.LinesRead.{Reads, access_in, meaning_in, words_in};
 ghost use Rattle.cluster_session.specs.Script.{is_run, said_by_line};
 
 use crate::session::calls;
+use crate::session::levels::Levels;
 use crate::session::script::{Access, Line};
 use cluster_client::{Call, Cmd, StreamReadOptions};
 use hex::FromHexError;
@@ -16,6 +17,9 @@ use std::alloc::{AllocError, AllocFailed, Global};
 
 // The most bytes that a line may let one read give.
 const LARGEST_PIECE: u64 = 4_294_967_295;
+
+// The greatest limit of levels that a line may set.
+const MOST_LEVELS: u64 = 512;
 
 /// Why a line is not taken.
 #[derive(Clone, Copy, Debug, PartialEq, Eq)]
@@ -112,6 +116,7 @@ fn read_form(alloc: Global, word: &str, args: &[&str]) -> Result<Line, LineError
         "node" => read_node(alloc, args),
         "fault" => read_fault(alloc, args),
         "budget" => read_budget(args),
+        "levels" => read_levels(args),
         "refresh" => read_refresh(alloc, args),
         "query" => read_query(alloc, args),
         "order" => read_order(alloc, args),
@@ -157,6 +162,15 @@ fn read_budget(args: &[&str]) -> Result<Line, LineError>
 {
     match args {
         [budget] => Ok(Line::Budget(budget_of(budget)?)),
+        _ => Err(LineError::Bad),
+    }
+}
+
+fn read_levels(args: &[&str]) -> Result<Line, LineError>
+    ensures { Reads meaning_in (levels_line (words_in args.now)) result }
+{
+    match args {
+        [levels] => Ok(Line::Levels(levels_of(levels)?)),
         _ => Err(LineError::Bad),
     }
 }
@@ -340,6 +354,17 @@ fn budget_of(word: &str) -> Result<u16, LineError>
     ensures { Reads (λ n. n) (option_and_then budget_size (number_word word.now)) result }
 {
     u16::try_from(number_of(word)?).map_err(|_| LineError::Bad)
+}
+
+fn levels_of(word: &str) -> Result<Levels, LineError>
+    ensures { Reads (λ levels. levels.limit) (option_and_then levels_size (number_word word.now)) result }
+{
+    match number_of(word)? {
+        limit @ 1..=MOST_LEVELS => Ok(Levels {
+            limit: limit as u16,
+        }),
+        _ => Err(LineError::Bad),
+    }
 }
 
 /// The bytes of a word: pairs of hexadecimal digits in any case, or `-` for no bytes.

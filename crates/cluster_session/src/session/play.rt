@@ -12,6 +12,7 @@ ghost use Rattle.cluster_session.specs.ScriptRead.{node_in, session_in};
 ghost use Rattle.cluster_session.specs.Session.{node_at_start};
 
 use crate::session::calls::Link;
+use crate::session::levels::Levels;
 use crate::session::script::{Node, Script, ScriptError};
 use crate::session::{calls, print};
 use cluster_client::{ByteLink, ConnectionLike, MemoryReader, MemoryWriter, NodeAddress, Played};
@@ -59,10 +60,11 @@ fn play_script(alloc: Global, script: Script) -> Result<Printed, RedisError>
         nodes,
         read_only,
         budget,
+        levels,
         calls,
         ..
     } = script;
-    let links = links(alloc, nodes)?;
+    let links = links(alloc, Levels::or_usual(levels), nodes)?;
     let mut client = calls::client(alloc, links, read_only, budget.unwrap_or(BUDGET))?;
     let mut output = String::new(alloc);
     print_played(&mut output, &calls::play_all(&mut client, alloc, &calls)?)?;
@@ -73,14 +75,15 @@ fn play_script(alloc: Global, script: Script) -> Result<Printed, RedisError>
 /// A link for each node, in the ascending order of the addresses.
 fn links(
     alloc: Global,
+    levels: Levels,
     set_up: BTreeMap<NodeAddress, Node>,
 ) -> Result<Vec<(NodeAddress, Link)>, AllocError>
-    ensures links { IfOk result (λ links. nodes ⟦<ByteLink<MemoryReader, MemoryWriter> as ConnectionLike>⟧.seen links.items ≡ map node_at_start (map node_in set_up.entries)) }
+    ensures links { IfOk result (λ links. nodes ⟦<ByteLink<MemoryReader, MemoryWriter> as ConnectionLike>⟧.seen links.items ≡ map (node_at_start levels.limit) (map node_in set_up.entries)) }
     ensures distinct { IfOk result (λ links. has_repeats (addresses_of (nodes ⟦<ByteLink<MemoryReader, MemoryWriter> as ConnectionLike>⟧.seen links.items)) ≡ false) }
 {
     let mut links = Vec::with_capacity(alloc, set_up.len())?;
     for (address, node) in set_up {
-        links.push((address, calls::link(alloc, node)))?;
+        links.push((address, calls::link(alloc, levels, node)))?;
     }
     Ok(links)
 }

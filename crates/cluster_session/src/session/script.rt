@@ -5,9 +5,10 @@ ghost use Rattle.cluster_routing.specs.Seen.{address};
 ghost use Rattle.cluster_client.specs.Shown.{call_in};
 ghost use Rattle.cluster_session.specs.Lines.{command, pieces, run};
 ghost use Rattle.cluster_session.specs.LinesRead.{access_in, meaning_in, words_in};
-ghost use Rattle.cluster_session.specs.Script.{add_call, add_fault, add_inside, add_line, add_lines, add_node, add_outside, add_read_only, add_said, before_calls, begin_pipeline, is_run, nothing_yet, put_fault, put_node, session_in_text, first_fault, set_budget, set_fault};
+ghost use Rattle.cluster_session.specs.Script.{add_call, add_fault, add_inside, add_line, add_lines, add_node, add_outside, add_read_only, add_said, before_calls, begin_pipeline, is_run, nothing_yet, put_fault, put_node, session_in_text, first_fault, set_budget, set_levels, set_fault};
 ghost use Rattle.cluster_session.specs.ScriptRead.{Makes, MakesAll, ReadsSession, draft_in, nodes_in, setup_in};
 
+use crate::session::levels::Levels;
 use crate::session::lines::{LineError, is_run, read_line};
 use cluster_client::{Call, ClusterPipeline, Cmd, NodeAddress};
 use std::alloc::{AllocError, Global};
@@ -72,6 +73,7 @@ pub(super) enum Line {
     Fault(NodeAddress, Access, u64),
     ReadOnly(Vec<u8>),
     Budget(u16),
+    Levels(Levels),
     Call(Call),
     /// It begins a pipeline.
     Pipe,
@@ -102,12 +104,13 @@ impl From<AllocError> for ScriptError {
 }
 
 /// A session: what is set up for each node, the names of commands that only read, a budget of
-/// redirects where a line sets it, and the calls in order.
+/// redirects and a limit of levels where lines set them, and the calls in order.
 #[derive(Drop)]
 pub(super) struct Script {
     pub nodes: BTreeMap<NodeAddress, Node>,
     pub read_only: Vec<Vec<u8>>,
     pub budget: Option<u16>,
+    pub levels: Option<Levels>,
     pub calls: Vec<Call>,
     // The pipeline that no line has ended yet.
     pub pipeline: Option<ClusterPipeline>,
@@ -121,6 +124,7 @@ impl Script {
             nodes: BTreeMap::new(alloc),
             read_only: Vec::new(alloc),
             budget: None,
+            levels: None,
             calls: Vec::new(alloc),
             pipeline: None,
         }
@@ -192,6 +196,7 @@ impl Script {
             Line::Fault(address, access, number) => self.add_fault(&address, access, number),
             Line::ReadOnly(name) => self.add_read_only(name),
             Line::Budget(budget) => self.set_budget(budget),
+            Line::Levels(levels) => self.set_levels(levels),
             Line::Call(call) => self.add_call(call),
             Line::Pipe => self.begin_pipeline(alloc, later),
             Line::Command { .. } | Line::Run => Err(LineError::Bad),
@@ -237,6 +242,17 @@ impl Script {
             return Err(LineError::Bad);
         }
         self.budget = Some(budget);
+        Ok(())
+    }
+
+    // Refused behind a call, and where a line set it already.
+    fn set_levels(&mut self, levels: Levels) -> Result<(), LineError>
+        ensures { Makes (before_calls (draft_in self.old) (set_levels levels.limit (draft_in self.old))) (draft_in self.new) result }
+    {
+        if !self.calls.is_empty() || self.levels.is_some() {
+            return Err(LineError::Bad);
+        }
+        self.levels = Some(levels);
         Ok(())
     }
 

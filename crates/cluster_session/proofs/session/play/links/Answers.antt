@@ -6,4 +6,4 @@ use Rattle.cluster_session.proofs.Seen.{link_seen}
 use Rattle.cluster_session.proofs.session.play.links.Goals as goal
 
 pub returns-clause-distinct : goal.returns-clause-distinct
-returns-clause-distinct c = no_repeats _ order_is (nodes link_seen c.loop-address.links.items) c.args.set_up.entries (search rules) c.len.ensures.ordered
+returns-clause-distinct c = no_repeats _ order_is c.args.levels.limit (nodes link_seen c.loop-address.links.items) c.args.set_up.entries (search rules) c.len.ensures.ordered

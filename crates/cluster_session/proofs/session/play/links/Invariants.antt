@@ -7,5 +7,5 @@ use Rattle.cluster_session.proofs.session.play.links.Given as goal
 
 abbrev pub invariant-loop-address : goal.invariant-loop-address
 invariant-loop-address l =
-    nodes link_seen l.links.items ++ map node_at_start (map node_in l.address-iterator)
-    ≡ map node_at_start (map node_in l.fn.set_up.entries)
+    nodes link_seen l.links.items ++ map (node_at_start l.fn.levels.limit) (map node_in l.address-iterator)
+    ≡ map (node_at_start l.fn.levels.limit) (map node_in l.fn.set_up.entries)
