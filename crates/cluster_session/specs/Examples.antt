@@ -7,7 +7,8 @@ use Rattle.cluster_calls.specs.Calls.Call.{Pipeline}
 use Rattle.cluster_session.specs.Lines.{command_of, said_by}
 use Rattle.cluster_session.specs.Script.{session_in_text}
 
-pub nothing_sets_up_nothing : session_in_text [] ≡ Ok (record { nodes = []; read_only = []; budget = 1; levels = 100; calls = [] })
+pub nothing_sets_up_nothing : session_in_text []
+    ≡ Ok (record { nodes = []; read_only = []; budget = 1; levels = 100; calls = [] })
 unfolding said_by is_utf8 chars encode decode_pairs
 nothing_sets_up_nothing = refl
 
@@ -39,6 +40,12 @@ a_pipeline_has_an_end = refl
 
 pub a_pipeline_takes_its_commands :
     session_in_text (codes "budget 3\npipe\ncmd 61\nrun")
-    ≡ Ok (record { nodes = []; read_only = []; budget = 3; levels = 100; calls = Pipeline (record { command = command_of ((97 ∷ []) ∷ []); ignored = false } ∷ []) ∷ [] })
+    ≡ Ok (record {
+      nodes = [];
+      read_only = [];
+      budget = 3;
+      levels = 100;
+      calls = Pipeline (record { command = command_of ((97 ∷ []) ∷ []); ignored = false } ∷ []) ∷ [];
+    })
 unfolding said_by is_utf8 chars encode decode_pairs
 a_pipeline_takes_its_commands = refl

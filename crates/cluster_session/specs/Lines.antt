@@ -69,7 +69,8 @@ levels_size n = some_where (nat_lt 0 n && nat_lt n 513) n
 
 -- pairs of hexadecimal digits in any case, or a dash for no bytes
 abbrev pub bytes_word : List ℕ → Option (List ℕ)
-bytes_word word = if bytes_eq word [] then None else if bytes_eq word (codes "-") then Some [] else result_ok (decode_of word)
+bytes_word word = if bytes_eq word [] then None else if bytes_eq word (codes "-") then Some []
+    else result_ok (decode_of word)
 
 abbrev pub access_word : List ℕ → Option Access
 access_word word =
@@ -87,19 +88,23 @@ command_words (w ∷ ws) = option_map command_of (each_read bytes_word (w ∷ ws
 -- as many ids as keys
 abbrev pub streams_of : Words → Words → Option (List Stream)
 streams_of [] [] = Some []
-streams_of (key ∷ keys) (id ∷ ids) = option_map (λ streams. record { key = key; id = id } ∷ streams) (streams_of keys ids)
+streams_of (key ∷ keys) (id ∷ ids) = option_map (λ streams. record { key = key; id = id } ∷ streams)
+    (streams_of keys ids)
 streams_of _ _ = None
 
 -- ---- the forms, by their first word
 
 abbrev pub node_line : Words → Option Meaning
 node_line (at ∷ piece ∷ bytes ∷ []) =
-    option_and_then (λ a. option_and_then (λ n. option_map (node a n) (bytes_word bytes)) (option_and_then piece_size (number_word piece))) (address_read at)
+    option_and_then (λ a. option_and_then (λ n. option_map (node a n) (bytes_word bytes))
+    (option_and_then piece_size (number_word piece))) (address_read at)
 node_line _ = None
 
 abbrev pub fault_line : Words → Option Meaning
 fault_line (at ∷ access ∷ number ∷ []) =
-    option_and_then (λ a. option_and_then (λ k. option_map (fault a k) (option_and_then from_one (number_word number))) (access_word access)) (address_read at)
+    option_and_then (λ a. option_and_then
+    (λ k. option_map (fault a k) (option_and_then from_one (number_word number))) (access_word access))
+    (address_read at)
 fault_line _ = None
 
 abbrev pub budget_line : Words → Option Meaning
@@ -115,32 +120,41 @@ refresh_line (at ∷ []) = option_map (λ a. call (Refresh a)) (address_read at)
 refresh_line _ = None
 
 abbrev pub query_line : Words → Option Meaning
-query_line (number ∷ args) = option_and_then (λ c. option_map (λ n. call (Query c n)) (number_word number)) (command_words args)
+query_line (number ∷ args) = option_and_then (λ c. option_map (λ n. call (Query c n)) (number_word number))
+    (command_words args)
 query_line _ = None
 
 abbrev pub order_line : Words → Option Meaning
 order_line (order ∷ args) =
-    option_and_then (λ c. option_map (λ parts. call (Ordered c parts 0)) (between_commas number_word order)) (command_words args)
+    option_and_then (λ c. option_map (λ parts. call (Ordered c parts 0)) (between_commas number_word order))
+    (command_words args)
 order_line _ = None
 
 abbrev pub fan_line : Words → Option Meaning
 fan_line args = option_map (λ c. call (FanOut c)) (command_words args)
 
 abbrev pub command_line : Bool → Words → Option Meaning
-command_line ignored args = option_map (λ c. command (record { command = c; ignored = ignored })) (command_words args)
+command_line ignored args = option_map (λ c. command (record { command = c; ignored = ignored }))
+    (command_words args)
 
 abbrev pub xrange_line : Words → Option Meaning
 xrange_line (key ∷ start ∷ end ∷ []) =
-    option_and_then (λ k. option_and_then (λ s. option_map (λ e. call (OnStreams (Xrange k s e))) (bytes_word end)) (bytes_word start)) (bytes_word key)
+    option_and_then (λ k. option_and_then
+    (λ s. option_map (λ e. call (OnStreams (Xrange k s e))) (bytes_word end)) (bytes_word start))
+    (bytes_word key)
 xrange_line _ = None
 
 abbrev pub streams_word : List ℕ → List ℕ → Option (List Stream)
 streams_word keys ids =
-    option_and_then (λ ks. option_and_then (streams_of ks) (between_commas bytes_word ids)) (between_commas bytes_word keys)
+    option_and_then (λ ks. option_and_then (streams_of ks) (between_commas bytes_word ids))
+    (between_commas bytes_word keys)
 
 abbrev pub xread_line : Words → Option Meaning
 xread_line (keys ∷ ids ∷ []) =
-    option_map (λ streams. call (OnStreams (Xread streams (record { group = None; block = None; count = None; noack = false; claim = None })))) (streams_word keys ids)
+    option_map (λ streams. call
+    (OnStreams (Xread streams
+    (record { group = None; block = None; count = None; noack = false; claim = None }))))
+    (streams_word keys ids)
 xread_line _ = None
 
 -- a word that stands alone
@@ -176,7 +190,8 @@ name_line (b ∷ bs) = Some (read_only (b ∷ bs))
 
 abbrev pub said_by_text : List ℕ → Option Meaning
 said_by_text text =
-    if starts_with nat_eq text (codes "readonly ") then name_line (drop 9 text) else said_by_words (pieces 32 text)
+    if starts_with nat_eq text (codes "readonly ") then name_line (drop 9 text)
+    else said_by_words (pieces 32 text)
 
 -- an empty line, and a comment
 abbrev pub is_skipped : List ℕ → Bool

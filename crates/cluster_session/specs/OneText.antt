@@ -22,5 +22,6 @@ abbrev pub MemoryWasThere : {session : Session} {output : List ℕ} → PrintsRu
 MemoryWasThere run = HadMemory run.plays.run × HadRoom run.after.nodes
 
 abbrev pub OneText : Type 0
-OneText = (session : Session) (output output' : List ℕ) (p : PrintsRun session output) (q : PrintsRun session output')
+OneText = (session : Session) (output output' : List ℕ) (p : PrintsRun session output)
+    (q : PrintsRun session output')
     → AreFaultless session → MemoryWasThere p → MemoryWasThere q → output ≡ output'

@@ -9,25 +9,31 @@ use Rattle.cluster_calls.specs.Links.World.{Node}
 use Rattle.cluster_session.specs.PrintedRun.{PrintsRun}
 use Rattle.cluster_session.specs.Session.{Session, Setup}
 
--- The reads of a link, where the one with this number is to fail: it was not made, and none was refused; it was the last one, and
--- the only one refused; or it was not made, and the bytes ended.
+-- The reads of a link, where the one with this number is to fail: it was not made, and none was refused; it
+-- was the last one, and the only one refused; or it was not made, and the bytes ended.
 pub data ReadsRefused (number : ℕ) (link : Seen) : Type 0 where
-  no_read : link.counts.refused ≡ 0 → RefusesNone (refuses_at number) 0 link.counts.reads → ReadsRefused number link
-  that_read : link.counts.refused ≡ 1 → MayRefuse (refuses_at number) link.counts.reads → ReadsRefused number link
+  no_read : link.counts.refused ≡ 0 → RefusesNone (refuses_at number) 0 link.counts.reads
+      → ReadsRefused number link
+  that_read : link.counts.refused ≡ 1 → MayRefuse (refuses_at number) link.counts.reads
+      → ReadsRefused number link
   ended : IsAtEnd link.left → RefusesNone (refuses_at number) 0 link.counts.reads → ReadsRefused number link
 
 -- The writes, likewise; one that found no room in memory was the last one, and the only one refused.
 pub data WritesRefused (number : ℕ) (link : Seen) : Type 0 where
-  no_write : link.write_counts.refused ≡ 0 → RefusesNone (refuses_at number) 0 link.write_counts.writes → WritesRefused number link
-  that_write : link.write_counts.refused ≡ 1 → link.write_counts.no_room ≡ 0 → MayRefuse (refuses_at number) link.write_counts.writes → WritesRefused number link
+  no_write : link.write_counts.refused ≡ 0 → RefusesNone (refuses_at number) 0 link.write_counts.writes
+      → WritesRefused number link
+  that_write : link.write_counts.refused ≡ 1 → link.write_counts.no_room ≡ 0
+      → MayRefuse (refuses_at number) link.write_counts.writes → WritesRefused number link
   no_room : link.write_counts.refused ≡ 1 → link.write_counts.no_room ≡ 1 → WritesRefused number link
 
 -- the nodes of a session behind its calls, each with its link
 abbrev pub RefuseOnlyFaults : List (Address × Setup) → List Node → Type 0
 RefuseOnlyFaults [] [] = ⊤
 RefuseOnlyFaults (s ∷ ss) (n ∷ ns) =
-    (n.address ≡ s.0) × ReadsRefused s.1.failing_read n.link × WritesRefused s.1.failing_write n.link × RefuseOnlyFaults ss ns
+    (n.address ≡ s.0) × ReadsRefused s.1.failing_read n.link × WritesRefused s.1.failing_write n.link
+    × RefuseOnlyFaults ss ns
 RefuseOnlyFaults _ _ = ⊥
 
 abbrev pub OnlyFaults : Type 0
-OnlyFaults = (session : Session) (output : List ℕ) (p : PrintsRun session output) → RefuseOnlyFaults session.nodes p.after.nodes
+OnlyFaults = (session : Session) (output : List ℕ) (p : PrintsRun session output)
+    → RefuseOnlyFaults session.nodes p.after.nodes

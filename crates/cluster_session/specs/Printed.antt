@@ -1,5 +1,7 @@
--- What a session prints for an answer and for a refusal: the form's name, then its parts, all separated by one space.
--- Sources: the session language is this repository's own (docs/SESSIONS.md); the forms are those of the RESP3 specification, the names of kinds those of the crate `redis`, the first words of pushes those of the Redis documentation, "Pub/Sub" and "Client side caching".
+-- What a session prints for an answer and for a refusal: the form's name, then its parts, all separated by
+-- one space. Sources: the session language is this repository's own (docs/SESSIONS.md); the forms are those
+-- of the RESP3 specification, the names of kinds those of the crate `redis`, the first words of pushes those
+-- of the Redis documentation, "Pub/Sub" and "Client side caching".
 use Rattle.std.specs.Prelude.{ℕ, ℤ, suc, Bool, true, false, List, [], ◌∷◌, ◌++◌, length, codes, Option, Some, None, Result, Ok, Err}
 use Rattle.std.specs.List.{flat_map}
 use Rattle.std.specs.Fmt.{decimal, signed_decimal}
@@ -60,13 +62,16 @@ abbrev mutual
   answer_words (simple bytes) = codes "simple " ++ hex_word bytes
   answer_words okay = codes "okay"
   answer_words (forms.map pairs) = codes "map " ++ (decimal (pair_count pairs) ++ pair_words pairs)
-  answer_words (attribute inner pairs) = codes "attribute " ++ ((decimal (pair_count pairs) ++ pair_words pairs) ++ (codes " " ++ answer_words inner))
+  answer_words (attribute inner pairs) = codes "attribute "
+      ++ ((decimal (pair_count pairs) ++ pair_words pairs) ++ (codes " " ++ answer_words inner))
   answer_words (set items) = codes "set " ++ (decimal (tree_count items) ++ each_words items)
   answer_words (double bytes) = codes "double " ++ hex_word bytes
   answer_words (boolean truth) = codes "bool " ++ truth_word truth
-  answer_words (verbatim format bytes) = codes "verbatim " ++ (hex_word (format_text format) ++ (codes " " ++ hex_word bytes))
+  answer_words (verbatim format bytes) = codes "verbatim "
+      ++ (hex_word (format_text format) ++ (codes " " ++ hex_word bytes))
   answer_words (big_number digits) = codes "big " ++ hex_word digits
-  answer_words (push kind items) = codes "push " ++ (hex_word (kind_text kind) ++ (codes " " ++ (decimal (tree_count items) ++ each_words items)))
+  answer_words (push kind items) = codes "push "
+      ++ (hex_word (kind_text kind) ++ (codes " " ++ (decimal (tree_count items) ++ each_words items)))
   answer_words (server_error error) = codes "error " ++ hex_word error.code
 
   -- the words of each tree, a space before each
@@ -77,7 +82,8 @@ abbrev mutual
   -- the words of each key and value, a space before each
   pub pair_words : Pairs → List ℕ
   pair_words no_pairs = []
-  pair_words (pair key value ps) = codes " " ++ (answer_words key ++ (codes " " ++ (answer_words value ++ pair_words ps)))
+  pair_words (pair key value ps) = codes " "
+      ++ (answer_words key ++ (codes " " ++ (answer_words value ++ pair_words ps)))
 
 -- ---- entries of streams
 
@@ -93,18 +99,21 @@ field_words field = codes " " ++ (hex_word field.0 ++ (codes " " ++ answer_words
 -- an entry: its id, its fields behind their number, and when and how often it was delivered
 abbrev pub entry_words : Entry → List ℕ
 entry_words entry =
-    codes "id " ++ (hex_word entry.id ++ (codes " " ++ (decimal (length entry.fields) ++ (flat_map field_words entry.fields
+    codes "id " ++ (hex_word entry.id
+    ++ (codes " " ++ (decimal (length entry.fields) ++ (flat_map field_words entry.fields
     ++ (codes " " ++ (number_word entry.milliseconds ++ (codes " " ++ number_word entry.deliveries)))))))
 
 abbrev pub entries_words : List Entry → List ℕ
-entries_words entries = codes "ids " ++ (decimal (length entries) ++ flat_map (λ entry. codes " " ++ entry_words entry) entries)
+entries_words entries = codes "ids "
+    ++ (decimal (length entries) ++ flat_map (λ entry. codes " " ++ entry_words entry) entries)
 
 -- a stream: its key, and its entries
 abbrev pub row_words : Row → List ℕ
 row_words row = codes "key " ++ (hex_word row.key ++ (codes " " ++ entries_words row.entries))
 
 abbrev pub rows_words : List Row → List ℕ
-rows_words rows = codes "keys " ++ (decimal (length rows) ++ flat_map (λ row. codes " " ++ row_words row) rows)
+rows_words rows = codes "keys "
+    ++ (decimal (length rows) ++ flat_map (λ row. codes " " ++ row_words row) rows)
 
 -- ---- the lines of a call
 
@@ -112,7 +121,8 @@ rows_words rows = codes "keys " ++ (decimal (length rows) ++ flat_map (λ row. c
 abbrev pub refused_line : Refusal → List ℕ
 refused_line refusal = codes "err " ++ (kind_name (kind_of refusal) ++ codes "\n")
 
--- the line of an answered call: an accepted refresh has nothing more to print, and no line of a session makes the others
+-- the line of an answered call: an accepted refresh has nothing more to print, and no line of a session makes
+-- the others
 abbrev pub answer_line : Answer → List ℕ
 answer_line (Value reply) = codes "ok " ++ (answer_words reply ++ codes "\n")
 answer_line (Range entries) = codes "ok " ++ (entries_words entries ++ codes "\n")

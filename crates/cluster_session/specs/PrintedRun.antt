@@ -24,7 +24,8 @@ node_line node = sent_line node.address (sent_bytes node.link)
 abbrev pub run_text : List Shown → List Node → List ℕ
 run_text calls nodes = flat_map call_lines calls ++ flat_map node_line nodes
 
--- All calls of the session were played, one after another, from its nodes as they are set up, each address once; the text is theirs.
+-- All calls of the session were played, one after another, from its nodes as they are set up, each address
+-- once; the text is theirs.
 pub record PrintsRun (session : Session) (output : List ℕ) : Type 0 where
   pub after : World
   pub shown : List Shown

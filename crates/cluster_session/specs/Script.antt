@@ -39,20 +39,24 @@ setup_at at nodes = lookup (is_at (address_cmp at)) nodes
 
 -- a node, where its address has none yet
 abbrev pub put_node : Address → Setup → Nodes → Option Nodes
-put_node at setup nodes = if is_some (setup_at at nodes) then None else Some (insert_entry address_cmp nodes at setup)
+put_node at setup nodes = if is_some (setup_at at nodes) then None
+    else Some (insert_entry address_cmp nodes at setup)
 
 -- the number of what fails, where nothing of its kind is to fail yet
 abbrev pub first_fault : ℕ → ℕ → Option ℕ
 first_fault old number = if old == 0 then Some number else None
 
 abbrev pub set_fault : Access → ℕ → Setup → Option Setup
-set_fault reading number setup = option_map (λ n. record setup { failing_read = n }) (first_fault setup.failing_read number)
-set_fault writing number setup = option_map (λ n. record setup { failing_write = n }) (first_fault setup.failing_write number)
+set_fault reading number setup = option_map (λ n. record setup { failing_read = n })
+    (first_fault setup.failing_read number)
+set_fault writing number setup = option_map (λ n. record setup { failing_write = n })
+    (first_fault setup.failing_write number)
 
 -- a fault of a node that has none of its kind yet
 abbrev pub put_fault : Address → Access → ℕ → Nodes → Option Nodes
 put_fault at access number nodes =
-    option_map (set_value (is_at (address_cmp at)) nodes) (option_and_then (set_fault access number) (setup_at at nodes))
+    option_map (set_value (is_at (address_cmp at)) nodes)
+    (option_and_then (set_fault access number) (setup_at at nodes))
 
 abbrev pub with_nodes : Draft → Nodes → Draft
 with_nodes draft nodes = record draft { nodes = nodes }
@@ -83,12 +87,14 @@ is_run line = bytes_eq line (codes "run")
 
 -- a pipeline begins, where a line behind this one ends it
 abbrev pub begin_pipeline : Words → Draft → Option Draft
-begin_pipeline later draft = if list_any is_run later then Some (record draft { pipeline = Some [] }) else None
+begin_pipeline later draft = if list_any is_run later then Some (record draft { pipeline = Some [] })
+    else None
 
 -- outside a pipeline: what the line says, with the lines behind it
 abbrev pub add_outside : Words → Meaning → Draft → Option Draft
 add_outside later (node at piece bytes) draft =
-    before_calls draft (add_node at (record { piece = piece; bytes = bytes; failing_read = 0; failing_write = 0 }) draft)
+    before_calls draft (add_node at
+    (record { piece = piece; bytes = bytes; failing_read = 0; failing_write = 0 }) draft)
 add_outside later (fault at access number) draft = before_calls draft (add_fault at access number draft)
 add_outside later (read_only name) draft = before_calls draft (Some (add_read_only name draft))
 add_outside later (budget number) draft = before_calls draft (set_budget number draft)
@@ -133,12 +139,20 @@ and_then f (Err e) = Err e
 -- all lines, the first of which has this number; else the number of the first bad one
 abbrev pub add_lines : ℕ → Words → Draft → Result Draft ℕ
 add_lines number [] draft = Ok draft
-add_lines number (line ∷ later) draft = and_then (λ next. add_lines (suc number) later next) (ok_or (add_line later line draft) number)
+add_lines number (line ∷ later) draft = and_then (λ next. add_lines (suc number) later next)
+    (ok_or (add_line later line draft) number)
 
 -- without a line for it a request follows one redirect, and values nest a hundred deep at most
 abbrev pub session_of : Draft → Session
-session_of draft = record { nodes = draft.nodes; read_only = draft.read_only; budget = unwrap_or draft.budget 1; levels = unwrap_or draft.levels 100; calls = draft.calls }
+session_of draft = record {
+  nodes = draft.nodes;
+  read_only = draft.read_only;
+  budget = unwrap_or draft.budget 1;
+  levels = unwrap_or draft.levels 100;
+  calls = draft.calls;
+}
 
 -- the session of a text, whose lines are what stands between the bytes LF
 abbrev pub session_in_text : List ℕ → Result Session ℕ
-session_in_text text = result_map_both session_of (λ number. number) (add_lines 1 (pieces 10 text) nothing_yet)
+session_in_text text = result_map_both session_of (λ number. number)
+    (add_lines 1 (pieces 10 text) nothing_yet)

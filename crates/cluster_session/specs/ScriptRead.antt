@@ -42,7 +42,8 @@ draft_in script = record {
 abbrev pub session_in : Script → Session
 session_in script = session_of (draft_in script)
 
--- What stands after a line is what the line makes, and it is bad where it makes nothing; memory may be refused in any case.
+-- What stands after a line is what the line makes, and it is bad where it makes nothing; memory may be
+-- refused in any case.
 abbrev pub Makes : {A T : Type 0} → Option A → A → Result T LineError → Type 0
 Makes said after (Ok t) = said ≡ Some after
 Makes said after (Err Bad) = said ≡ None

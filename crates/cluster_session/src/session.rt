@@ -37,13 +37,17 @@ pub fn run_session<R: LinkRead, W: LinkWrite>(
     writer: &mut W,
 ) -> Result<u8, RedisError>
     ensures reads_all { OnOk result (IsAtEnd (R.left reader.new)) }
-    ensures writes { IfOk result (λ status. Prints status (R.left reader.old) (R.left reader.new) (W.written writer.old) (W.written writer.new)) }
+    ensures writes { IfOk result
+        (λ status. Prints status (R.left reader.old) (R.left reader.new) (W.written writer.old)
+        (W.written writer.new)) }
     ensures flushes { OnOk result (W.flushed writer.new ≡ true) }
     ensures causes { IfErr result (λ e. (e ≡ by_cause Io) ⊎ (e ≡ by_cause Memory)) }
     // A device that fails is told as `Io`, and want of memory as `Memory`, with nothing written.
-    ensures fails { IsErrOf result (by_cause Io) → ReadingFailed (2 ^ 32) (R.counts reader.old) (R.counts reader.new)
+    ensures fails { IsErrOf result (by_cause Io)
+        → ReadingFailed (2 ^ 32) (R.counts reader.old) (R.counts reader.new)
         ⊎ LastRefused (W.counts writer.old) (W.counts writer.new) }
-    ensures starves { IsErrOf result (by_cause Memory) → NoneRefused (R.counts reader.old) (R.counts reader.new)
+    ensures starves { IsErrOf result (by_cause Memory)
+        → NoneRefused (R.counts reader.old) (R.counts reader.new)
         × (W.counts writer.new ≡ W.counts writer.old) × (W.written writer.new ≡ W.written writer.old) }
     // The text takes 2^32 reads at most.
     ensures reads { (R.counts reader.new).reads ≤ (R.counts reader.old).reads + 2 ^ 32 }

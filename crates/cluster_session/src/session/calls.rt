@@ -43,7 +43,8 @@ pub(super) fn address(alloc: Global, word: &str) -> Result<NodeAddress, LineErro
 
 /// A link to a node as it is set up.
 pub(super) fn link(alloc: Global, levels: Levels, node: Node) -> Link
-    ensures { ⟦<ByteLink<MemoryReader, MemoryWriter> as ConnectionLike>⟧.seen result ≡ link_at_start levels.limit (setup_in node) }
+    ensures { ⟦<ByteLink<MemoryReader, MemoryWriter> as ConnectionLike>⟧.seen result
+        ≡ link_at_start levels.limit (setup_in node) }
 {
     let reader = MemoryReader::new(node.bytes, node.piece, node.failing_read);
     let writer = MemoryWriter::new(alloc, node.failing_write);
@@ -60,8 +61,13 @@ pub(super) fn client(
     read_only: Vec<Vec<u8>>,
     budget: u16,
 ) -> Result<Client, RedisError>
-    ensures repeated { IfErr result (λ _. has_repeats (addresses_of (nodes ⟦<ByteLink<MemoryReader, MemoryWriter> as ConnectionLike>⟧.seen links.items)) ≡ true) }
-    ensures made { IfOk result (λ client. whole ⟦<ByteLink<MemoryReader, MemoryWriter> as ConnectionLike>⟧.seen client ≡ new_world (nodes ⟦<ByteLink<MemoryReader, MemoryWriter> as ConnectionLike>⟧.seen links.items) (record { budget = budget; read_only = texts read_only.items })) }
+    ensures repeated { IfErr result
+        (λ _. has_repeats (addresses_of
+        (nodes ⟦<ByteLink<MemoryReader, MemoryWriter> as ConnectionLike>⟧.seen links.items)) ≡ true) }
+    ensures made { IfOk result
+        (λ client. whole ⟦<ByteLink<MemoryReader, MemoryWriter> as ConnectionLike>⟧.seen client
+        ≡ new_world (nodes ⟦<ByteLink<MemoryReader, MemoryWriter> as ConnectionLike>⟧.seen links.items)
+        (record { budget = budget; read_only = texts read_only.items })) }
 {
     ClusterClient::new(alloc, links, read_only, budget)
 }
@@ -72,7 +78,11 @@ pub(super) fn play_all(
     alloc: Global,
     calls: &[Call],
 ) -> Result<Vec<Played>, AllocError>
-    ensures { IfOk result (λ played. Plays None (whole ⟦<ByteLink<MemoryReader, MemoryWriter> as ConnectionLike>⟧.seen client.old) (whole ⟦<ByteLink<MemoryReader, MemoryWriter> as ConnectionLike>⟧.seen client.new) (map call_in calls.now) [] (map shown played.items) true) }
+    ensures { IfOk result
+        (λ played. Plays None
+        (whole ⟦<ByteLink<MemoryReader, MemoryWriter> as ConnectionLike>⟧.seen client.old)
+        (whole ⟦<ByteLink<MemoryReader, MemoryWriter> as ConnectionLike>⟧.seen client.new)
+        (map call_in calls.now) [] (map shown played.items) true) }
 {
     let mut played = Vec::new(alloc);
     play(client, alloc, calls, None, &mut played)?;
@@ -81,14 +91,16 @@ pub(super) fn play_all(
 
 /// Every node and its link, in the order in which the client got them.
 pub(super) fn links(client: &Client) -> &[(NodeAddress, Link)]
-    ensures { nodes ⟦<ByteLink<MemoryReader, MemoryWriter> as ConnectionLike>⟧.seen result.now ≡ (whole ⟦<ByteLink<MemoryReader, MemoryWriter> as ConnectionLike>⟧.seen client.now).nodes }
+    ensures { nodes ⟦<ByteLink<MemoryReader, MemoryWriter> as ConnectionLike>⟧.seen result.now
+        ≡ (whole ⟦<ByteLink<MemoryReader, MemoryWriter> as ConnectionLike>⟧.seen client.now).nodes }
 {
     client.links()
 }
 
 /// The bytes that went out over the link.
 pub(super) fn sent(link: &Link) -> &[u8]
-    ensures { result.now ≡ sent_bytes (⟦<ByteLink<MemoryReader, MemoryWriter> as ConnectionLike>⟧.seen link.now) }
+    ensures { result.now
+        ≡ sent_bytes (⟦<ByteLink<MemoryReader, MemoryWriter> as ConnectionLike>⟧.seen link.now) }
 {
     link.writer().written()
 }

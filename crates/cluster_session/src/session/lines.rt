@@ -283,7 +283,8 @@ fn pieces(alloc: Global, text: &str, separator: char) -> Result<Vec<&str>, Alloc
 /// The text before the first separator, and the text behind it.
 fn cut(text: &str, separator: char) -> Option<(&str, &str)>
     requires { separator < 128 }
-    ensures pieces { MatchOption result (pieces separator text.now ≡ text.now ∷ []) (λ parts. pieces separator text.now ≡ parts.0.now ∷ pieces separator parts.1.now) }
+    ensures pieces { MatchOption result (pieces separator text.now ≡ text.now ∷ [])
+        (λ parts. pieces separator text.now ≡ parts.0.now ∷ pieces separator parts.1.now) }
     ensures shorter { IfSome result (λ parts. length parts.1.now < length text.now) }
 {
     text.split_once(separator)

@@ -32,7 +32,8 @@ pub(super) struct Printed {
 
 /// Plays the session of the text; one with a bad line calls nothing.
 pub(super) fn play(alloc: Global, text: &[u8]) -> Result<Printed, RedisError>
-    ensures prints { IfOk result (λ printed. GoesWith (session_in_text text.now) printed.status (string_bytes printed.output)) }
+    ensures prints { IfOk result
+        (λ printed. GoesWith (session_in_text text.now) printed.status (string_bytes printed.output)) }
     ensures only { IfErr result (λ e. e ≡ by_cause Memory) }
 {
     match Script::read(alloc, text) {
@@ -78,8 +79,13 @@ fn links(
     levels: Levels,
     set_up: BTreeMap<NodeAddress, Node>,
 ) -> Result<Vec<(NodeAddress, Link)>, AllocError>
-    ensures links { IfOk result (λ links. nodes ⟦<ByteLink<MemoryReader, MemoryWriter> as ConnectionLike>⟧.seen links.items ≡ map (node_at_start levels.limit) (map node_in set_up.entries)) }
-    ensures distinct { IfOk result (λ links. has_repeats (addresses_of (nodes ⟦<ByteLink<MemoryReader, MemoryWriter> as ConnectionLike>⟧.seen links.items)) ≡ false) }
+    ensures links { IfOk result
+        (λ links. nodes ⟦<ByteLink<MemoryReader, MemoryWriter> as ConnectionLike>⟧.seen links.items
+        ≡ map (node_at_start levels.limit) (map node_in set_up.entries)) }
+    ensures distinct { IfOk result
+        (λ links. has_repeats
+        (addresses_of (nodes ⟦<ByteLink<MemoryReader, MemoryWriter> as ConnectionLike>⟧.seen links.items))
+        ≡ false) }
 {
     let mut links = Vec::with_capacity(alloc, set_up.len())?;
     for (address, node) in set_up {
@@ -89,7 +95,8 @@ fn links(
 }
 
 fn print_played(output: &mut String, played: &[Played]) -> Result<(), AllocError>
-    ensures { OnOk result (string_bytes output.new ≡ string_bytes output.old ++ flat_map call_lines (map shown played.now)) }
+    ensures { OnOk result
+        (string_bytes output.new ≡ string_bytes output.old ++ flat_map call_lines (map shown played.now)) }
 {
     for call in played {
         print_call(output, call)?;
@@ -105,7 +112,10 @@ fn print_call(output: &mut String, call: &Played) -> Result<(), AllocError>
 }
 
 fn print_sent(output: &mut String, links: &[(NodeAddress, Link)]) -> Result<(), AllocError>
-    ensures { OnOk result (string_bytes output.new ≡ string_bytes output.old ++ flat_map node_line (nodes ⟦<ByteLink<MemoryReader, MemoryWriter> as ConnectionLike>⟧.seen links.now)) }
+    ensures { OnOk result
+        (string_bytes output.new ≡ string_bytes output.old
+        ++ flat_map node_line
+        (nodes ⟦<ByteLink<MemoryReader, MemoryWriter> as ConnectionLike>⟧.seen links.now)) }
 {
     for (address, link) in links {
         print::sent(output, address, calls::sent(link))?;

@@ -34,7 +34,8 @@ pub(super) fn answered(
     output: &mut String,
     answer: &Result<Answer, RedisError>,
 ) -> Result<(), AllocError>
-    ensures { OnOk result (string_bytes output.new ≡ string_bytes output.old ++ call_line (answer_result answer.now)) }
+    ensures { OnOk result
+        (string_bytes output.new ≡ string_bytes output.old ++ call_line (answer_result answer.now)) }
 {
     match answer {
         Ok(Answer::Value(value)) => {
@@ -68,7 +69,8 @@ fn refused(output: &mut String, error: &RedisError) -> Result<(), AllocError>
 
 /// A line for each request.
 pub(super) fn requests(output: &mut String, asked: &[Asked]) -> Result<(), AllocError>
-    ensures { OnOk result (string_bytes output.new ≡ string_bytes output.old ++ flat_map request_line asked.now) }
+    ensures { OnOk result
+        (string_bytes output.new ≡ string_bytes output.old ++ flat_map request_line asked.now) }
 {
     for request in asked {
         print_request(output, request)?;
@@ -95,7 +97,9 @@ fn manner(asking: bool) -> &'static str
 
 // Each argument, a space before it.
 fn print_args(output: &mut String, args: &[Vec<u8>]) -> Result<(), AllocError>
-    ensures { OnOk result (string_bytes output.new ≡ string_bytes output.old ++ flat_map (λ arg. codes " " ++ hex_word arg) (map (λ arg. arg.items) args.now)) }
+    ensures { OnOk result
+        (string_bytes output.new ≡ string_bytes output.old
+        ++ flat_map (λ arg. codes " " ++ hex_word arg) (map (λ arg. arg.items) args.now)) }
 {
     for arg in args {
         print_bytes(output, " ", arg)?;
@@ -105,7 +109,8 @@ fn print_args(output: &mut String, args: &[Vec<u8>]) -> Result<(), AllocError>
 
 /// The line of the bytes that went out to a node.
 pub(super) fn sent(output: &mut String, node: &NodeAddress, bytes: &[u8]) -> Result<(), AllocError>
-    ensures { OnOk result (string_bytes output.new ≡ string_bytes output.old ++ sent_line (address node.now) bytes.now) }
+    ensures { OnOk result
+        (string_bytes output.new ≡ string_bytes output.old ++ sent_line (address node.now) bytes.now) }
 {
     output.push_str("sent ")?;
     push_address(output, node)?;

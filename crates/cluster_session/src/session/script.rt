@@ -33,7 +33,8 @@ pub(super) enum Access {
 
 impl Node {
     fn new(piece: usize, bytes: Vec<u8>) -> Node
-        ensures { setup_in result ≡ record { piece = piece; bytes = bytes.items; failing_read = 0; failing_write = 0 } }
+        ensures { setup_in result
+            ≡ record { piece = piece; bytes = bytes.items; failing_read = 0; failing_write = 0 } }
     {
         Node {
             piece,
@@ -156,7 +157,8 @@ impl Script {
 
     // A line, of which those behind it are known too.
     fn add_line(&mut self, alloc: Global, line: &[u8], later: &[&[u8]]) -> Result<(), LineError>
-        ensures { Makes (add_line (words_in later.now) line.now (draft_in self.old)) (draft_in self.new) result }
+        ensures { Makes (add_line (words_in later.now) line.now (draft_in self.old))
+            (draft_in self.new) result }
     {
         match read_line(alloc, line)? {
             None => Ok(()),
@@ -167,7 +169,8 @@ impl Script {
     // What a line says, inside a pipeline or outside one.
     #[tactic(auto, using(crate::proofs::Scripts::said_inside, crate::proofs::Scripts::said_outside))]
     fn add_said(&mut self, alloc: Global, line: Line, later: &[&[u8]]) -> Result<(), LineError>
-        ensures { Makes (add_said (draft_in self.old).pipeline (words_in later.now) (meaning_in line) (draft_in self.old)) (draft_in self.new) result }
+        ensures { Makes (add_said (draft_in self.old).pipeline (words_in later.now) (meaning_in line)
+            (draft_in self.old)) (draft_in self.new) result }
     {
         if self.pipeline.is_some() {
             self.add_inside(line)
@@ -179,7 +182,8 @@ impl Script {
     // A line of an open pipeline.
     fn add_inside(&mut self, line: Line) -> Result<(), LineError>
         requires { self.old.pipeline ≢ None }
-        ensures { Makes (add_inside (unwrap_or self.old.pipeline []) (meaning_in line) (draft_in self.old)) (draft_in self.new) result }
+        ensures { Makes (add_inside (unwrap_or self.old.pipeline []) (meaning_in line) (draft_in self.old))
+            (draft_in self.new) result }
     {
         match line {
             Line::Command { command, ignored } => self.add_command(command, ignored),
@@ -189,7 +193,8 @@ impl Script {
     }
 
     fn add_outside(&mut self, alloc: Global, line: Line, later: &[&[u8]]) -> Result<(), LineError>
-        ensures { Makes (add_outside (words_in later.now) (meaning_in line) (draft_in self.old)) (draft_in self.new) result }
+        ensures { Makes (add_outside (words_in later.now) (meaning_in line) (draft_in self.old))
+            (draft_in self.new) result }
     {
         match line {
             Line::Node(address, piece, bytes) => self.add_node(address, Node::new(piece, bytes)),
@@ -205,7 +210,8 @@ impl Script {
 
     // Refused behind a call, and where the address has a node already.
     fn add_node(&mut self, at: NodeAddress, node: Node) -> Result<(), LineError>
-        ensures { Makes (before_calls (draft_in self.old) (add_node (address at) (setup_in node) (draft_in self.old))) (draft_in self.new) result }
+        ensures { Makes (before_calls (draft_in self.old)
+            (add_node (address at) (setup_in node) (draft_in self.old))) (draft_in self.new) result }
     {
         if !self.calls.is_empty() {
             return Err(LineError::Bad);
@@ -215,7 +221,9 @@ impl Script {
 
     // Refused behind a call, and where no line above sets up the node.
     fn add_fault(&mut self, at: &NodeAddress, access: Access, number: u64) -> Result<(), LineError>
-        ensures { Makes (before_calls (draft_in self.old) (add_fault (address at.now) (access_in access) number (draft_in self.old))) (draft_in self.new) result }
+        ensures { Makes (before_calls (draft_in self.old)
+            (add_fault (address at.now) (access_in access) number (draft_in self.old)))
+            (draft_in self.new) result }
     {
         if !self.calls.is_empty() {
             return Err(LineError::Bad);
@@ -225,7 +233,8 @@ impl Script {
 
     // Refused behind a call.
     fn add_read_only(&mut self, name: Vec<u8>) -> Result<(), LineError>
-        ensures { Makes (before_calls (draft_in self.old) (Some (add_read_only name.items (draft_in self.old)))) (draft_in self.new) result }
+        ensures { Makes (before_calls (draft_in self.old)
+            (Some (add_read_only name.items (draft_in self.old)))) (draft_in self.new) result }
     {
         if !self.calls.is_empty() {
             return Err(LineError::Bad);
@@ -236,7 +245,8 @@ impl Script {
 
     // Refused behind a call, and where a line set it already.
     fn set_budget(&mut self, budget: u16) -> Result<(), LineError>
-        ensures { Makes (before_calls (draft_in self.old) (set_budget budget (draft_in self.old))) (draft_in self.new) result }
+        ensures { Makes (before_calls (draft_in self.old) (set_budget budget (draft_in self.old)))
+            (draft_in self.new) result }
     {
         if !self.calls.is_empty() || self.budget.is_some() {
             return Err(LineError::Bad);
@@ -247,7 +257,8 @@ impl Script {
 
     // Refused behind a call, and where a line set it already.
     fn set_levels(&mut self, levels: Levels) -> Result<(), LineError>
-        ensures { Makes (before_calls (draft_in self.old) (set_levels levels.limit (draft_in self.old))) (draft_in self.new) result }
+        ensures { Makes (before_calls (draft_in self.old) (set_levels levels.limit (draft_in self.old)))
+            (draft_in self.new) result }
     {
         if !self.calls.is_empty() || self.levels.is_some() {
             return Err(LineError::Bad);
@@ -278,7 +289,9 @@ impl Script {
     #[tactic(auto, using(crate::proofs::Scripts::last_is_ignored))]
     fn add_command(&mut self, cmd: Cmd, ignored: bool) -> Result<(), LineError>
         requires { self.old.pipeline ≢ None }
-        ensures { Makes (add_inside (unwrap_or self.old.pipeline []) (command (record { command = cmd; ignored = ignored })) (draft_in self.old)) (draft_in self.new) result }
+        ensures { Makes (add_inside (unwrap_or self.old.pipeline [])
+            (command (record { command = cmd; ignored = ignored })) (draft_in self.old))
+            (draft_in self.new) result }
     {
         let Some(pipeline) = &mut self.pipeline else {
             return Err(LineError::Bad);
@@ -292,7 +305,8 @@ impl Script {
 
     fn end_pipeline(&mut self) -> Result<(), LineError>
         requires { self.old.pipeline ≢ None }
-        ensures { Makes (add_inside (unwrap_or self.old.pipeline []) run (draft_in self.old)) (draft_in self.new) result }
+        ensures { Makes (add_inside (unwrap_or self.old.pipeline []) run (draft_in self.old))
+            (draft_in self.new) result }
     {
         match self.pipeline.take() {
             None => Err(LineError::Bad),
@@ -323,7 +337,8 @@ fn put_fault(
     access: Access,
     number: u64,
 ) -> Result<(), LineError>
-    ensures { Makes (put_fault (address at.now) (access_in access) number (nodes_in nodes.old)) (nodes_in nodes.new) result }
+    ensures { Makes (put_fault (address at.now) (access_in access) number (nodes_in nodes.old))
+        (nodes_in nodes.new) result }
 {
     match nodes.get_mut(at) {
         None => Err(LineError::Bad),
@@ -355,7 +370,8 @@ fn lines_of(alloc: Global, text: &[u8]) -> Result<Vec<&[u8]>, AllocError>
 // The first line, and the text behind its LF.
 #[tactic(auto, using(crate::proofs::Pieces::piece_without))]
 fn cut_line(text: &[u8]) -> Option<(&[u8], &[u8])>
-    ensures pieces { MatchOption result (pieces 10 text.now ≡ text.now ∷ []) (λ parts. pieces 10 text.now ≡ parts.0.now ∷ pieces 10 parts.1.now) }
+    ensures pieces { MatchOption result (pieces 10 text.now ≡ text.now ∷ [])
+        (λ parts. pieces 10 text.now ≡ parts.0.now ∷ pieces 10 parts.1.now) }
     ensures shorter { IfSome result (λ parts. length parts.1.now < length text.now) }
 {
     match end_of_line(text) {

@@ -19,8 +19,10 @@ pub(super) fn read_text<R: LinkRead>(
     ensures unrefused { OnOk result (NoneRefused (R.counts reader.old) (R.counts reader.new)) }
     ensures causes { IfErr result (λ e. (e ≡ by_cause Io) ⊎ (e ≡ by_cause Memory)) }
     // A read that fails is told as `Io`, and what was read and finds no room as `Memory`.
-    ensures fails { IsErrOf result (by_cause Io) → ReadingFailed reads (R.counts reader.old) (R.counts reader.new) }
-    ensures starves { IsErrOf result (by_cause Memory) → NoneRefused (R.counts reader.old) (R.counts reader.new) }
+    ensures fails { IsErrOf result (by_cause Io)
+        → ReadingFailed reads (R.counts reader.old) (R.counts reader.new) }
+    ensures starves { IsErrOf result (by_cause Memory)
+        → NoneRefused (R.counts reader.old) (R.counts reader.new) }
     ensures reads { (R.counts reader.new).reads ≤ (R.counts reader.old).reads + reads }
 {
     let mut text = Vec::new(alloc);

@@ -12,7 +12,8 @@ use std::alloc::AllocError;
 
 /// Appends the words of streams, each its key and its entries.
 pub(super) fn print_rows(output: &mut String, rows: &[StreamKey]) -> Result<(), AllocError>
-    ensures { OnOk result (string_bytes output.new ≡ string_bytes output.old ++ rows_words (rows_view rows.now)) }
+    ensures { OnOk result
+        (string_bytes output.new ≡ string_bytes output.old ++ rows_words (rows_view rows.now)) }
 {
     print_count(output, "keys ", rows.len())?;
     for row in rows {
@@ -25,7 +26,8 @@ pub(super) fn print_rows(output: &mut String, rows: &[StreamKey]) -> Result<(), 
 
 /// Appends the words of entries.
 pub(super) fn print_entries(output: &mut String, entries: &[StreamId]) -> Result<(), AllocError>
-    ensures { OnOk result (string_bytes output.new ≡ string_bytes output.old ++ entries_words (entries_view entries.now)) }
+    ensures { OnOk result
+        (string_bytes output.new ≡ string_bytes output.old ++ entries_words (entries_view entries.now)) }
 {
     print_count(output, "ids ", entries.len())?;
     for entry in entries {
@@ -36,7 +38,9 @@ pub(super) fn print_entries(output: &mut String, entries: &[StreamId]) -> Result
 
 // A space, and the words of an entry.
 fn print_entry(output: &mut String, entry: &StreamId) -> Result<(), AllocError>
-    ensures { OnOk result (string_bytes output.new ≡ string_bytes output.old ++ (codes " " ++ entry_words (entry_view entry.now))) }
+    ensures { OnOk result
+        (string_bytes output.new ≡ string_bytes output.old
+        ++ (codes " " ++ entry_words (entry_view entry.now))) }
 {
     print_bytes(output, " id ", entry.id.as_bytes())?;
     print_fields(output, &entry.map)?;
@@ -46,7 +50,10 @@ fn print_entry(output: &mut String, entry: &StreamId) -> Result<(), AllocError>
 
 // The number of the fields, and each name with its value, a space before each word.
 fn print_fields(output: &mut String, fields: &IndexMap<String, Value>) -> Result<(), AllocError>
-    ensures { OnOk result (string_bytes output.new ≡ string_bytes output.old ++ (codes " " ++ (decimal (length fields.now.entries) ++ flat_map field_words (fields_view fields.now)))) }
+    ensures { OnOk result
+        (string_bytes output.new ≡ string_bytes output.old
+        ++ (codes " " ++ (decimal (length fields.now.entries)
+        ++ flat_map field_words (fields_view fields.now)))) }
 {
     print_count(output, " ", fields.len())?;
     for (name, value) in fields {
@@ -59,7 +66,9 @@ fn print_fields(output: &mut String, fields: &IndexMap<String, Value>) -> Result
 
 // A space, and a number or a dash.
 fn print_time(output: &mut String, number: Option<usize>) -> Result<(), AllocError>
-    ensures { OnOk result (string_bytes output.new ≡ string_bytes output.old ++ (codes " " ++ number_word (option_map pos number))) }
+    ensures { OnOk result
+        (string_bytes output.new ≡ string_bytes output.old
+        ++ (codes " " ++ number_word (option_map pos number))) }
 {
     match number {
         None => output.push_str(" -"),

@@ -34,7 +34,9 @@ pub(super) fn push_kind(output: &mut String, kind: ErrorKind) -> Result<(), Allo
 }
 
 fn push_server_kind(output: &mut String, kind: ServerErrorKind) -> Result<(), AllocError>
-    ensures { OnOk result (string_bytes output.new ≡ string_bytes output.old ++ (codes "Server(" ++ (server_name kind ++ codes ")"))) }
+    ensures { OnOk result
+        (string_bytes output.new ≡ string_bytes output.old
+        ++ (codes "Server(" ++ (server_name kind ++ codes ")"))) }
 {
     output.push_str("Server(")?;
     output.push_str(server_name(kind))?;

@@ -11,7 +11,8 @@ use std::alloc::AllocError;
 /// Appends the words of an answer.
 #[cycle(print)]
 pub(super) fn print_value(output: &mut String, value: &Value) -> Result<(), AllocError>
-    ensures { OnOk result (string_bytes output.new ≡ string_bytes output.old ++ answer_words (view value.now)) }
+    ensures { OnOk result
+        (string_bytes output.new ≡ string_bytes output.old ++ answer_words (view value.now)) }
 {
     match value {
         Value::Nil => output.push_str("nil"),
@@ -55,7 +56,9 @@ fn format_name(format: &VerbatimFormat) -> &str
 
 #[cycle(print)]
 fn print_items(output: &mut String, name: &str, items: &[Value]) -> Result<(), AllocError>
-    ensures { OnOk result (string_bytes output.new ≡ string_bytes output.old ++ (name.now ++ (decimal (length items.now) ++ each_words (trees_view items.now)))) }
+    ensures { OnOk result
+        (string_bytes output.new ≡ string_bytes output.old
+        ++ (name.now ++ (decimal (length items.now) ++ each_words (trees_view items.now)))) }
 {
     print_count(output, name, items.len())?;
     print_each(output, items)
@@ -63,7 +66,8 @@ fn print_items(output: &mut String, name: &str, items: &[Value]) -> Result<(), A
 
 #[cycle(print)]
 fn print_each(output: &mut String, items: &[Value]) -> Result<(), AllocError>
-    ensures { OnOk result (string_bytes output.new ≡ string_bytes output.old ++ each_words (trees_view items.now)) }
+    ensures { OnOk result
+        (string_bytes output.new ≡ string_bytes output.old ++ each_words (trees_view items.now)) }
 {
     for item in items {
         output.push_str(" ")?;
@@ -74,7 +78,9 @@ fn print_each(output: &mut String, items: &[Value]) -> Result<(), AllocError>
 
 #[cycle(print)]
 fn print_pairs(output: &mut String, name: &str, pairs: &[(Value, Value)]) -> Result<(), AllocError>
-    ensures { OnOk result (string_bytes output.new ≡ string_bytes output.old ++ (name.now ++ (decimal (length pairs.now) ++ pair_words (pairs_view pairs.now)))) }
+    ensures { OnOk result
+        (string_bytes output.new ≡ string_bytes output.old
+        ++ (name.now ++ (decimal (length pairs.now) ++ pair_words (pairs_view pairs.now)))) }
 {
     print_count(output, name, pairs.len())?;
     print_each_pair(output, pairs)
@@ -82,7 +88,8 @@ fn print_pairs(output: &mut String, name: &str, pairs: &[(Value, Value)]) -> Res
 
 #[cycle(print)]
 fn print_each_pair(output: &mut String, pairs: &[(Value, Value)]) -> Result<(), AllocError>
-    ensures { OnOk result (string_bytes output.new ≡ string_bytes output.old ++ pair_words (pairs_view pairs.now)) }
+    ensures { OnOk result
+        (string_bytes output.new ≡ string_bytes output.old ++ pair_words (pairs_view pairs.now)) }
 {
     for pair in pairs {
         output.push_str(" ")?;

@@ -24,7 +24,8 @@ pub(super) fn push_bytes(output: &mut String, bytes: &[u8]) -> Result<(), AllocE
 
 /// Appends a name, and bytes behind it.
 pub(super) fn print_bytes(output: &mut String, name: &str, bytes: &[u8]) -> Result<(), AllocError>
-    ensures { OnOk result (string_bytes output.new ≡ string_bytes output.old ++ (name.now ++ hex_word bytes.now)) }
+    ensures { OnOk result
+        (string_bytes output.new ≡ string_bytes output.old ++ (name.now ++ hex_word bytes.now)) }
 {
     output.push_str(name)?;
     push_bytes(output, bytes)
