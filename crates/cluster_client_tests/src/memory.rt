@@ -133,8 +133,13 @@ fn is_among<R: Abort>(rt: &R, texts: &[(&str, &str)], state: &str, later: &str) 
         is_there = is_there || text.0 == state && text.1 == later;
     }
     if !is_there {
-        assert_eq!(rt; state, texts[0].0);
-        assert_eq!(rt; later, texts[0].1);
+        match texts.first() {
+            Some(first) => {
+                assert_eq!(rt; state, first.0);
+                assert_eq!(rt; later, first.1);
+            }
+            None => assert!(rt; false, "no state is wanted"),
+        }
     }
 }
 
