@@ -88,15 +88,15 @@ least_of_swap (x ∷ before) behind a b = ap Some (least_swap x before behind a 
 
 -- ---- the law
 
-same_sum : OfNeighbours sum_tree
-same_sum before behind t u = ap (option_and_then as_int) (sum_swap before behind t u)
+pub sums_of_neighbours : OfNeighbours sum_tree
+sums_of_neighbours before behind t u = ap (option_and_then as_int) (sum_swap before behind t u)
 
-same_least : OfNeighbours min_tree
-same_least before behind t u = ap (option_map (λ n. int n)) (read_swap least_of least_of_swap (traverse_swap int_in before behind t u))
+least_of_neighbours : OfNeighbours min_tree
+least_of_neighbours before behind t u = ap (option_map (λ n. int n)) (read_swap least_of least_of_swap (traverse_swap int_in before behind t u))
 
-by : (op : AggregateOp) → OfNeighbours (aggregate_tree op)
-by Sum = same_sum
-by Min = same_least
+pub aggregates_of_neighbours : (op : AggregateOp) → OfNeighbours (aggregate_tree op)
+aggregates_of_neighbours Sum = sums_of_neighbours
+aggregates_of_neighbours Min = least_of_neighbours
 
 pub aggregates_in_any_order : AggregatesInAnyOrder
-aggregates_in_any_order op replies others p = in_any_order (aggregate_tree op) (by op) replies others p
+aggregates_in_any_order op replies others p = in_any_order (aggregate_tree op) (aggregates_of_neighbours op) replies others p

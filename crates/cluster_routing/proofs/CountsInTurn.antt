@@ -130,8 +130,8 @@ counts_swap s (x ∷ before) behind a b =
 
 -- ---- the law
 
-same_counts : OfNeighbours counts_tree
-same_counts before behind t u = read_swap (λ lists. map_of_counts (concat lists)) (λ before behind a b. ap (λ sums. option_map (λ ps. map_tree (pairs_of ps)) (traverse count_pair sums)) (counts_swap [] before behind a b)) (traverse_swap counts_in before behind t u)
+pub counts_of_neighbours : OfNeighbours counts_tree
+counts_of_neighbours before behind t u = read_swap (λ lists. map_of_counts (concat lists)) (λ before behind a b. ap (λ sums. option_map (λ ps. map_tree (pairs_of ps)) (traverse count_pair sums)) (counts_swap [] before behind a b)) (traverse_swap counts_in before behind t u)
 
 pub counts_in_any_order : CountsInAnyOrder
-counts_in_any_order replies others p = in_any_order counts_tree same_counts replies others p
+counts_in_any_order replies others p = in_any_order counts_tree counts_of_neighbours replies others p

@@ -190,7 +190,7 @@ one_more n k ks (s ∷ slots) d h =
     let once = both (not (among nat_eq s slots)) (is_distinct nat_eq slots) d in
     one_by (nat_eq k s) n k s ks slots refl h (negated (among nat_eq s slots) once.0) (one_more n k ks slots once.1)
 
-as_many_places : (n : ℕ) (ks slots : List ℕ) → is_distinct nat_eq slots ≡ true → Covers slots ks → length (concat (places_of n ks slots)) ≡ length ks
+pub as_many_places : (n : ℕ) (ks slots : List ℕ) → is_distinct nat_eq slots ≡ true → Covers slots ks → length (concat (places_of n ks slots)) ≡ length ks
 as_many_places n [] slots d c = no_keys n slots
 as_many_places n (k ∷ ks) slots d c = one_more n k ks slots d (c 0 k refl) ∙ ap (λ m. 1 + m) (as_many_places (suc n) ks slots d (λ i x h. c (suc i) x h)) ∙ omega arith
 

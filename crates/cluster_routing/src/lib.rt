@@ -37,7 +37,7 @@ pub use range::{SlotAddrs, SlotAddrsIter, SlotRange};
 pub use range_map::{SlotRangeMap, SlotRangeValues, SlotRanges};
 pub use routable::Routable;
 pub use route::{Route, SlotAddr};
-pub use routing::{MultipleNodeRoutingInfo, Redirect, RoutingInfo, SingleNodeRoutingInfo};
+pub use routing::{MultipleNodeRoutingInfo, Redirect, RoutingInfo, SingleNodeRoutingInfo, role_of};
 pub use slot::Slot;
 pub use slot_map::SlotMap;
 pub use slots_reply::{parse_slots, slot_cmd};

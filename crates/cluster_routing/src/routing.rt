@@ -134,8 +134,9 @@ fn info_by_name<R: Routable>(
     info_by_rule(alloc, r, role_of(name, read_only), rule_for(name, family))
 }
 
-/// Any node may serve a name of the set.
-pub(crate) fn role_of(name: &[u8], read_only: &[Vec<u8>]) -> SlotAddr
+/// Which nodes of a shard may serve a command by its name, as the routing table spells it (a container's in two
+/// words): any one of them where the name is among `read_only`, else the primary.
+pub fn role_of(name: &[u8], read_only: &[Vec<u8>]) -> SlotAddr
     ensures { result ≡ role_of name.now (texts read_only.now) }
 {
     if is_among(name, read_only) {

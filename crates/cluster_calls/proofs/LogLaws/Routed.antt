@@ -1,45 +1,24 @@
 -- A split command's parts are those of its destination, and each part routes to its slot.
-use Rattle.std.proofs.Common.{◌≡◌, ℕ, zero, ◌<◌, ◌==◌, nat_eq, Bool, true, false, cond, not, List, [], ◌∷◌, ◌++◌, map, filter, Option, Some, None, option_map, refl, sym, ap, ◌∙◌, subst, eqb-true, eq-eqb, arith}
+use Rattle.std.proofs.Common.{◌≡◌, ℕ, ◌==◌, nat_eq, Bool, true, false, cond, List, [], ◌∷◌, map, Option, Some, option_map, refl, sym, ap, ◌∙◌, subst, eqb-true}
 use Rattle.std.specs.Prelude.{option_and_then, slice_get}
 use Rattle.std.specs.List.{AllByRecursion}
 use Rattle.resp_args.specs.declared.cmd.Arg.TheVariants.{Simple}
 use Rattle.cluster_routing.specs.Command.{Args, all_bytes, bytes_of, name_by}
 use Rattle.cluster_routing.specs.CombineLaws.{slots_in, PartsAreRouted, SubsRouteToTheirSlot}
 use Rattle.cluster_routing.specs.Lists.{among, firsts}
-use Rattle.cluster_routing.specs.Parts.{Tuple, width_of, tuple_slot, argument_slots, group, groups}
+use Rattle.cluster_routing.specs.Parts.{Tuple, tuple_slot, argument_slots, group, groups}
 use Rattle.cluster_routing.specs.Routing.{part_to, to_some_parts, to_tuples, to_split, destination_by, role_of, destination}
-use Rattle.cluster_routing.specs.Split.{Split, Splitting, splitting_by, splitting_of, split_of, cut, join_split, part_slots, part_tuples}
-use Rattle.cluster_routing.specs.Table.{Rule, split, key_after_streams, counted_key_or_random, counted_key, key_at, random, all_masters, all_nodes, nowhere, is_family, rule_of}
+use Rattle.cluster_routing.specs.Split.{Split, Splitting, splitting_of, split_of, cut, join_split, part_tuples}
+use Rattle.cluster_routing.specs.Table.{split, rule_of}
 use Rattle.cluster_routing.specs.declared.policy.MultiSlotArgPattern.{MultiSlotArgPattern}
 use Rattle.cluster_routing.specs.declared.policy.ResponsePolicy.{ResponsePolicy}
 use Rattle.cluster_routing.specs.declared.route.SlotAddr.{SlotAddr}
 use Rattle.cluster_routing.proofs.Places.{parts_share}
-use Rattle.cluster_routing.proofs.SplitWords.{family_nowhere}
-use Rattle.cluster_calls.proofs.ServerLaws.Grouping.{filter-const}
+use Rattle.cluster_routing.proofs.SplitWords.{firsts_twice, rule_is, split_firsts}
 use Rattle.cluster_calls.proofs.LogLaws.Plans.{has_tuple}
-use Rattle.cluster_routing.proofs.Recut.{HaveWidth, cut_of, cut_shaped, width_positive, split_of_some}
+use Rattle.cluster_routing.proofs.Recut.{cut_of, split_of_some}
 
 -- ---- the destination of a split command
-
-split_rule : (rule : Rule) (p : Splitting) → splitting_by rule ≡ Some p → rule ≡ split p.pattern p.policy
-split_rule (split pattern policy) p e =
-    let same : record { pattern = pattern; policy = policy } ≡ p = cc in ap (λ (q : Splitting). split q.pattern q.policy) same
-split_rule key_after_streams p e = cc
-split_rule (counted_key_or_random place) p e = cc
-split_rule (counted_key place) p e = cc
-split_rule (key_at place) p e = cc
-split_rule random p e = cc
-split_rule (all_masters policy) p e = cc
-split_rule (all_nodes policy) p e = cc
-split_rule nowhere p e = cc
-
-rule_is : (word : List ℕ) (p : Splitting) → splitting_of word ≡ Some p → (is_family word ≡ false) × (rule_of word false ≡ split p.pattern p.policy)
-unfolding splitting_of
-rule_is word p e = by (is_family word) refl e
-  where
-    by : (b : Bool) → is_family word ≡ b → splitting_by (rule_of word b) ≡ Some p → (is_family word ≡ false) × (rule_of word false ≡ split p.pattern p.policy)
-    by true f e = let bad : None ≡ Some p = sym (ap splitting_by (family_nowhere word f)) ∙ e in cc
-    by false f e = (f, split_rule (rule_of word false) p e)
 
 all_simple : (args : List (List ℕ)) → all_bytes (map (λ bytes. Simple bytes) args) ≡ Some args
 all_simple [] = refl
@@ -64,33 +43,6 @@ split_routed args read_only s e =
     ∙ ap (to_tuples (role_of s.word read_only) s.splitting.pattern s.splitting.policy) c.tuples
 
 -- ---- its slots
-
--- the same number twice counts once
-firsts_twice : (s : ℕ) (ks : List ℕ) → firsts nat_eq (s ∷ s ∷ ks) ≡ firsts nat_eq (s ∷ ks)
-firsts_twice s ks =
-    ap (λ b. s ∷ cond (not b) (s ∷ filter (λ y. not (nat_eq s y)) others) (filter (λ y. not (nat_eq s y)) others)) (eq-eqb s s refl)
-    ∙ ap (λ l. s ∷ l) (filter-const (λ y. not (nat_eq s y)) (λ y. not (nat_eq s y)) true (λ y h. h) (firsts nat_eq ks))
-  where
-    others : List ℕ
-    others = filter (λ y. not (nat_eq s y)) (firsts nat_eq ks)
-
-firsts_again : {A : Type 0} (s : ℕ) (xs : List A) (ks : List ℕ) → firsts nat_eq (s ∷ (map (λ _. s) xs ++ ks)) ≡ firsts nat_eq (s ∷ ks)
-firsts_again s [] ks = refl
-firsts_again s (x ∷ xs) ks = firsts_twice s (map (λ _. s) xs ++ ks) ∙ firsts_again s xs ks
-
-argument_firsts : (w : ℕ) → zero < w → (tuples : List Tuple) → HaveWidth w tuples → firsts nat_eq (argument_slots tuples) ≡ firsts nat_eq (map tuple_slot tuples)
-argument_firsts w some [] h = refl
-argument_firsts w some ([] ∷ tuples) h = absurd (let e : 0 ≡ w = h.0 in omega (arith, e, some))
-argument_firsts w some ((key ∷ more) ∷ tuples) h =
-    firsts_again (tuple_slot (key ∷ more)) more (argument_slots tuples)
-    ∙ ap (λ l. tuple_slot (key ∷ more) ∷ filter (λ y. not (nat_eq (tuple_slot (key ∷ more)) y)) l) (argument_firsts w some tuples h.1)
-
-split_firsts : (args : List (List ℕ)) (s : Split) → split_of args ≡ Some s → firsts nat_eq (argument_slots s.tuples) ≡ part_slots s.tuples
-split_firsts args s e =
-    let c = cut_of args s e in
-    let p = s.splitting.pattern in
-    let w = cut_shaped p c.behind c.some.0 c.some.1 (c.tuples ∙ ap Some c.some.2) in
-    argument_firsts (width_of p) (width_positive p) s.tuples (subst (HaveWidth (width_of p)) (sym c.some.2) w.0)
 
 named : (role : SlotAddr) (pattern : MultiSlotArgPattern) (policy : ResponsePolicy) (slots ks : List ℕ) → slots_in (to_some_parts pattern policy (map (part_to role) (map (group slots) ks))) ≡ ks
 named role pattern policy slots [] = refl

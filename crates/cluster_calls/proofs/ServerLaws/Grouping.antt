@@ -9,23 +9,6 @@ pub filter-same : {X : Type 0} (p q : X → Bool) (xs : List X) → AllByRecursi
 filter-same p q [] h = refl
 filter-same p q (x ∷ xs) h = ap (λ b. cond b (x ∷ filter p xs) (filter p xs)) h.0 ∙ ap (λ zs. cond (q x) (x ∷ zs) zs) (filter-same p q xs h.1)
 
--- a filter whose test is c wherever the other test passes
-pub filter-const : {X : Type 0} (p q : X → Bool) (c : Bool) → ((x : X) → p x ≡ true → q x ≡ c) → (xs : List X) → filter p (filter q xs) ≡ cond c (filter p xs) []
-filter-const {X} p q c h [] = by c
-  where
-    by : (b : Bool) → filter p [] ≡ cond b (filter p []) []
-    by true = refl
-    by false = refl
-filter-const {X} p q c h (x ∷ xs) = by (p x) refl (q x) refl c refl (filter-const p q c h xs)
-  where
-    by : (b : Bool) → p x ≡ b → (d : Bool) → q x ≡ d → (e : Bool) → c ≡ e → filter p (filter q xs) ≡ cond e (filter p xs) [] → filter p (cond d (x ∷ filter q xs) (filter q xs)) ≡ cond e (cond b (x ∷ filter p xs) (filter p xs)) []
-    by true f true g true k ih = ap (λ b. cond b (x ∷ filter p (filter q xs)) (filter p (filter q xs))) f ∙ ap (λ zs. x ∷ zs) ih
-    by true f true g false k ih = absurd (false≢true (sym k ∙ sym (h x f) ∙ g))
-    by true f false g true k ih = absurd (false≢true (sym g ∙ h x f ∙ k))
-    by true f false g false k ih = ih
-    by false f true g e k ih = ap (λ b. cond b (x ∷ filter p (filter q xs)) (filter p (filter q xs))) f ∙ ih
-    by false f false g e k ih = ih
-
 pub filter-map : {X Y : Type 0} (m : X → Y) (p : Y → Bool) (xs : List X) → map m (filter (λ x. p (m x)) xs) ≡ filter p (map m xs)
 filter-map m p [] = refl
 filter-map m p (x ∷ xs) = by (p (m x)) (filter-map m p xs)

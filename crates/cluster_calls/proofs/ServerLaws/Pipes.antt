@@ -36,7 +36,8 @@ use Rattle.cluster_calls.proofs.LogLaws.Plans.{IsFor, dispatches_for, or_right}
 use Rattle.cluster_calls.proofs.ServerLaws.PartCall.{filter_all, reply_is}
 use Rattle.cluster_calls.proofs.ServerLaws.Calls.{CallServed, nothing_done}
 use Rattle.cluster_routing.proofs.Recut.{all-filter}
-use Rattle.cluster_calls.proofs.ServerLaws.Grouping.{all-append, filter-same, filter-const, filter-map, pairwise-filter, pairwise-join, drawn_skip}
+use Rattle.cluster_routing.proofs.SplitWords.{filter-const}
+use Rattle.cluster_calls.proofs.ServerLaws.Grouping.{all-append, filter-same, filter-map, pairwise-filter, pairwise-join, drawn_skip}
 use Rattle.cluster_calls.proofs.LogLaws.PipePlans.{IsOneSlot, IsWholePart, pipeline_parts_are, primary_of, pipeline_nodes}
 
 -- ---- the nodes that were reached

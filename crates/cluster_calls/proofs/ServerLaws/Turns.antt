@@ -5,7 +5,8 @@ use Rattle.std.proofs.lemmas.List.Elements.{filter-append}
 use Rattle.cluster_routing.specs.Lists.{concat, front, rest}
 use Rattle.cluster_calls.specs.OneServer.Keyspace.{Step, on_slot}
 use Rattle.cluster_calls.specs.OneServer.AmongOthers.{Turn, Own, Other, step_of, in_turn, turns_on}
-use Rattle.cluster_calls.proofs.ServerLaws.Grouping.{filter-map, filter-const}
+use Rattle.cluster_routing.proofs.SplitWords.{filter-const}
+use Rattle.cluster_calls.proofs.ServerLaws.Grouping.{filter-map}
 use Rattle.cluster_calls.proofs.ServerLaws.Pieces.{with_some, pieces, SamePieces}
 
 -- ---- turns on a slot
