@@ -1,6 +1,6 @@
 -- What a call comes down to: a command part by part, a pipeline, a command to several nodes, or a request for
 -- the slot map.
-use Rattle.std.specs.Prelude.{ℕ, Bool, false, not, ◌||◌, ◌==◌, nat_eq, nat_lt, if◌then◌else◌, List, [], ◌∷◌, map, length, Option, Some, None, codes}
+use Rattle.std.specs.Prelude.{ℕ, Bool, false, not, ◌&&◌, ◌||◌, ◌==◌, nat_eq, nat_lt, bytes_eq, if◌then◌else◌, List, [], ◌∷◌, map, length, Option, Some, None, is_none, codes}
 use Rattle.resp_core.specs.Errors.{Refusal, by_cause}
 use Rattle.resp_core.specs.declared.errors.redis_error.Cause.{Cause}
 use Rattle.resp_core.specs.declared.errors.redis_error.Cause.TheVariants.{NoKeys, SeveralSlots, BadGroupName, ClaimsIdsAlone}
@@ -8,7 +8,7 @@ use Rattle.resp_args.specs.Command.{Command}
 use Rattle.cluster_routing.specs.Address.{Address}
 use Rattle.cluster_routing.specs.Command.{is_one_of}
 use Rattle.cluster_routing.specs.HashSlot.{hash_slot}
-use Rattle.cluster_routing.specs.Lists.{firsts}
+use Rattle.cluster_routing.specs.Lists.{firsts, is_distinct}
 use Rattle.stream_commands.specs.Settings.{GroupNames, ReadSettings}
 use Rattle.stream_commands.specs.Commands as commands
 use Rattle.stream_commands.specs.Commands.{plain_command}
@@ -49,6 +49,10 @@ first_refusal (None ∷ checks) = first_refusal checks
 abbrev pub are_of_one_slot : List (List ℕ) → Bool
 are_of_one_slot keys = nat_lt (length (firsts nat_eq (map hash_slot keys))) 2
 
+-- a read without group and block of keys that all differ is one of each key by itself
+abbrev pub is_by_key : ReadSettings → List (List ℕ) → Bool
+is_by_key options keys = is_none options.group && is_none options.block && is_distinct bytes_eq keys
+
 -- the name of a group or of a consumer is one argument, and not the word behind which the keys stand
 abbrev pub is_name : List (List ℕ) → Bool
 is_name (name ∷ []) = not (is_one_of (codes "STREAMS" ∷ []) name)
@@ -61,7 +65,7 @@ has_bad_names (Some names) = not (is_name names.group) || not (is_name names.con
 abbrev pub read_refusal : List (List ℕ) → ReadSettings → Option Refusal
 read_refusal keys options = first_refusal (
     refuse_if (length keys == 0) NoKeys
-    ∷ refuse_if (not (are_of_one_slot keys)) SeveralSlots
+    ∷ refuse_if (not (are_of_one_slot keys) && not (is_by_key options keys)) SeveralSlots
     ∷ refuse_if (has_bad_names options.group) BadGroupName
     ∷ [])
 
@@ -85,8 +89,14 @@ pub data Task : Type 0 where
   -- streams, one part for each slot of their keys, as they first appear
   read_of : (options : ReadSettings) → (streams : List Stream) → Task
 
+-- a call as the one command that it is sent as
+abbrev pub sentence_task : StreamCall → Task
+sentence_task call = one_command (plain_command (sentence call)) 0 None
+
 abbrev pub stream_task : StreamCall → Task
-stream_task call = one_command (plain_command (sentence call)) 0 None
+stream_task (Xread streams options) = if is_by_key options (stream_keys streams) then read_of options streams
+    else sentence_task (Xread streams options)
+stream_task call = sentence_task call
 
 abbrev pub task_of : Call → Task
 task_of (Refresh node) = slot_map_of node
