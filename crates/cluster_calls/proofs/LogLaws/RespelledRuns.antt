@@ -22,7 +22,7 @@ use Rattle.cluster_calls.specs.Links.Log.{Exchange, exchanges, left_after, left_
 use Rattle.stream_commands.specs.Settings.{ReadSettings}
 use Rattle.cluster_calls.specs.Calls.Call.{Stream, Xadd, Xtrim, Xread, Xrange, Xclaim, Xautoclaim, Xpending, XinfoStream, XinfoGroups, XinfoConsumers, XdelEx, Call, Refresh, Query, Ordered, Pipeline, FanOut, OnStreams}
 use Rattle.stream_commands.specs.Commands.{plain_command}
-use Rattle.cluster_calls.specs.Calls.Task.{Task, slot_map_of, one_command, pipeline_of, several_nodes, read_of, task_of, sentence}
+use Rattle.cluster_calls.specs.Calls.Task.{Task, slot_map_of, one_command, pipeline_of, several_nodes, read_of, task_of, sentence, sentence_task, is_by_key, stream_keys}
 use Rattle.cluster_calls.specs.Calls.Parts.{result_then}
 use Rattle.cluster_calls.specs.Calls.Plan.{Client, plan}
 use Rattle.cluster_calls.specs.Calls.Legal.{IsLegalCall}
@@ -162,9 +162,16 @@ answers_alike client picks faults faults' (Pipeline entries) xs ys h = exact_ans
 answers_alike client picks faults faults' (FanOut command) xs ys h = exact_answers client picks faults faults' (FanOut command) xs ys h
 answers_alike client picks faults faults' (OnStreams (Xadd key options id fields)) xs ys h = exact_answers client picks faults faults' (OnStreams (Xadd key options id fields)) xs ys h
 answers_alike client picks faults faults' (OnStreams (Xtrim key options)) xs ys h = exact_answers client picks faults faults' (OnStreams (Xtrim key options)) xs ys h
-answers_alike client picks faults faults' (OnStreams (Xread streams options)) xs ys h =
-    by_both client picks faults faults' (OnStreams (Xread streams options)) xs ys (part_refusal_alike (Some read) client faults faults' xs ys h)
-    (reply_alike (Some read) (λ tree. option_map Read (read_reply tree)) (λ t u s. ap (option_map Read) (respelled_read_alike.0 t u s)) (split_of (sent (plain_command (sentence (Xread streams options))))) (not_split _ (drop 1 (sent (plain_command (sentence (Xread streams options))))) (read_word (is_some options.group))) xs ys h)
+answers_alike client picks faults faults' (OnStreams (Xread streams options)) xs ys h = by (is_by_key options (stream_keys streams)) refl
+  where
+    by : (b : Bool) → is_by_key options (stream_keys streams) ≡ b → answer_of client picks faults (OnStreams (Xread streams options)) xs ≡ answer_of client picks faults' (OnStreams (Xread streams options)) ys
+    by true k = read_answers_alike client picks faults faults' (OnStreams (Xread streams options)) options streams (ap (λ b. cond b (read_of options streams) (sentence_task (Xread streams options))) k) xs ys h
+    by false k =
+        let is_sentence : task_of (OnStreams (Xread streams options)) ≡ sentence_task (Xread streams options) = ap (λ b. cond b (read_of options streams) (sentence_task (Xread streams options))) k in
+        by_both client picks faults faults' (OnStreams (Xread streams options)) xs ys
+        (subst (λ t. sent_refusal client faults t xs ≡ sent_refusal client faults' t ys) (sym is_sentence) (part_refusal_alike (Some read) client faults faults' xs ys h))
+        (subst (λ t. task_answer faults (OnStreams (Xread streams options)) t xs ≡ task_answer faults' (OnStreams (Xread streams options)) t ys) (sym is_sentence)
+        (reply_alike (Some read) (λ tree. option_map Read (read_reply tree)) (λ t u s. ap (option_map Read) (respelled_read_alike.0 t u s)) (split_of (sent (plain_command (sentence (Xread streams options))))) (not_split _ (drop 1 (sent (plain_command (sentence (Xread streams options))))) (read_word (is_some options.group))) xs ys h))
 answers_alike client picks faults faults' (OnStreams (Xrange key start end)) xs ys h =
     by_both client picks faults faults' (OnStreams (Xrange key start end)) xs ys (part_refusal_alike (Some range) client faults faults' xs ys h)
     (reply_alike (Some range) (λ tree. option_map Range (range_reply tree)) (λ t u s. ap (option_map Range) (respelled_read_alike.1 t u s)) (split_of (sent (plain_command (sentence (Xrange key start end))))) (not_split _ (drop 1 (sent (plain_command (sentence (Xrange key start end))))) range_word) xs ys h)

@@ -1,16 +1,16 @@
 -- A run is as good as one server, and is refused as its kinds say.
-use Rattle.std.proofs.Common.{◌≡◌, ℕ, Bool, true, List, [], ◌∷◌, ◌++◌, map, Option, Some, None, Result, Ok, Err, refl, sym, ap, ◌∙◌, subst, append_assoc}
-use Rattle.std.specs.Prelude.{bytes_eq}
-use Rattle.std.proofs.lemmas.Bool.{false≢true}
+use Rattle.std.proofs.Common.{◌≡◌, ℕ, Bool, true, false, cond, ◌&&◌, List, [], ◌∷◌, ◌++◌, map, Option, Some, None, Result, Ok, Err, refl, sym, ap, ◌∙◌, subst, append_assoc}
+use Rattle.std.specs.Prelude.{bytes_eq, is_none}
+use Rattle.std.proofs.lemmas.Bool.{and_parts, false≢true}
 use Rattle.resp_core.specs.Errors.{Refusal}
 use Rattle.cluster_routing.specs.Address.{Address}
 use Rattle.cluster_routing.specs.Choice.{Strategy}
 use Rattle.cluster_routing.specs.Lists.{concat, is_distinct, Pairwise}
 use Rattle.cluster_routing.specs.Policies.{or_bad_reply}
 use Rattle.cluster_calls.specs.Links.Log.{Exchange}
-use Rattle.cluster_calls.specs.Calls.Call.{Stream, Call, Refresh, Query, Ordered, Pipeline, FanOut, OnStreams}
+use Rattle.cluster_calls.specs.Calls.Call.{Stream, Xadd, Xtrim, Xread, Xrange, Xclaim, Xautoclaim, Xpending, XinfoStream, XinfoGroups, XinfoConsumers, XdelEx, Call, Refresh, Query, Ordered, Pipeline, FanOut, OnStreams}
 use Rattle.stream_commands.specs.Settings.{ReadSettings}
-use Rattle.cluster_calls.specs.Calls.Task.{read_of, task_of, stream_keys}
+use Rattle.cluster_calls.specs.Calls.Task.{read_of, task_of, sentence_task, is_by_key, stream_keys}
 use Rattle.cluster_calls.specs.Calls.Parts.{result_then}
 use Rattle.cluster_calls.specs.Calls.Plan.{Client, Dispatch, plan}
 use Rattle.cluster_calls.specs.Calls.Legal.{IsLegalCall}
@@ -69,7 +69,23 @@ reads_differ (Query command number) options streams t = cc
 reads_differ (Ordered command order number) options streams t = cc
 reads_differ (Pipeline entries) options streams t = cc
 reads_differ (FanOut command) options streams t = cc
-reads_differ (OnStreams call) options streams t = cc
+reads_differ (OnStreams (Xadd key settings id fields)) options streams t = cc
+reads_differ (OnStreams (Xtrim key settings)) options streams t = cc
+reads_differ (OnStreams (Xread read settings)) options streams t = by (is_by_key settings (stream_keys read)) refl t
+  where
+    by : (b : Bool) → is_by_key settings (stream_keys read) ≡ b → cond b (read_of settings read) (sentence_task (Xread read settings)) ≡ read_of options streams → is_distinct bytes_eq (stream_keys streams) ≡ true
+    by true k e =
+        let same : read ≡ streams = cc in
+        subst (λ ss. is_distinct bytes_eq (stream_keys ss) ≡ true) same (and_parts (is_none settings.group && is_none settings.block) (is_distinct bytes_eq (stream_keys read)) k).1
+    by false k e = cc
+reads_differ (OnStreams (Xrange key start end)) options streams t = cc
+reads_differ (OnStreams (Xclaim claimant ids settings)) options streams t = cc
+reads_differ (OnStreams (Xautoclaim claimant start settings)) options streams t = cc
+reads_differ (OnStreams (Xpending key group)) options streams t = cc
+reads_differ (OnStreams (XinfoStream key)) options streams t = cc
+reads_differ (OnStreams (XinfoGroups key)) options streams t = cc
+reads_differ (OnStreams (XinfoConsumers key group)) options streams t = cc
+reads_differ (OnStreams (XdelEx key ids policy)) options streams t = cc
 
 -- each call
 pub call_served : (client : Client) (faults : Address → LinkFault) (meaning : Meaning) (moves : List (List Step)) (done : ℕ → Bool) (picks : List Address) (call : Call) (xs : List Exchange) → GapsNameNoKey

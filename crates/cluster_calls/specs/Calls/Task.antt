@@ -1,5 +1,5 @@
--- What a call comes down to: a command part by part, a pipeline, a command to several nodes, or a request for
--- the slot map.
+-- What a call comes down to: a command or a read of streams part by part, a pipeline, a command to several
+-- nodes, or a request for the slot map.
 use Rattle.std.specs.Prelude.{ℕ, Bool, false, not, ◌&&◌, ◌||◌, ◌==◌, nat_eq, nat_lt, bytes_eq, if◌then◌else◌, List, [], ◌∷◌, map, length, Option, Some, None, is_none, codes}
 use Rattle.resp_core.specs.Errors.{Refusal, by_cause}
 use Rattle.resp_core.specs.declared.errors.redis_error.Cause.{Cause}

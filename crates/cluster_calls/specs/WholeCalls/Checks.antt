@@ -115,11 +115,33 @@ pub a_read_wants_a_key : plan on_halves [] (xread [] (in_group (codes "streams")
 unfolding hash_slot
 a_read_wants_a_key = refl
 
-pub a_read_has_one_slot : plan on_halves []
-    (xread (stream (codes "a") (codes "0") ∷ stream (codes "b") (codes "0") ∷ []) no_options)
+-- one of a and b has its parts, but not in a group, with a block, or with a key twice
+abbrev pub read_ab : ReadSettings → Call
+read_ab options = xread (stream (codes "a") (codes "0") ∷ stream (codes "b") (codes "0") ∷ []) options
+
+pub a_read_in_a_group_has_one_slot : plan on_halves [] (read_ab (in_group (codes "g")))
     ≡ Err (by_cause SeveralSlots)
 unfolding hash_slot
-a_read_has_one_slot = refl
+a_read_in_a_group_has_one_slot = refl
+
+pub a_read_with_a_block_has_one_slot : plan on_halves [] (read_ab (record no_options { block = Some 0 }))
+    ≡ Err (by_cause SeveralSlots)
+unfolding hash_slot
+a_read_with_a_block_has_one_slot = refl
+
+pub a_read_of_a_key_twice_has_one_slot : plan on_halves []
+    (xread (stream (codes "a") (codes "0") ∷ stream (codes "b") (codes "0") ∷ stream (codes "a") (codes "0")
+    ∷ []) no_options)
+    ≡ Err (by_cause SeveralSlots)
+unfolding hash_slot
+a_read_of_a_key_twice_has_one_slot = refl
+
+pub a_key_twice_is_one_request : plan on_halves []
+    (xread (stream (codes "a") (codes "0") ∷ stream (codes "a") (codes "0") ∷ []) no_options)
+    ≡ Ok (goes_to n2 (codes "XREAD" ∷ codes "STREAMS" ∷ codes "a" ∷ codes "a" ∷ codes "0" ∷ codes "0" ∷ [])
+    ∷ [])
+unfolding destination rule_of table hash_slot splitting_of digits
+a_key_twice_is_one_request = refl
 
 pub a_group_has_another_name : plan on_halves []
     (xread (stream (codes "a") (codes "0") ∷ []) (in_group (codes "streams"))) ≡ Err (by_cause BadGroupName)
