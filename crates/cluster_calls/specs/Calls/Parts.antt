@@ -1,6 +1,6 @@
 -- The parts of a call in order of first appearance, or why it has none: the checks before any node is looked
 -- for. Source: the Redis Cluster specification; documentation of the crate `redis`.
-use Rattle.std.specs.Prelude.{ℕ, suc, Bool, true, false, if◌then◌else◌, List, [], ◌∷◌, map, length, Option, Some, None, Result, Ok, Err, codes}
+use Rattle.std.specs.Prelude.{ℕ, suc, ◌+◌, ◌/◌, ◌%◌, ◌==◌, Bool, true, false, not, ◌&&◌, if◌then◌else◌, List, [], ◌∷◌, map, length, take, drop, Option, Some, None, option_map, option_and_then, Result, Ok, Err, codes}
 use Rattle.std.specs.List.{list_any}
 use Rattle.resp_core.specs.Errors.{Refusal, by_cause, at_position}
 use Rattle.resp_core.specs.declared.errors.redis_error.Cause.TheVariants.{NoResponse, NoRoute, CursorInSplit, BrokenTuples, BadOrder, NoNode}
@@ -10,6 +10,7 @@ use Rattle.resp_args.specs.declared.cmd.Arg.{Arg}
 use Rattle.resp_args.specs.declared.cmd.Arg.TheVariants.{Simple, Cursor}
 use Rattle.cluster_routing.specs.Address.{Address}
 use Rattle.cluster_routing.specs.AllNodes.{all_nodes, all_primaries}
+use Rattle.cluster_routing.specs.Command.{Args, all_bytes, is_one_of, place_of}
 use Rattle.cluster_routing.specs.Routing.{Destination, to_any_node, to_route, to_all_nodes, to_all_primaries, route_to, role_of, name_of, destination}
 use Rattle.cluster_routing.specs.SlotMap.{SlotEntries}
 use Rattle.cluster_routing.specs.declared.route.Route.{Route}
@@ -22,7 +23,7 @@ use Rattle.stream_commands.specs.Settings.{ReadSettings}
 use Rattle.cluster_calls.specs.Links.Request.{slots_command}
 use Rattle.cluster_calls.specs.Calls.Call.{Entry, Stream}
 use Rattle.cluster_calls.specs.Calls.Reads.{stream_slots, streams_at}
-use Rattle.cluster_calls.specs.Calls.Task.{Task, slot_map_of, one_command, pipeline_of, several_nodes, read_of, stream_keys, stream_ids}
+use Rattle.cluster_calls.specs.Calls.Task.{Task, slot_map_of, one_command, pipeline_of, several_nodes, read_of, stream_keys, stream_ids, are_of_one_slot}
 
 -- where a part goes first: to its slot, to the node with this number among all, or to a node
 pub data Target : Type 0 where
@@ -91,6 +92,30 @@ abbrev pub whole_part : List (List ℕ) → Result (List Part) Refusal → Optio
 whole_part args (Ok (part ∷ [])) = if_at_slot args part.target
 whole_part args _ = None
 
+-- Of a read the keys are the first half of what stands behind the word, where that is bytes and of an even
+-- number. Where it is not the node says what is wrong.
+abbrev pub first_half : List (List ℕ) → List (List ℕ)
+first_half args = if length args % 2 == 0 then take (length args / 2) args else []
+
+abbrev pub keys_behind : Args → Option ℕ → Option (List (List ℕ))
+keys_behind args place = option_and_then (λ n. option_map first_half (all_bytes (drop (n + 1) args))) place
+
+abbrev pub have_several_slots : Option (List (List ℕ)) → Bool
+have_several_slots None = false
+have_several_slots (Some keys) = not (are_of_one_slot keys)
+
+abbrev pub is_read_name : Option (List ℕ) → Bool
+is_read_name None = false
+is_read_name (Some name) = is_one_of (codes "XREAD" ∷ []) name
+
+abbrev pub reads_several_slots : Args → Bool
+reads_several_slots args = is_read_name (name_of args)
+    && have_several_slots (keys_behind args (place_of (codes "STREAMS") args))
+
+-- a read of several slots has no part
+abbrev pub if_one_slot : Bool → Option Part → Option Part
+if_one_slot several part = if several then None else part
+
 abbrev pub with_whole : ℕ → Option Part → Result (List Part) Refusal → Result (List Part) Refusal
 with_whole position None later = Err (at_position position)
 with_whole position (Some part) (Ok parts) = Ok (part ∷ parts)
@@ -98,7 +123,8 @@ with_whole position (Some part) (Err refusal) = Err refusal
 
 abbrev pub pipeline_parts : ℕ → List Entry → Result (List Part) Refusal
 pipeline_parts position [] = Ok []
-pipeline_parts position (e ∷ es) = with_whole position (whole_part (sent e.command) (parts_of [] e.command 0))
+pipeline_parts position (e ∷ es) = with_whole position
+    (if_one_slot (reads_several_slots e.command.args) (whole_part (sent e.command) (parts_of [] e.command 0)))
     (pipeline_parts (suc position) es)
 
 -- ---- several nodes, ascending
