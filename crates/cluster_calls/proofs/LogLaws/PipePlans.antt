@@ -18,7 +18,7 @@ use Rattle.cluster_routing.specs.declared.route.SlotAddr.TheVariants.{Master}
 use Rattle.cluster_routing.specs.declared.policy.ResponsePolicy.{ResponsePolicy}
 use Rattle.cluster_calls.specs.Links.World.{is_linked}
 use Rattle.cluster_calls.specs.Calls.Call.{Entry}
-use Rattle.cluster_calls.specs.Calls.Parts.{Target, at_slot, at_number, at_node, Part, part_to, slot_part, parts_of, if_at_slot, whole_part, with_whole, pipeline_parts}
+use Rattle.cluster_calls.specs.Calls.Parts.{Target, at_slot, at_number, at_node, Part, part_to, slot_part, parts_of, if_at_slot, whole_part, reads_several_slots, if_one_slot, with_whole, pipeline_parts}
 use Rattle.cluster_calls.specs.Calls.Plan.{Client, Dispatch, first_by, first_of, read_candidates, with_first, dispatch_one, dispatches}
 use Rattle.cluster_calls.specs.Calls.Replies.{args_slot, slot_by, first_tuple_slot, route_slot}
 use Rattle.cluster_calls.specs.OneServer.Laws.{GapsNameNoKey}
@@ -119,7 +119,7 @@ pub record IsWholePart (e : Entry) (part : Part) : Type 0 where
 
 pub whole_parts_are : (entries : List Entry) (position : ℕ) (parts : List Part) → AllByRecursion (λ (e : Entry). GapsStay e.command) entries → pipeline_parts position entries ≡ Ok parts → Pairwise IsWholePart entries parts
 whole_parts_are [] position parts stay e = let n : [] ≡ parts = cc in subst (Pairwise IsWholePart []) n tt
-whole_parts_are (x ∷ xs) position parts stay e = whole (parts_of [] x.command 0) refl e (λ q f. whole_parts_are xs (suc position) q stay.1 f)
+whole_parts_are (x ∷ xs) position parts stay e = one_slot (reads_several_slots x.command.args) e (λ q f. whole_parts_are xs (suc position) q stay.1 f)
   where
     IH : Type 0
     IH = (q : List Part) → pipeline_parts (suc position) xs ≡ Ok q → Pairwise IsWholePart xs q
@@ -140,6 +140,10 @@ whole_parts_are (x ∷ xs) position parts stay e = whole (parts_of [] x.command 
     whole (Ok (part ∷ part2 ∷ more)) p e ih = cc
     whole (Err r) p e ih = cc
     whole (Ok (part ∷ [])) p e ih = at_target part p part.target refl e ih
+
+    one_slot : (b : Bool) → with_whole position (if_one_slot b (whole_part (sent x.command) (parts_of [] x.command 0))) (pipeline_parts (suc position) xs) ≡ Ok parts → IH → Pairwise IsWholePart (x ∷ xs) parts
+    one_slot true e ih = cc
+    one_slot false e ih = whole (parts_of [] x.command 0) refl e ih
 
 gaps_stay : GapsNameNoKey → (entries : List Entry) → AllByRecursion (λ (e : Entry). GapsStay e.command) entries
 gaps_stay gaps [] = tt

@@ -20,7 +20,7 @@ use Rattle.cluster_calls.specs.Links.Request.{Request, slots_command}
 use Rattle.cluster_calls.specs.Links.World.{is_linked}
 use Rattle.cluster_calls.specs.Calls.Call.{Call, Entry}
 use Rattle.cluster_calls.specs.Calls.Task.{Task, slot_map_of, one_command, pipeline_of, several_nodes, read_of, task_of}
-use Rattle.cluster_calls.specs.Calls.Parts.{Part, part_to, at_node, to_nodes, node_parts, with_whole, whole_part, parts_of, pipeline_parts}
+use Rattle.cluster_calls.specs.Calls.Parts.{Part, part_to, at_node, to_nodes, node_parts, with_whole, whole_part, reads_several_slots, if_one_slot, parts_of, pipeline_parts}
 use Rattle.cluster_calls.specs.Calls.Plan.{Client, Dispatch, with_first, dispatches, plan}
 use Rattle.cluster_calls.specs.Calls.Legal.{direct, nodes_in_use, node_groups, NodeByNode, AreMade, IsLegalCall}
 use Rattle.cluster_calls.specs.OneServer.Laws.{request_bound}
@@ -46,7 +46,7 @@ sent_length (x ∷ xs) (d ∷ ds) e = let b : requests xs ≡ map direct ds = cc
 
 pipeline_length : (entries : List Entry) (position : ℕ) (parts : List Part) → pipeline_parts position entries ≡ Ok parts → length parts ≡ length entries
 pipeline_length [] position parts e = let n : [] ≡ parts = cc in ap length (sym n)
-pipeline_length (x ∷ xs) position parts e = whole (whole_part (sent x.command) (parts_of [] x.command 0)) e (λ q f. pipeline_length xs (suc position) q f)
+pipeline_length (x ∷ xs) position parts e = whole (if_one_slot (reads_several_slots x.command.args) (whole_part (sent x.command) (parts_of [] x.command 0))) e (λ q f. pipeline_length xs (suc position) q f)
   where
     others : (part : Part) (o : Result (List Part) Refusal) → pipeline_parts (suc position) xs ≡ o → with_whole position (Some part) o ≡ Ok parts
         → ((q : List Part) → pipeline_parts (suc position) xs ≡ Ok q → length q ≡ length xs) → length parts ≡ suc (length xs)

@@ -97,6 +97,76 @@ pub a_pipeline_takes_several_keys_of_a_slot : plan on_halves []
 unfolding destination rule_of table hash_slot splitting_of digits
 a_pipeline_takes_several_keys_of_a_slot = refl
 
+-- a read of several slots is refused, its name and word in any case of letters
+abbrev pub piped_read : List (List ℕ) → Call
+piped_read args = Pipeline (entry (codes "GET" ∷ codes "a" ∷ []) ∷ entry args ∷ [])
+
+pub a_pipeline_reads_one_slot : plan on_halves []
+    (piped_read (codes "xread" ∷ codes "COUNT" ∷ codes "5" ∷ codes "streams" ∷ codes "a" ∷ codes "b"
+    ∷ codes "0" ∷ codes "0" ∷ [])) ≡ Err (at_position 1)
+unfolding destination rule_of table hash_slot splitting_of digits
+a_pipeline_reads_one_slot = refl
+
+-- the first of two such words is the one, the second a key
+pub a_pipelines_first_word_is_meant : plan on_halves []
+    (piped_read (codes "XREAD" ∷ codes "STREAMS" ∷ codes "b" ∷ codes "STREAMS" ∷ codes "0" ∷ codes "0" ∷ []))
+    ≡ Err (at_position 1)
+unfolding destination rule_of table hash_slot splitting_of digits
+a_pipelines_first_word_is_meant = refl
+
+abbrev pub ax_read : List (List ℕ)
+ax_read = codes "XREAD" ∷ codes "STREAMS" ∷ codes "a" ∷ codes "{a}x" ∷ codes "0" ∷ codes "0" ∷ []
+
+pub a_pipeline_reads_several_keys_of_a_slot : plan on_halves [] (Pipeline (entry ax_read ∷ []))
+    ≡ Ok (goes_to n2 ax_read ∷ [])
+unfolding destination rule_of table hash_slot splitting_of digits
+a_pipeline_reads_several_keys_of_a_slot = refl
+
+-- without a key it has no route
+pub a_pipelines_read_wants_a_key : plan on_halves []
+    (piped_read (codes "XREAD" ∷ codes "STREAMS" ∷ [])) ≡ Err (at_position 1)
+unfolding destination rule_of table hash_slot splitting_of digits
+a_pipelines_read_wants_a_key = refl
+
+-- what is no such read goes to the slot of its first key: with an odd number behind the word, with a gap
+-- there, in a group, or by itself
+abbrev pub odd_read : List (List ℕ)
+odd_read = codes "XREAD" ∷ codes "STREAMS" ∷ codes "a" ∷ codes "b" ∷ codes "0" ∷ []
+
+pub an_odd_read_goes : plan on_halves [] (Pipeline (entry odd_read ∷ [])) ≡ Ok (goes_to n2 odd_read ∷ [])
+unfolding destination rule_of table hash_slot splitting_of digits
+an_odd_read_goes = refl
+
+abbrev pub ab_read : List (List ℕ)
+ab_read = codes "XREAD" ∷ codes "STREAMS" ∷ codes "a" ∷ codes "b" ∷ codes "0" ∷ codes "0" ∷ []
+
+abbrev pub read_with_gap : Command
+read_with_gap = record {
+  args = Simple (codes "XREAD") ∷ Simple (codes "STREAMS") ∷ Simple (codes "a") ∷ Simple (codes "b")
+      ∷ Simple (codes "0") ∷ Cursor ∷ [];
+  cursor = Some 0;
+  no_response = false;
+}
+
+pub a_read_with_a_gap_goes : plan on_halves []
+    (Pipeline (record { command = read_with_gap; ignored = false } ∷ []))
+    ≡ Ok (goes_to n2 ab_read ∷ [])
+unfolding destination rule_of table hash_slot splitting_of digits
+a_read_with_a_gap_goes = refl
+
+abbrev pub group_read : List (List ℕ)
+group_read = codes "XREADGROUP" ∷ codes "GROUP" ∷ codes "g" ∷ codes "c" ∷ codes "STREAMS" ∷ codes "a"
+    ∷ codes "b" ∷ codes ">" ∷ codes ">" ∷ []
+
+pub a_groups_read_goes : plan on_halves [] (Pipeline (entry group_read ∷ []))
+    ≡ Ok (goes_to n2 group_read ∷ [])
+unfolding destination rule_of table hash_slot splitting_of digits
+a_groups_read_goes = refl
+
+pub a_querys_read_goes : plan on_halves [] (query ab_read) ≡ Ok (goes_to n2 ab_read ∷ [])
+unfolding destination rule_of table hash_slot splitting_of digits
+a_querys_read_goes = refl
+
 -- ---- calls on streams
 
 abbrev pub no_options : ReadSettings
