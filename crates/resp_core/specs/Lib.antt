@@ -27,3 +27,4 @@ pub mod Promise
 pub mod Counts
 pub mod Incoming
 pub mod Examples
+pub mod Written
