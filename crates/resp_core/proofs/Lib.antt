@@ -30,3 +30,9 @@ pub mod TextNumbers
 pub mod PlainNumbers
 pub mod SameTexts
 pub mod SameValues
+pub mod WrittenTexts
+pub mod WrittenReads
+pub mod WrittenLeaves
+pub mod WrittenErrors
+pub mod WrittenForms
+pub mod WrittenOwn

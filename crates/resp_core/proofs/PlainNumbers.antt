@@ -25,7 +25,7 @@ skips : (ds : List ℕ) → AllDigits 10 ds → skip_leading_whitespace ds ≡ d
 skips [] h = refl
 skips (c ∷ cs) h = rw (not_white c (digit_at (c ∷ cs) 0 h (omega arith))) refl
 
-drops : (ds : List ℕ) → AllDigits 10 ds → drop_trailing_whitespace ds ≡ ds
+pub drops : (ds : List ℕ) → AllDigits 10 ds → drop_trailing_whitespace ds ≡ ds
 drops [] h = refl
 drops (c ∷ cs) h = rw (not_white c (digit_at (c ∷ cs) 0 h (omega arith))) (ap (λ (xs : List ℕ). c ∷ xs) (drops cs h.1))
 

@@ -5,7 +5,7 @@ ghost use Rattle.resp_core.specs.View.{error_text, format_view, kind_view, push_
 
 use crate::device::Refused;
 use crate::errors::{Cause, ErrorKind, RetryMethod, ServerError, ServerErrorKind};
-use crate::value::{PushInfo, PushKind, Value, VerbatimFormat};
+use crate::value::{Protocol, PushInfo, PushKind, Value, VerbatimFormat, WriteError};
 
 /// Two values are equal where they are one tree. So two doubles are equal where their texts are: that of
 /// no number equals itself, and `1.0` is not `1.00`.
@@ -73,6 +73,20 @@ pub fn equality_of_retries(a: &RetryMethod, b: &RetryMethod) -> bool
 
 /// There is one refusal of a device, so that two are equal.
 pub fn equality_of_refused_calls(a: &Refused, b: &Refused) -> bool
+    ensures { result ≡ true ↔ a.now ≡ b.now }
+{
+    a == b
+}
+
+/// Two protocols are equal where they are the same.
+pub fn equality_of_protocols(a: &Protocol, b: &Protocol) -> bool
+    ensures { result ≡ true ↔ a.now ≡ b.now }
+{
+    a == b
+}
+
+/// Two refusals to write a reply are equal where they are the same.
+pub fn equality_of_write_errors(a: &WriteError, b: &WriteError) -> bool
     ensures { result ≡ true ↔ a.now ≡ b.now }
 {
     a == b
