@@ -15,3 +15,5 @@ mod memory;
 mod texts;
 #[cfg(test)]
 mod values;
+#[cfg(test)]
+mod writes;
