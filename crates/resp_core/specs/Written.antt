@@ -9,7 +9,7 @@ use Rattle.std.specs.List.{before_first, after_first, list_all}
 use Rattle.std.specs.Str.{is_utf8, trim, bytes_eq}
 use Rattle.resp_core.specs.declared.value.write.Protocol.{Protocol}
 use Rattle.resp_core.specs.declared.value.write.Protocol.TheVariants.{Resp2, Resp3}
-use Rattle.resp_core.specs.Trees.{Format, Kind, Tree, nil, int, bulk, array, simple, okay, set, attribute, double, boolean, verbatim, big_number, push, server_error, ErrorText, Trees, no_trees, tree, Pairs, no_pairs, pair}
+use Rattle.resp_core.specs.Trees.{Format, Kind, Tree, nil, int, bulk, array, simple, okay, set, attribute, double, boolean, verbatim, big_number, push, server_error, Trees, no_trees, tree, Pairs, no_pairs, pair}
 use Rattle.resp_core.specs.Trees as trees
 use Rattle.resp_core.specs.Table.{is_double, format_of, kind_named, error_tree}
 use Rattle.resp_core.specs.Printed.{format_text, kind_text, joined}
@@ -17,6 +17,9 @@ use Rattle.resp_core.specs.Grammar.{crlf, Spells}
 use Rattle.resp_core.specs.Reading.{Read, line_at}
 
 -- ---- lines and counted bytes
+
+-- Type bytes are written as numbers: 33 is !, 36 $, 37 %, 40 (, 42 *, 43 +, 44 comma, 45 -, 58 :, 61 =, 62 >,
+-- 124 | and 126 ~. In texts 10 is LF, 13 CR, 32 a space and 58 a colon.
 
 -- a type byte, a line, and its end
 abbrev pub line_text : ℕ → List ℕ → List ℕ
