@@ -12,7 +12,7 @@ use Rattle.resp_core.specs.declared.parser.marker.Marker.{Marker}
 use Rattle.resp_core.specs.declared.parser.marker.Marker.TheVariants as rows
 use Rattle.resp_core.specs.declared.value.write.Protocol.TheVariants.{Resp3}
 use Rattle.resp_core.specs.Table.{Next, whole, bytes, values, next, row, number, counted, made_of, made_from, begins, may_begin, pushed, kind_of, kind_named, is_double, format_of, error_tree, verbatim_of, paired, last}
-use Rattle.resp_core.specs.Trees.{Format, unknown, markdown, text, Kind, other, Tree, nil, int, bulk, array, simple, okay, set, attribute, double, boolean, verbatim, big_number, push, server_error, Trees, no_trees, tree, Pairs, no_pairs, pair}
+use Rattle.resp_core.specs.Trees.{Format, markdown, text, Kind, other, Tree, nil, int, bulk, array, simple, okay, set, attribute, double, boolean, verbatim, big_number, push, server_error, Trees, no_trees, tree, pair}
 use Rattle.resp_core.specs.Trees as trees
 use Rattle.resp_core.specs.Printed.{format_text, kind_text}
 use Rattle.resp_core.specs.Grammar.{HasNoCrLf, Spells, by_line, by_bytes, by_values, SpellsAll, none, more}

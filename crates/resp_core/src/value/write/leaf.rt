@@ -1,7 +1,7 @@
 //! What has no parts, as bytes.
 //!
 //! Where memory is refused, some more bytes stand behind those of the buffer.
-ghost use Rattle.std.specs.Prelude.{◌≡◌, ◌++◌, ◌∷◌, [], ℕ, List, MatchResult, suc, length};
+ghost use Rattle.std.specs.Prelude.{◌≡◌, ◌++◌, ◌∷◌, ℕ, List, MatchResult, suc, length};
 ghost use Rattle.resp_core.specs.Printed.{joined};
 ghost use Rattle.resp_core.specs.View.{error_text, format_view};
 ghost use Rattle.std.specs.List.{list_all};

@@ -1,4 +1,4 @@
-use Rattle.std.proofs.Common.{◌&&◌, true, false, sym, ap, ◌∙◌}
+use Rattle.std.proofs.Common.{true, false, sym, ap, ◌∙◌}
 use Rattle.resp_core.specs.View.{view, trees_view, pairs_view}
 use Rattle.resp_core.specs.Written.{fits, fits_in, fits_all, fits_pairs}
 use Rattle.resp_core.proofs.Views.{view-Attribute}
