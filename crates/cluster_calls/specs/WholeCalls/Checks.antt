@@ -131,7 +131,7 @@ a_pipelines_read_wants_a_key = refl
 -- what is no such read goes to the slot of its first key: with an odd number behind the word, with a gap
 -- there, in a group, or by itself
 abbrev pub odd_read : List (List ℕ)
-odd_read = codes "XREAD" ∷ codes "STREAMS" ∷ codes "a" ∷ codes "b" ∷ codes "0" ∷ []
+odd_read = codes "XREAD" ∷ codes "STREAMS" ∷ codes "a" ∷ codes "b" ∷ codes "0" ∷ codes "0" ∷ codes "0" ∷ []
 
 pub an_odd_read_goes : plan on_halves [] (Pipeline (entry odd_read ∷ [])) ≡ Ok (goes_to n2 odd_read ∷ [])
 unfolding destination rule_of table hash_slot splitting_of digits
