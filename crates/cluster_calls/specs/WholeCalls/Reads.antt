@@ -209,6 +209,21 @@ pub a_row_twice_refuses : kind on_halves [] a_fault xread_three
 unfolding hash_slot digits first_error is_utf8 chars encode
 a_row_twice_refuses = refl
 
+-- ---- a and {a}x, of one slot: one request, and the record as it was read
+
+abbrev pub xread_ax : Call
+xread_ax = xread (stream (codes "a") ∷ stream (codes "{a}x") ∷ [])
+
+pub ax_is_one_request : plan on_halves [] xread_ax ≡ Ok (goes_to n2 read_ax ∷ [])
+unfolding hash_slot digits
+ax_is_one_request = refl
+
+pub ax_is_as_it_was_read : answer_on on_halves xread_ax
+    (log_over [] (array_of (row_of (codes "{a}x") ∷ row_of (codes "a") ∷ []) ∷ []) (plain n2 read_ax ∷ []))
+    ≡ Ok (Read (a_row (codes "{a}x") ∷ a_row (codes "a") ∷ []))
+unfolding hash_slot digits first_error is_utf8 chars encode
+ax_is_as_it_was_read = refl
+
 -- ---- on one server
 
 pub three_are_one_read : operations xread_three ≡ ReadKeys no_options three ∷ []
