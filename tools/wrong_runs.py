@@ -46,6 +46,46 @@ class ForgetsReplies(Link):
             raise
 
 
+class KeepsAHundredLevels(Link):
+    """It reads a hundred levels, whatever the session says."""
+
+    def __init__(self, *args):
+        super().__init__(*args[:-1], 100)
+
+
+class ReadsALevelMore(Link):
+    def __init__(self, *args):
+        super().__init__(*args[:-1], args[-1] + 1)
+
+
+class ReadsALevelLess(Link):
+    def __init__(self, *args):
+        super().__init__(*args[:-1], args[-1] - 1)
+
+
+class TellsFaultsLate(Link):
+    """It tells a fault when one byte more is there."""
+
+    def __init__(self, *args):
+        super().__init__(*args)
+        if self.fault is not None:
+            self.fault += 1
+
+
+class ReadsOnce(Link):
+    """Where a value is not whole by one read, it gives up."""
+
+    def next_value(self):
+        self.may_read = True
+        return super().next_value()
+
+    def read(self):
+        if not self.may_read:
+            raise Refused("Io")
+        self.may_read = False
+        super().read()
+
+
 class LogsBehindSend(Client):
     def exchange(self, node, requests, offset=0):
         log = self.log
@@ -138,4 +178,9 @@ FAULTS = [by(it) for it in (
 )]
 MEMORY = [by(it) for it in (
     LeavesLinkOpen, ForgetsReplies, LogsBehindSend, ClearsMap, ClosesAll, AsksAgain, SendsLaterParts,
+)]
+# Each with limits of levels by which it has to be told from a right run.
+LEVELS = [(by(it), limits) for it, limits in (
+    (KeepsAHundredLevels, (1, 4, 512)), (ReadsALevelMore, (1, 4, 100, 512)), (ReadsALevelLess, (1, 100, 512)),
+    (TellsFaultsLate, (1, 4, 100, 512)), (ReadsOnce, (1, 4, 100, 512)),
 )]
