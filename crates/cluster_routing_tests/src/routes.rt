@@ -3,7 +3,7 @@
 use crate::texts::{is_text, shows};
 use cluster_routing::{
     ResponsePolicy, Route, RoutingInfo, SingleNodeRoutingInfo, SlotAddr, SplitParts,
-    command_for_multi_slot_indices,
+    command_for_multi_slot_indices, role_of,
 };
 use resp_args::Cmd;
 use resp_core::parse_redis_value;
@@ -74,6 +74,27 @@ fn reads_may_go_to_replicas(rt: HostRuntime) -> Result<(), Fail> {
     for (words, wanted) in rows {
         is_text(&rt, route_text(rt.alloc(), words, &names), wanted);
     }
+    Ok(())
+}
+
+// The names as the routing table spells them: in capitals, a container's in two words.
+#[test]
+fn roles_are_by_name(rt: HostRuntime) -> Result<(), Fail> {
+    let alloc = rt.alloc();
+    let mut names = Vec::new(alloc);
+    for name in ["GET", "OBJECT FREQ"] {
+        names.push(Vec::from_slice(alloc, name.as_bytes())?)?;
+    }
+    let rows: [(&[u8], &str); 4] = [
+        (b"GET", "ReplicaOptional"),
+        (b"OBJECT FREQ", "ReplicaOptional"),
+        (b"SET", "Master"),
+        (b"OBJECT", "Master"),
+    ];
+    for (name, wanted) in rows {
+        shows(&rt, alloc, &role_of(name, &names), wanted);
+    }
+    shows(&rt, alloc, &role_of(b"GET", &[]), "Master");
     Ok(())
 }
 

@@ -9,3 +9,7 @@ pub mod Dispatched
 pub mod SplitCommands
 pub mod PartReplies
 pub mod OneSlot
+pub mod DistinctKeys
+pub mod ReadStreams
+pub mod JoinedReads
+pub mod PipelineReads

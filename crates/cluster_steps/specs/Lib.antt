@@ -7,3 +7,4 @@ pub mod WholeParts
 pub mod Groups
 pub mod GroupRuns
 pub mod Queues
+pub mod Reads

@@ -1,74 +1,113 @@
-//! The checks of a read of streams, which come before all others.
-ghost use Rattle.std.specs.Prelude.{◌≡◌, [], ◌∷◌, codes, map, nat_eq, option_map, IfOk};
+//! What a read of streams comes down to, and its checks, which come before all others.
+ghost use Rattle.std.specs.Prelude.{◌≡◌, [], ◌∷◌, codes, bytes_eq, nat_eq, IfOk};
 ghost use Rattle.std.specs.List.{list_all};
-ghost use Rattle.resp_core.specs.Errors.{by_cause};
 ghost use Rattle.cluster_routing.specs.Command.{is_one_of};
 ghost use Rattle.cluster_routing.specs.HashSlot.{hash_slot};
-ghost use Rattle.cluster_routing.specs.Info.{texts};
+ghost use Rattle.cluster_routing.specs.Info.{lent, texts};
+ghost use Rattle.cluster_routing.specs.Lists.{is_distinct};
 ghost use Rattle.cluster_calls.specs.Calls.Task as tasks;
+ghost use Rattle.cluster_calls.specs.Links.Typed.{streams_by};
+ghost use Rattle.cluster_steps.specs.Reads.{IsReading, streams_in};
 
+use crate::read_parts::{Stream, keys_of, streams_of};
 use cluster_routing::Slot;
+use indexmap::IndexSet;
 use resp_args::ToSingleRedisArg;
 use resp_core::Cause;
 use std::alloc::{AllocError, Global};
 use stream_commands::StreamReadOptions;
 
-/// The first check that a read of these streams does not meet.
-pub fn read_refusal<K: ToSingleRedisArg, I>(
+/// What a read of streams comes down to.
+#[derive(Drop)]
+pub enum Reading {
+    /// It is refused, by the first check that is not met.
+    Refused(Cause),
+    /// It is one read of each of these streams by itself, and goes out in parts.
+    ByKey(Vec<Stream>),
+    /// It is one command.
+    Whole,
+}
+
+/// What a read of these streams comes down to.
+///
+/// It is one read of each stream by itself where it names no group, does not block, and no key stands twice.
+pub fn reading_of<K: ToSingleRedisArg, I: ToSingleRedisArg>(
     alloc: Global,
     streams: &[(K, I)],
     options: &StreamReadOptions,
-) -> Result<Option<Cause>, AllocError>
-    ensures { IfOk result
-        (λ why. option_map by_cause why ≡ tasks.read_refusal (map (λ s. K.arg s.0) streams.now) options.now) }
+) -> Result<Reading, AllocError>
+    ensures { IfOk result (IsReading options.now (streams_by K.arg I.arg streams.now)) }
 {
     if streams.is_empty() {
-        return Ok(Some(Cause::NoKeys));
+        return Ok(Reading::Refused(Cause::NoKeys));
     }
-    if !are_of_one_slot(alloc, streams)? {
-        return Ok(Some(Cause::SeveralSlots));
+    let list = streams_of(alloc, streams)?;
+    if is_by_key(alloc, &list, options)? {
+        return Ok(Reading::ByKey(list));
+    }
+    if !are_of_one_slot(alloc, &list)? {
+        return Ok(Reading::Refused(Cause::SeveralSlots));
     }
     if has_bad_names(options) {
-        return Ok(Some(Cause::BadGroupName));
+        return Ok(Reading::Refused(Cause::BadGroupName));
     }
-    Ok(None)
+    Ok(Reading::Whole)
 }
 
-fn are_of_one_slot<K: ToSingleRedisArg, I>(
+fn is_by_key(
     alloc: Global,
-    streams: &[(K, I)],
+    streams: &[Stream],
+    options: &StreamReadOptions,
 ) -> Result<bool, AllocError>
-    ensures { IfOk result (λ b. b ≡ tasks.are_of_one_slot (map (λ s. K.arg s.0) streams.now)) }
+    ensures { IfOk result
+        (λ b. b ≡ tasks.is_by_key options.now (tasks.stream_keys (streams_in streams.now))) }
 {
-    match streams.first() {
-        Some(first) => {
-            let slot = key_slot(alloc, &first.0)?;
-            are_at(alloc, streams, slot)
-        }
-        None => Ok(true),
+    if !options.read_only() || options.blocks() {
+        return Ok(false);
     }
+    let keys = keys_of(alloc, streams)?;
+    are_distinct(alloc, &keys)
 }
 
-fn are_at<K: ToSingleRedisArg, I>(
-    alloc: Global,
-    streams: &[(K, I)],
-    slot: u16,
-) -> Result<bool, AllocError>
-    ensures { IfOk result (λ b. b ≡ list_all (λ s. nat_eq slot (hash_slot (K.arg s.0))) streams.now) }
+fn are_distinct(alloc: Global, keys: &[&[u8]]) -> Result<bool, AllocError>
+    ensures { IfOk result (λ b. b ≡ is_distinct bytes_eq (lent keys.now)) }
 {
-    for stream in streams {
-        if slot != key_slot(alloc, &stream.0)? {
+    let mut seen = IndexSet::with_capacity(alloc, keys.len())?;
+    'keys: for key in keys {
+        if !seen.insert(*key)? {
             return Ok(false);
         }
     }
     Ok(true)
 }
 
-fn key_slot<K: ToSingleRedisArg>(alloc: Global, key: &K) -> Result<u16, AllocError>
-    ensures { IfOk result (λ slot. slot ≡ hash_slot (K.arg key.now)) }
+fn are_of_one_slot(alloc: Global, streams: &[Stream]) -> Result<bool, AllocError>
+    ensures { IfOk result
+        (λ b. b ≡ tasks.are_of_one_slot (tasks.stream_keys (streams_in streams.now))) }
 {
-    let args = key.to_redis_args(alloc)?;
-    Ok(Slot::for_key(args[0].as_slice()).number())
+    let keys = keys_of(alloc, streams)?;
+    Ok(have_one_slot(&keys))
+}
+
+/// Whether keys have one slot; no key has no other.
+pub(crate) fn have_one_slot(keys: &[&[u8]]) -> bool
+    ensures { result ≡ tasks.are_of_one_slot (lent keys.now) }
+{
+    match keys.first() {
+        Some(first) => have_slot(keys, Slot::for_key(first).number()),
+        None => true,
+    }
+}
+
+fn have_slot(keys: &[&[u8]], slot: u16) -> bool
+    ensures { result ≡ list_all (λ k. nat_eq slot (hash_slot k.now)) keys.now }
+{
+    'keys: for key in keys {
+        if slot != Slot::for_key(key).number() {
+            return false;
+        }
+    }
+    true
 }
 
 fn has_bad_names(options: &StreamReadOptions) -> bool

@@ -1,0 +1,20 @@
+use Rattle.std.proofs.Common.{◌≡◌, ◌∙◌, true, false, [], sym, ap}
+use Rattle.std.proofs.lemmas.List.{nil_from_length}
+use Rattle.cluster_routing.specs.Info.{lent}
+use Rattle.cluster_steps.proofs.DistinctKeys.{are_new, key_seen, key_unseen, none_seen}
+use Rattle.cluster_steps.proofs.read_checks.are_distinct.Goals as goal
+
+pub keys-init : goal.keys-init
+keys-init c =
+    let none : c.in_ok-seen.seen.keys ≡ [] = nil_from_length c.in_ok-seen.seen.keys c.in_ok-seen.ensures.len in
+    none_seen (lent c.args.keys.now) ∙ ap (λ ks. are_new (lent ks) (lent c.args.keys.now)) (sym none)
+
+pub returns-then-not-branch : goal.returns-then-not-branch
+returns-then-not-branch c =
+    let old : c.in_ok-insert.field-0 ≡ false = cc in
+    key_seen c.args.keys.now c.keys.seen.keys c.keys.key-index _ c.in_ok-insert.field-0 c.keys-test.true c.keys.invariant c.in_ok-insert.ensures.added old
+
+pub keys-preserved : goal.keys-preserved
+keys-preserved c =
+    let new : c.in_ok-insert.field-0 ≡ true = cc in
+    key_unseen c.args.keys.now c.keys.seen.keys c.keys.key-index _ c.in_ok-insert.field-0 c.insert.new.self.keys c.keys-test.true c.keys.invariant c.in_ok-insert.ensures.added new c.in_ok-insert.ensures.keys
