@@ -10,7 +10,7 @@ use Rattle.resp_core.specs.declared.errors.redis_error.Cause.TheVariants.{Memory
 use Rattle.resp_core.specs.declared.errors.redis_error.ErrorKind.TheVariants as kinds
 use Rattle.resp_core.specs.declared.errors.server_error.ServerErrorKind.{ServerErrorKind}
 use Rattle.cluster_routing.specs.Choice.{Strategy}
-use Rattle.cluster_calls.specs.Calls.Answer.{Value, answer_in, answer_of}
+use Rattle.cluster_calls.specs.Calls.Answer.{Answer, Value, answer_in, answer_of}
 use Rattle.cluster_calls.specs.Calls.Call.{Call}
 use Rattle.cluster_calls.specs.Calls.Picks.{ArePicks}
 use Rattle.cluster_calls.specs.Calls.Plan.{Client, Dispatch, plan}
@@ -27,6 +27,7 @@ use Rattle.cluster_calls.specs.Calls.Legal.{IsLegalCall}
 use Rattle.cluster_calls.specs.Links.Events.{Runs, exchanges_of}
 use Rattle.cluster_calls.specs.Links.Happened.{BeginsLegal, CallMade, Happened, client_of, is_refresh}
 use Rattle.cluster_calls.specs.Links.Run.{with_log}
+use Rattle.cluster_calls.specs.Links.Typed.{record_answer}
 use Rattle.cluster_calls.specs.Links.World.{World, tree_result}
 use Rattle.cluster_calls.proofs.LinkLaws.OneCommand.{Untouched, nothing_happened, refused_by, unsent_answered}
 use Rattle.cluster_calls.proofs.LinkLaws.Played.{call_made}
@@ -96,10 +97,19 @@ value_memory : (r : Result CodeValue Refusal) → value_answer (tree_result view
 value_memory (Ok value) e = cc
 value_memory (Err refusal) e = let same : refusal ≡ by_cause Memory = cc in ap (λ k. Err k) same
 
+record_memory : {T : Type 0} (shown : T → Answer) (r : Result T Refusal) → record_answer shown r ≡ Err (by_cause Memory) → r ≡ Err (by_cause Memory)
+record_memory shown (Ok value) e = cc
+record_memory shown (Err refusal) e = let same : refusal ≡ by_cause Memory = cc in ap (λ k. Err k) same
+
+memory_record : {T : Type 0} (shown : T → Answer) (r : Result T Refusal) → r ≡ Err (by_cause Memory) → record_answer shown r ≡ Err (by_cause Memory)
+memory_record shown r e = ap (record_answer shown) e
+
 memory_value : (r : Result CodeValue Refusal) → r ≡ Err (by_cause Memory) → value_answer (tree_result view r) ≡ Err (by_cause Memory)
 memory_value r e = ap (λ k. value_answer (tree_result view k)) e
 
-module _ (strategy : Option Strategy) (old mid new : World) (call : Call) (r : Result CodeValue Refusal) (plain : is_refresh call ≡ false) (m : CommandEnded strategy old mid call (value_answer (tree_result view r)))
+-- the answer shows the result, and lacks memory exactly where the result does
+module _ {T : Type 0} (r : Result T Refusal) (answer : Result Answer Refusal) (told : answer ≡ Err (by_cause Memory) → r ≡ Err (by_cause Memory)) (tells : r ≡ Err (by_cause Memory) → answer ≡ Err (by_cause Memory))
+    (strategy : Option Strategy) (old mid new : World) (call : Call) (plain : is_refresh call ≡ false) (m : CommandEnded strategy old mid call answer)
     (stays : new ≡ with_log mid mid.log new.picked) (forgotten : r ≡ Err (by_cause Memory) → mid.log ≡ [] → new.picked ≡ []) (kept : (r ≡ Err (by_cause Memory) → mid.log ≢ []) → new.picked ≡ mid.picked) where
   same_log : new.log ≡ mid.log
   same_log = ap (λ (w : World). w.log) stays
@@ -121,20 +131,33 @@ module _ (strategy : Option Strategy) (old mid new : World) (call : Call) (r : R
     flag = λ n. ap (λ (w : World). w.needs_refresh) stays ∙ m.happened.flag n;
   }
 
-  pub unpicked_made : CallMade strategy old new call (value_answer (tree_result view r))
-  unpicked_made =
-      call_made strategy old new call (value_answer (tree_result view r)) happened
+  unpicked_by : CallMade strategy old new call answer
+  unpicked_by =
+      call_made strategy old new call answer happened
       (λ had.
       let a = m.answered had in
-      let same = kept (λ e none. had (memory_value r e)) in
+      let same = kept (λ e none. had (tells e)) in
       record {
         memory = a.memory;
         logged = same_log ∙ a.logged;
         picks = subst (λ ps. ArePicks strategy (client_of old) call ps) (sym same) a.picks;
         legal = λ place. subst (λ ps. IsLegalCall (client_of old) ps call (exchanges_of place m.happened.events)) (sym same) (a.legal place);
-        answered = λ faults agrees place. subst (λ ps. value_answer (tree_result view r) ≡ answer_of (client_of old) ps faults call (exchanges_of place m.happened.events)) (sym same) (a.answered faults agrees place);
+        answered = λ faults agrees place. subst (λ ps. answer ≡ answer_of (client_of old) ps faults call (exchanges_of place m.happened.events)) (sym same) (a.answered faults agrees place);
         entries = λ place. ap (λ (w : World). w.entries) stays ∙ a.entries place;
         flag = λ place. ap (λ (w : World). w.needs_refresh) stays ∙ a.flag place;
       })
       (λ e n. absurd (false≢true (sym plain ∙ n)))
-      (λ e none. forgotten (value_memory r e) (sym same_log ∙ none))
+      (λ e none. forgotten (told e) (sym same_log ∙ none))
+
+module _ (strategy : Option Strategy) (old mid new : World) (call : Call) where
+  pub unpicked_made : (r : Result CodeValue Refusal) → is_refresh call ≡ false → CommandEnded strategy old mid call (value_answer (tree_result view r))
+      → new ≡ with_log mid mid.log new.picked → (r ≡ Err (by_cause Memory) → mid.log ≡ [] → new.picked ≡ []) → ((r ≡ Err (by_cause Memory) → mid.log ≢ []) → new.picked ≡ mid.picked)
+      → CallMade strategy old new call (value_answer (tree_result view r))
+  unpicked_made r plain m stays forgotten kept =
+      unpicked_by r (value_answer (tree_result view r)) (value_memory r) (memory_value r) strategy old mid new call plain m stays forgotten kept
+
+  pub record_unpicked : {T : Type 0} (shown : T → Answer) (r : Result T Refusal) → is_refresh call ≡ false → CommandEnded strategy old mid call (record_answer shown r)
+      → new ≡ with_log mid mid.log new.picked → (r ≡ Err (by_cause Memory) → mid.log ≡ [] → new.picked ≡ []) → ((r ≡ Err (by_cause Memory) → mid.log ≢ []) → new.picked ≡ mid.picked)
+      → CallMade strategy old new call (record_answer shown r)
+  record_unpicked shown r plain m stays forgotten kept =
+      unpicked_by r (record_answer shown r) (record_memory shown r) (memory_record shown r) strategy old mid new call plain m stays forgotten kept

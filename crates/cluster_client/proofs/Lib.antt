@@ -9,3 +9,4 @@ pub mod Ending
 pub mod TypedCalls
 pub mod Deletions
 pub mod Relinking
+pub mod Reading

@@ -13,7 +13,7 @@ use Rattle.cluster_routing.specs.declared.route.SlotAddr.TheVariants.{Master}
 use Rattle.cluster_calls.specs.Links.World.{is_linked}
 use Rattle.cluster_steps.specs.Dispatches.{AreDispatched, IsPlanned}
 use Rattle.cluster_calls.specs.Calls.Call.{Entry, Pipeline}
-use Rattle.cluster_calls.specs.Calls.Parts.{Part, Target, at_slot, parts_of, whole_part, with_whole, pipeline_parts}
+use Rattle.cluster_calls.specs.Calls.Parts.{Part, Target, at_slot, if_one_slot, parts_of, reads_several_slots, whole_part, with_whole, pipeline_parts}
 use Rattle.cluster_calls.specs.Calls.Plan.{Client, Dispatch, First, dispatches, first_by, first_of, plan, read_candidates, target_candidates}
 use Rattle.cluster_calls.specs.Calls.Replies.{args_slot}
 use Rattle.cluster_calls.specs.Calls.Picks.{ArePartPicks, ArePicks, ArePicksOf, IsPick}
@@ -36,13 +36,13 @@ before_one position ps part (Ok qs) = ap (λ xs. Ok xs) (sym (append_assoc ps (p
 before_one position ps part (Err refusal) = refl
 
 -- the next command is a part, and so on
-pub parts_more : (entries : List Entry) (position : ℕ) (e : Entry) (rest : List Entry) (ps : List Part) (part : Part) → before ps (pipeline_parts position (e ∷ rest)) ≡ pipeline_parts 0 entries → whole_part (sent e.command) (parts_of [] e.command 0) ≡ Some part
+pub parts_more : (entries : List Entry) (position : ℕ) (e : Entry) (rest : List Entry) (ps : List Part) (part : Part) → before ps (pipeline_parts position (e ∷ rest)) ≡ pipeline_parts 0 entries → if_one_slot (reads_several_slots e.command.args) (whole_part (sent e.command) (parts_of [] e.command 0)) ≡ Some part
     → before (ps ++ part ∷ []) (pipeline_parts (suc position) rest) ≡ pipeline_parts 0 entries
 parts_more entries position e rest ps part h is =
     sym (before_one position ps part (pipeline_parts (suc position) rest)) ∙ ap (λ o. before ps (with_whole position o (pipeline_parts (suc position) rest))) (sym is) ∙ h
 
 -- it is none
-pub parts_stop : (entries : List Entry) (position : ℕ) (e : Entry) (rest : List Entry) (ps : List Part) → before ps (pipeline_parts position (e ∷ rest)) ≡ pipeline_parts 0 entries → whole_part (sent e.command) (parts_of [] e.command 0) ≡ None
+pub parts_stop : (entries : List Entry) (position : ℕ) (e : Entry) (rest : List Entry) (ps : List Part) → before ps (pipeline_parts position (e ∷ rest)) ≡ pipeline_parts 0 entries → if_one_slot (reads_several_slots e.command.args) (whole_part (sent e.command) (parts_of [] e.command 0)) ≡ None
     → Err (at_position position) ≡ pipeline_parts 0 entries
 parts_stop entries position e rest ps h is = sym (ap (λ o. before ps (with_whole position o (pipeline_parts (suc position) rest))) is) ∙ h
 

@@ -12,11 +12,12 @@ use Rattle.cluster_routing.specs.Policies.{bad_reply, or_bad_reply}
 use Rattle.stream_commands.specs.Commands as commands
 use Rattle.stream_commands.specs.Settings.{ReadSettings}
 use Rattle.cluster_calls.specs.Links.Converted.{value_answer}
-use Rattle.cluster_calls.specs.Links.Events.{exchanges_of}
+use Rattle.cluster_calls.specs.Links.Events.{exchanges_of, log_of}
 use Rattle.cluster_calls.specs.Links.Faults.{LinkFault}
 use Rattle.cluster_calls.specs.Links.Happened.{client_of, BeginsLegal, Happened, Answered, CallMade}
 use Rattle.cluster_calls.specs.Links.Log.{Exchange}
-use Rattle.cluster_calls.specs.Links.Request.{Request}
+use Rattle.cluster_calls.specs.Links.Nodes.{link_calls}
+use Rattle.cluster_calls.specs.Links.Request.{Request, requests_to}
 use Rattle.cluster_calls.specs.Links.Run.{with_log}
 use Rattle.cluster_calls.specs.Links.Typed.{IsReadBy, record_answer, streams_by}
 use Rattle.cluster_calls.specs.Links.World.{World}
@@ -25,10 +26,10 @@ use Rattle.cluster_calls.specs.Calls.Call.{Call, Query, StreamCall, Xread, OnStr
 use Rattle.cluster_calls.specs.Calls.Legal.{IsLegalCall}
 use Rattle.cluster_calls.specs.Calls.Parts.{Part, result_then, task_parts}
 use Rattle.cluster_calls.specs.Calls.Picks.{ArePicks, ArePicksOf}
-use Rattle.cluster_calls.specs.Calls.Plan.{Client, Dispatch, call_parts, dispatches, plan, unless_refused}
+use Rattle.cluster_calls.specs.Calls.Plan.{Client, Dispatch, call_parts, dispatches, in_order, order_of, plan, unless_refused}
 use Rattle.cluster_calls.specs.Calls.Refusals.{sent_refusal}
 use Rattle.stream_commands.specs.Commands.{plain_command}
-use Rattle.cluster_calls.specs.Calls.Task.{one_command, sentence, stream_keys, stream_ids, stream_refusal}
+use Rattle.cluster_calls.specs.Calls.Task.{one_command, sentence, sentence_task, stream_keys, stream_ids, stream_refusal, stream_task}
 use Rattle.cluster_steps.proofs.Dispatched.{plan_unparted, picks_unparted}
 use Rattle.cluster_calls.proofs.LinkLaws.OneCommand.{refused_by, relogged_untouched, not_begun, not_sent}
 use Rattle.cluster_calls.proofs.LinkLaws.Played.{call_made}
@@ -59,22 +60,24 @@ had_memory : (read : Tree → Option Answer) (r : Result Tree Refusal) (a : Resu
 had_memory read (Ok tree) a is had = λ e. cc
 had_memory read (Err refusal) a is had = λ e. had (is had ∙ ap (λ k. Err k) (refused_alike refusal (by_cause Memory) e))
 
-module _ (strategy : Option Strategy) (old new : World) (call : StreamCall) (fits : stream_refusal call ≡ None) where
+module _ (strategy : Option Strategy) (old new : World) (call : StreamCall) (fits : stream_refusal call ≡ None) (sentenced : stream_task call ≡ sentence_task call) where
   abbrev query : Call
   query = Query (plain_command (sentence call)) 0
 
   parts_alike : (client : Client) → call_parts client (OnStreams call) ≡ call_parts client query
-  parts_alike client = ap (λ why. unless_refused why (task_parts client.settings.read_only client.entries (one_command (plain_command (sentence call)) 0 None))) fits
+  parts_alike client = ap (λ why. unless_refused why (task_parts client.settings.read_only client.entries (stream_task call))) fits ∙ ap (task_parts client.settings.read_only client.entries) sentenced
 
   plans_alike : (client : Client) (picks : List Address) → plan client picks (OnStreams call) ≡ plan client picks query
-  plans_alike client picks = ap (λ r. result_then r (λ ps. result_then (dispatches client picks ps) (λ ds. Ok ds))) (parts_alike client)
+  plans_alike client picks =
+      ap (λ r. result_then r (λ ps. result_then (dispatches client picks ps) (λ ds. Ok (in_order (order_of (stream_task call)) ds)))) (parts_alike client)
+      ∙ ap (λ task. result_then (call_parts client query) (λ ps. result_then (dispatches client picks ps) (λ ds. Ok (in_order (order_of task) ds)))) sentenced
 
   picks_alike : (s : Option Strategy) (client : Client) (picks : List Address) → ArePicks s client query picks → ArePicks s client (OnStreams call) picks
   picks_alike None client picks h = h
   picks_alike (Some admits) client picks h = subst (λ parts. ArePicksOf admits client parts picks) (sym (parts_alike client)) h
 
   legal_alike : (client : Client) (picks : List Address) (xs : List Exchange) → IsLegalCall client picks query xs → IsLegalCall client picks (OnStreams call) xs
-  legal_alike client picks xs h = rw (plans_alike client picks) h
+  legal_alike client picks xs h = rw (plans_alike client picks, sentenced) h
 
   begins_alike : (client : Client) (picks : List Address) (xs : List Exchange) → BeginsLegal client picks query xs → BeginsLegal client picks (OnStreams call) xs
   begins_alike client picks xs b = record { later = b.later; legal = legal_alike client picks _ b.legal }
@@ -85,7 +88,7 @@ module _ (strategy : Option Strategy) (old new : World) (call : StreamCall) (fit
     runs = h.runs;
     stops = h.stops;
     logged = h.logged;
-    calls = h.calls;
+    calls = λ node. h.calls node ∙ ap (λ task. link_calls task (requests_to node (log_of h.events))) (sym sentenced);
     picks = λ some. picks_alike strategy (client_of old) new.picked (h.picks some);
     begins = λ some place. begins_alike (client_of old) new.picked (exchanges_of place h.events) (h.begins some place);
     settings = h.settings;
@@ -97,7 +100,7 @@ module _ (strategy : Option Strategy) (old new : World) (call : StreamCall) (fit
       → read_by (stream_answer call) r ≡ answer_of client picks faults (OnStreams call) xs
   answers_alike client picks faults xs r e =
       let task = one_command (plain_command (sentence call)) 0 None in
-      rw (plans_alike client picks) (read_alike (stream_answer call) (plan client picks query) (sent_refusal client faults task xs) (reply_of faults task xs) r e)
+      rw (plans_alike client picks, sentenced) (read_alike (stream_answer call) (plan client picks query) (sent_refusal client faults task xs) (reply_of faults task xs) r e)
 
   -- the call was made, if its command was, and answers what the reply reads as
   pub typed_made : (r : Result Tree Refusal) (a : Result Answer Refusal) → CallMade strategy old new query (value_answer r) → (a ≢ Err (by_cause Memory) → a ≡ read_by (stream_answer call) r)
@@ -158,7 +161,7 @@ unwritten strategy old new call e = not_begun strategy old new (OnStreams call) 
 -- a check before all others is not met
 pub refused_early : (strategy : Option Strategy) (old new : World) (call : StreamCall) (refusal : Refusal) → stream_refusal call ≡ Some refusal → new ≡ with_log old [] [] → CallMade strategy old new (OnStreams call) (Err refusal)
 refused_early strategy old new call refusal why e =
-    let none : call_parts (client_of old) (OnStreams call) ≡ Err refusal = ap (λ o. unless_refused o (task_parts old.settings.read_only old.entries (one_command (plain_command (sentence call)) 0 None))) why in
+    let none : call_parts (client_of old) (OnStreams call) ≡ Err refusal = ap (λ o. unless_refused o (task_parts old.settings.read_only old.entries (stream_task call))) why in
     let picked : new.picked ≡ [] = ap (λ (w : World). w.picked) e in
     not_sent strategy old new (OnStreams call) refusal refl (relogged_untouched old new [] e) picked
     (λ m. (plan_unparted strategy (client_of old) (OnStreams call) new.picked refusal none, subst (λ ps. ArePicks strategy (client_of old) (OnStreams call) ps) (sym picked) (picks_unparted strategy (client_of old) (OnStreams call) refusal none)))

@@ -3,3 +3,4 @@ pub mod Relinks
 pub mod Shown
 pub mod NodeRuns
 pub mod Ended
+pub mod PreparedReads

@@ -27,6 +27,7 @@ ghost use Rattle.cluster_calls.specs.Links.Run.{with_log};
 ghost use Rattle.cluster_calls.specs.Links.World.{addresses_of, has_repeats, link_at, new_world, nodes, tree_result, tree_results};
 
 mod ordered;
+mod reading;
 mod relink;
 
 use cluster_routing::{ClusterTopology, NodeAddress, ReadRoutingStrategy, SlotMap};
@@ -46,7 +47,7 @@ use resp_link::ConnectionLike;
 use std::alloc::{AllocError, Global};
 
 /// Whether memory was refused.
-fn lacks_memory(reply: &Result<Value, RedisError>) -> bool
+fn lacks_memory<T>(reply: &Result<T, RedisError>) -> bool
     ensures { (result ≡ true) ↔ (reply.now ≡ Err (by_cause Memory)) }
 {
     match reply {
@@ -244,7 +245,7 @@ impl<L: ConnectionLike + Drop> ClusterClient<L> {
     }
 
     /// Forgets the picks where memory was refused before a request was written down.
-    fn unpick(&mut self, reply: &Result<Value, RedisError>)
+    fn unpick<T>(&mut self, reply: &Result<T, RedisError>)
         ensures stays { whole L.seen self.new
             ≡ with_log (whole L.seen self.old) (whole L.seen self.old).log (addresses self.new.picked.items) }
         ensures forgotten { reply.now ≡ Err (by_cause Memory) → (whole L.seen self.old).log ≡ []

@@ -3,12 +3,13 @@ ghost use Rattle.std.specs.Prelude.{ℕ, List, [], ◌≡◌, ◌≢◌, Err, Ok
 ghost use Rattle.resp_core.specs.Errors.{by_cause};
 ghost use Rattle.resp_core.specs.declared.errors.redis_error.Cause.TheVariants.{Memory};
 ghost use Rattle.resp_args.specs.Packed.{sent};
-ghost use Rattle.cluster_calls.specs.Calls.Parts.{at_slot, part_to, parts_of, pipeline_parts, whole_part};
+ghost use Rattle.cluster_calls.specs.Calls.Parts.{at_slot, if_one_slot, part_to, parts_of, pipeline_parts, reads_several_slots, whole_part};
 ghost use Rattle.cluster_steps.specs.FirstPlaces.{part_of};
 ghost use Rattle.cluster_steps.specs.WholeParts.{parts_found, whole_by};
 
 use crate::pipeline::PipelineCommand;
 use cluster_routing::{Route, SlotAddr};
+use cluster_steps::pipeline_reads::reads_several_slots;
 use cluster_steps::route::{Part, Target, parts_of};
 use resp_args::Cmd;
 use resp_core::{Cause, ErrorKind, RedisError};
@@ -47,12 +48,18 @@ fn whole_route(alloc: Global, command: &Cmd) -> Result<Option<Route>, RedisError
     }
 }
 
-/// The part that a command is whole; none for one that does not go whole to one slot.
+/// The part that a command is whole; none for one that does not go whole to one slot, or reads streams of
+/// several.
 fn whole_part(alloc: Global, command: &Cmd) -> Result<Option<Part>, RedisError>
     ensures part { IfOk result
-        (λ o. option_map part_of o ≡ whole_part (sent command.now) (parts_of [] command.now 0)) }
+        (λ o. option_map part_of o
+        ≡ if_one_slot (reads_several_slots command.now.args)
+        (whole_part (sent command.now) (parts_of [] command.now 0))) }
     ensures only { IfErr result (λ e. e ≡ by_cause Memory) }
 {
+    if reads_several_slots(alloc, command)? {
+        return Ok(None);
+    }
     let Some(route) = whole_route(alloc, command)? else {
         return Ok(None);
     };
@@ -65,8 +72,8 @@ fn whole_part(alloc: Global, command: &Cmd) -> Result<Option<Part>, RedisError>
 /// The parts of a pipeline's commands, in order.
 ///
 /// # Errors
-/// The position of the first command that waits for no response, or does not go whole to one slot;
-/// `Memory`.
+/// The position of the first command that waits for no response, does not go whole to one slot, or reads
+/// streams of several slots by `XREAD`; `Memory`.
 pub(crate) fn pipeline_parts(
     alloc: Global,
     commands: &[PipelineCommand],

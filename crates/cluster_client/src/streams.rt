@@ -1,4 +1,5 @@
-//! Calls on streams: each is sent as one command, and its reply is read as a record.
+//! Calls on streams: each is sent as one command, and its reply is read as a record. An `xread` of several
+//! slots alone is sent in parts, of whose replies one record is made.
 //!
 //! Keys, ids, names, fields and values are one argument each. A call goes where `query` sends its
 //! command, and tells by `asked` and `picked` what it did.
@@ -15,7 +16,7 @@ ghost use Rattle.stream_commands.specs.RecordViews.{autoclaim_view, entries_view
 ghost use Rattle.cluster_calls.specs.Calls.Answer.{Answer, Added, Trimmed, Read, Range, Claim, AutoClaim, Pending, Stream, Groups, Consumers, Deleted};
 ghost use Rattle.cluster_calls.specs.Calls.Call.{StreamCall, Xadd, Xtrim, Xread, Xrange, Xclaim, Xautoclaim, Xpending, XinfoStream, XinfoGroups, XinfoConsumers, XdelEx, OnStreams};
 ghost use Rattle.stream_commands.specs.Commands.{plain_command};
-ghost use Rattle.cluster_calls.specs.Calls.Task.{sentence, stream_refusal};
+ghost use Rattle.cluster_calls.specs.Calls.Task.{sentence, sentence_task, stream_refusal, stream_task};
 ghost use Rattle.cluster_calls.specs.Links.Happened.{CallMade};
 ghost use Rattle.cluster_calls.specs.Links.Run.{with_log};
 ghost use Rattle.cluster_calls.specs.Links.Typed.{IsReadBy, deletion_of, record_answer, streams_by};
@@ -23,7 +24,7 @@ ghost use Rattle.cluster_client.specs.Whole.{whole};
 
 use crate::client::ClusterClient;
 use cluster_routing::ReadRoutingStrategy;
-use cluster_steps::read_checks::read_refusal;
+use cluster_steps::read_checks::{Reading, reading_of};
 use resp_args::{Cmd, FromRedisValue, ToSingleRedisArg, from_redis_value};
 use resp_core::{Cause, RedisError};
 use resp_link::ConnectionLike;
@@ -81,10 +82,21 @@ impl<L: ConnectionLike + Drop> ClusterClient<L> {
     /// Reads the entries behind an id of each stream, by `XREAD`, or by `XREADGROUP` where the options
     /// name a group.
     ///
+    /// Streams of several slots are read in parts, one for each slot of their keys, where the options
+    /// name no group and no block and no key stands twice. All parts find their nodes before the first
+    /// byte. They are sent one after another, in the order in which their slots first appear, each
+    /// behind its redirects; the first that is refused ends the call, and those before it were read. The
+    /// rows then stand in the order of the call's keys. Where all keys have one slot they stand as the
+    /// server sent them.
+    ///
+    /// It costs one round trip for each part, and one more for each redirect that is followed.
+    ///
     /// # Errors
-    /// Before all others, in this order: `NoKeys` where there is no stream, `SeveralSlots` where the
-    /// keys have several slots, `BadGroupName` where the name of the group or of the consumer is not
-    /// one argument, or is `STREAMS` in any case.
+    /// Before all others, in this order: `NoKeys` where there is no stream; `SeveralSlots` where the keys
+    /// have several slots, and the options name a group or a block or a key stands twice;
+    /// `BadGroupName` where the name of the group or of the consumer is not one argument, or is
+    /// `STREAMS` in any case. `UnexpectedReturnType` also where, of several parts, a row names no key of
+    /// its part, or a key is named twice: it is told when all parts were answered.
     pub fn xread<K: ToSingleRedisArg, I: ToSingleRedisArg>(
         &mut self,
         alloc: Global,
@@ -96,12 +108,13 @@ impl<L: ConnectionLike + Drop> ClusterClient<L> {
             (whole L.seen self.new) (OnStreams (Xread (streams_by K.arg I.arg streams.now) options.now))
             (record_answer (λ reply. Read (rows_view reply.keys.items)) result) }
     {
-        match read_refusal(alloc, streams, options) {
-            Ok(None) => {
+        match reading_of(alloc, streams, options) {
+            Ok(Reading::ByKey(streams)) => self.read_by_key(alloc, &streams, options, strategy),
+            Ok(Reading::Whole) => {
                 let cmd = commands::xread(alloc, streams, options);
                 self.reply_as(alloc, cmd, strategy)
             }
-            Ok(Some(cause)) => Err(self.refuse(alloc, RedisError::from(cause))),
+            Ok(Reading::Refused(cause)) => Err(self.refuse(alloc, RedisError::from(cause))),
             Err(e) => Err(self.refuse(alloc, RedisError::from(e))),
         }
     }
@@ -277,7 +290,7 @@ impl<L: ConnectionLike + Drop> ClusterClient<L> {
         strategy: Option<&dyn ReadRoutingStrategy>,
     ) -> Result<T, RedisError>
         ensures { (call : StreamCall) (shown : T.Meaning → Answer) → stream_refusal call ≡ None
-            → IfOk cmd (λ c. c ≡ plain_command (sentence call)) → IsReadBy call T.convert shown
+            → stream_task call ≡ sentence_task call → IfOk cmd (λ c. c ≡ plain_command (sentence call)) → IsReadBy call T.convert shown
             → CallMade (option_map (λ s. admits s.now) strategy.entry) (whole L.seen self.old)
             (whole L.seen self.new) (OnStreams call)
             (record_answer (λ value. shown (T.meaning value)) result) }

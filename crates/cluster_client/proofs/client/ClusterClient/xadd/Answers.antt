@@ -4,4 +4,4 @@ use Rattle.cluster_calls.specs.Calls.Call.{Xadd}
 use Rattle.cluster_client.proofs.client.ClusterClient.xadd.Goals as goal
 
 pub returns : goal.returns
-returns g c = c.reply_as.ensures (Xadd (g.K.ToSingleRedisArg.arg c.args.key) c.args.options.now (g.I.ToSingleRedisArg.arg c.args.id) (map (λ f. (g.F.ToSingleRedisArg.arg f.0, g.V.ToSingleRedisArg.arg f.1)) c.args.fields.now)) Added refl c.xadd-cmd.ensures (λ tree. refl)
+returns g c = c.reply_as.ensures (Xadd (g.K.ToSingleRedisArg.arg c.args.key) c.args.options.now (g.I.ToSingleRedisArg.arg c.args.id) (map (λ f. (g.F.ToSingleRedisArg.arg f.0, g.V.ToSingleRedisArg.arg f.1)) c.args.fields.now)) Added refl refl c.xadd-cmd.ensures (λ tree. refl)

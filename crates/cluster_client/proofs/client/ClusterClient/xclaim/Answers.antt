@@ -17,4 +17,4 @@ pub returns : goal.returns
 returns g c =
     let claimant : Claimant = record { key = g.K.ToSingleRedisArg.arg c.args.key; group = g.G.ToSingleRedisArg.arg c.args.group; consumer = g.C.ToSingleRedisArg.arg c.args.consumer; min_idle = c.args.min_idle } in
     let fits = ap (λ b. refuse_if b ClaimsIdsAlone) (sym c.justid.ensures ∙ c.if-justid.false) in
-    c.reply_as.ensures (Xclaim claimant (map g.I.ToSingleRedisArg.arg c.args.ids.now) c.args.options.now) Claim fits c.xclaim-cmd.ensures (λ tree. refl)
+    c.reply_as.ensures (Xclaim claimant (map g.I.ToSingleRedisArg.arg c.args.ids.now) c.args.options.now) Claim fits refl c.xclaim-cmd.ensures (λ tree. refl)
