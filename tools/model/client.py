@@ -4,7 +4,7 @@ from .combine import Refused
 from .links import Request
 from .numbers import unsigned
 from .resp import first_error
-from .slots import address, all_nodes, primaries, primary, slot, slot_map
+from .slots import address, all_nodes, primaries, primary, slot_map
 
 KINDS = {
     b"ERR": "ResponseError", b"EXECABORT": "ExecAbort", b"LOADING": "BusyLoading", b"NOSCRIPT": "NoScript",
@@ -110,7 +110,7 @@ class Client:
             parts = routing.parts(args)
         except routing.NoRoute:
             raise CLIENT from None
-        if len(parts) != 1 or parts[0].slot is None:
+        if len(parts) != 1 or parts[0].slot is None or not routing.is_of_one_slot(routing.read_keys(args)):
             raise CLIENT
         return parts[0].slot
 
@@ -152,7 +152,10 @@ class Client:
         return records.entries(self.query([b"XRANGE", key, start, end]))
 
     def xread(self, keys, ids):
-        if len({slot(key) for key in keys}) != 1:
+        if not routing.is_of_one_slot(keys) and len(set(keys)) < len(keys):
             raise CLIENT
-        part = routing.Part([b"XREAD", b"STREAMS", *keys, *ids], slot(keys[0]))
-        return records.reply(self.follow(self.first_node(part, 0), part.args))
+        parts = routing.read_parts(keys, ids)
+        nodes = [self.first_node(part, 0) for part in parts]
+        replies = [self.follow(node, part.args) for node, part in zip(nodes, parts)]
+        found = [records.reply(reply) for reply in replies]
+        return found[0] if len(parts) == 1 else records.joined(keys, parts, found)

@@ -75,6 +75,16 @@ def delivered(tree):
     return found
 
 
+def joined(keys, parts, found):
+    """The rows of all parts in the order of the keys, of which each row has one of its own part."""
+    rows = {}
+    for part, streams in zip(parts, found):
+        for key, entries in streams:
+            unless(key not in (keys[at] for at in part.places) or key in rows)
+            rows[key] = entries
+    return [(key, rows[key]) for key in keys if key in rows]
+
+
 def streams(tree, read):
     return [pair for item in sequence(tree) for pair in fields(item, read).items()]
 

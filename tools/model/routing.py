@@ -142,5 +142,29 @@ def parts(args):
     ]
 
 
+def is_of_one_slot(keys):
+    return len({slot(key) for key in keys}) < 2
+
+
+def read_keys(args):
+    """The keys of an XREAD: the first half of what stands behind STREAMS, if that is an even number."""
+    words = [upper(arg) for arg in args]
+    if words[0] != "XREAD" or "STREAMS" not in words[1:]:
+        return []
+    behind = args[words.index("STREAMS", 1) + 1 :]
+    return [] if len(behind) % 2 else behind[: len(behind) // 2]
+
+
+def read_parts(keys, ids):
+    """A read of streams in parts, one for each slot, in the order in which the slots first appear."""
+    places = {}
+    for place, key in enumerate(keys):
+        places.setdefault(slot(key), []).append(place)
+    return [
+        Part([b"XREAD", b"STREAMS", *(keys[at] for at in there), *(ids[at] for at in there)], number, there)
+        for number, there in places.items()
+    ]
+
+
 def is_split(args):
     return upper(args[0]) in SPLIT
