@@ -3,8 +3,8 @@
 # make build            proves and builds the program
 # make test             the gate (every proof, test and must-fail edit), every session, and memory refused
 # MINUTES=N make test   the same, but with as many of the must-fail edits as end within N minutes (docs/GATE.md)
-# make bench            times 10,000 and 20,000 queries, an MGET of as many keys, a pipeline of as many commands, the
-#                       parser over bytes cut in pieces, and a map of up to 16,384 slot ranges
+# make bench            times 10,000 and 20,000 queries, an MGET of as many keys, an XREAD of as many streams, a pipeline of as
+#                       many commands, the parser over bytes cut in pieces, and a map of up to 16,384 slot ranges
 # make live HOST=H PORT=P   takes commands for the cluster of the node at H and P from standard input (docs/LIVE.md)
 # make live-test        tries the program of docs/SOCKETS.md, and then `make live`, by one client and by four on the same keys,
 #                       against clusters of six, which it starts; no part of the gate

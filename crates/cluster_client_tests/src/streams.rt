@@ -137,17 +137,29 @@ fn each_call_sends_its_command_and_answers_its_record(rt: HostRuntime) -> Result
     Ok(())
 }
 
-/// The kind of the refusal of a call that is to be refused: a read of no stream, one by a group whose
-/// name is the word `STREAMS`, and a claim of ids alone.
-fn refusal(alloc: Global, client: &mut Client, which: usize) -> Option<ErrorKind> {
+/// The causes of the refusals, of which each call has one.
+const CAUSES: [Cause; 5] = [
+    Cause::NoKeys,
+    Cause::BadGroupName,
+    Cause::SeveralSlots,
+    Cause::SeveralSlots,
+    Cause::ClaimsIdsAlone,
+];
+
+/// The cause of the refusal of a call that is to be refused: a read of no stream, one by a group whose
+/// name is the word `STREAMS`, one by a group and one that blocks over several slots, and a claim of ids
+/// alone.
+fn refusal(alloc: Global, client: &mut Client, which: usize) -> Option<Cause> {
     let outcome = match which {
         0 => read_of_nothing(alloc, client),
         1 => read_by_streams(alloc, client),
+        2 => read_by_group_over_slots(alloc, client),
+        3 => read_that_blocks_over_slots(alloc, client),
         _ => claim_of_ids(alloc, client),
     };
     match outcome {
         Ok(_) => None,
-        Err(e) => Some(e.kind()),
+        Err(e) => e.cause(),
     }
 }
 
@@ -164,6 +176,18 @@ fn read_by_streams(alloc: Global, client: &mut Client) -> Result<String, RedisEr
     shown(alloc, client.xread(alloc, &[("a", ">")], &options, None))
 }
 
+fn read_by_group_over_slots(alloc: Global, client: &mut Client) -> Result<String, RedisError> {
+    let options = StreamReadOptions::empty().group(alloc, "g", "c")?;
+    let streams = [("a", ">"), ("b", ">")];
+    shown(alloc, client.xread(alloc, &streams, &options, None))
+}
+
+fn read_that_blocks_over_slots(alloc: Global, client: &mut Client) -> Result<String, RedisError> {
+    let options = StreamReadOptions::empty().block(0);
+    let streams = [("a", "0"), ("b", "0")];
+    shown(alloc, client.xread(alloc, &streams, &options, None))
+}
+
 fn claim_of_ids(alloc: Global, client: &mut Client) -> Result<String, RedisError> {
     let options = StreamClaimOptions::empty().with_justid();
     let outcome = client.xclaim(alloc, "a", "g", "c", 60000, &["1-0"], &options, None);
@@ -175,8 +199,8 @@ fn calls_that_are_refused_send_nothing(rt: HostRuntime) -> Result<(), Fail> {
     let alloc = rt.alloc();
     let mut client = client(alloc)?;
     assert!(rt; is_refreshed(alloc, &mut client)?);
-    for which in 0..3 {
-        assert_eq!(rt; refusal(alloc, &mut client, which), Some(ErrorKind::Client));
+    for which in 0..5 {
+        assert_eq!(rt; refusal(alloc, &mut client, which), Some(CAUSES[which]));
         assert!(rt; client.asked().is_empty());
     }
     Ok(())
