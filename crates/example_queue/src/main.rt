@@ -1,16 +1,26 @@
 //! The program `example_queue`: a queue of jobs on a Redis Cluster.
 //!
-//! `example_queue FILE` opens no socket: what the node answers is read from the file.
+//! `example_queue FOLDER` opens no socket: what a node answers is read from a file of the folder.
 #![tactic(auto)]
 
 use anyhow::{Context, Result};
 use cluster_client::{
     ByteLink, ClusterClient, FromRead, MemoryWriter, NodeAddress, StreamAddOptions,
-    StreamAutoClaimOptions, StreamId, StreamReadOptions, command,
+    StreamAutoClaimOptions, StreamId, StreamReadOptions, StreamReadReply, command,
 };
 use std::alloc::Global;
 use std::env;
 use std::fs::File;
+
+/// Each node's address, and the file with its replies.
+const NODES: [(&str, &str); 3] = [
+    ("127.0.0.1:7001", "7001.replies"),
+    ("127.0.0.1:7002", "7002.replies"),
+    ("127.0.0.1:7003", "7003.replies"),
+];
+
+/// How many redirects a request follows.
+const REDIRECTS: u16 = 5;
 
 /// The stream, and the group whose workers share its jobs.
 const STREAM: &str = "jobs";
@@ -28,18 +38,30 @@ struct Queue {
     client: ClusterClient<Link>,
 }
 
+/// The stream in which a worker tells what it finished. Its slot goes by the worker's name.
+fn done_by(alloc: Global, worker: &str) -> Result<String> {
+    Ok(format!(in alloc; "done:{worker}")?)
+}
+
 impl Queue {
-    /// A queue over a link to the node, without a stream yet.
-    fn open(rt: &HostRuntime, file: &str) -> Result<Queue> {
+    /// A queue over links to all nodes, without a stream yet.
+    fn open(rt: &HostRuntime, folder: &str) -> Result<Queue> {
         let alloc = rt.alloc();
-        let node = NodeAddress::try_from(alloc, "127.0.0.1:7002")?;
-        let replies = File::open(rt, file).context("opening the replies")?;
-        let link = ByteLink::new(alloc, FromRead::new(replies), MemoryWriter::new(alloc, 0));
         let mut links = Vec::new(alloc);
-        links.push((node.clone()?, link))?;
-        let mut client = ClusterClient::new(alloc, links, Vec::new(alloc), 5)?;
-        client.refresh(alloc, &node)?;
+        for (address, file) in NODES {
+            let path = format!(in alloc; "{folder}/{file}")?;
+            let replies = File::open(rt, path.as_str()).context(file)?;
+            let link = ByteLink::new(alloc, FromRead::new(replies), MemoryWriter::new(alloc, 0));
+            links.push((NodeAddress::try_from(alloc, address)?, link))?;
+        }
+        let client = ClusterClient::new(alloc, links, Vec::new(alloc), REDIRECTS)?;
         Ok(Queue { alloc, client })
+    }
+
+    /// Learns from the first node which slots the nodes serve.
+    fn refresh(&mut self) -> Result<()> {
+        let node = NodeAddress::try_from(self.alloc, NODES[0].0)?;
+        Ok(self.client.refresh(self.alloc, &node)?)
     }
 
     /// Makes the stream and the group.
@@ -50,12 +72,17 @@ impl Queue {
         Ok(self.client.query(self.alloc, &create, 0, None)?)
     }
 
-    /// Adds a job, and answers its id.
-    fn add(&mut self, task: &str) -> Result<String> {
+    /// Adds a task to a stream, and answers its id.
+    fn add_to(&mut self, stream: &str, task: &str) -> Result<String> {
         let client = &mut self.client;
         let options = StreamAddOptions::empty();
-        let id = client.xadd(self.alloc, STREAM, &options, "*", &[("task", task)], None)?;
+        let id = client.xadd(self.alloc, stream, &options, "*", &[("task", task)], None)?;
         id.context("there is no stream")
+    }
+
+    /// Adds a job, and answers its id.
+    fn add(&mut self, task: &str) -> Result<String> {
+        self.add_to(STREAM, task)
     }
 
     /// Hands a worker the next job.
@@ -75,18 +102,31 @@ impl Queue {
         Ok(reply.claimed)
     }
 
-    /// Marks a job as finished.
-    fn finish(&mut self, id: &str) -> Result<()> {
+    /// Marks a job as finished, and tells so in the worker's stream.
+    fn finish(&mut self, worker: &str, id: &str, task: &str) -> Result<()> {
         let mut ack = command::cmd(self.alloc, "XACK")?;
         ack.arg((STREAM, GROUP, id))?;
-        Ok(self.client.query(self.alloc, &ack, 0, None)?)
+        let () = self.client.query(self.alloc, &ack, 0, None)?;
+        let stream = done_by(self.alloc, worker)?;
+        self.add_to(stream.as_str(), task)?;
+        Ok(())
+    }
+
+    /// What each of these workers finished, from all their streams at once, whichever nodes serve them.
+    fn finished(&mut self, workers: &[&str]) -> Result<StreamReadReply> {
+        let mut streams = Vec::new(self.alloc);
+        for worker in workers {
+            streams.push((done_by(self.alloc, worker)?, "0"))?;
+        }
+        let options = StreamReadOptions::empty();
+        Ok(self.client.xread(self.alloc, &streams, &options, None)?)
     }
 }
 
 /// A worker does a job, and finishes it.
 fn work_on(rt: &HostRuntime, queue: &mut Queue, worker: &str, job: &StreamId) -> Result<()> {
     let task = job.get::<String>("task")?.context("a job without a task")?;
-    queue.finish(job.id.as_str())?;
+    queue.finish(worker, job.id.as_str(), task.as_str())?;
     println!(rt; "{worker} finished {}: {task}", job.id)?;
     Ok(())
 }
@@ -99,9 +139,18 @@ fn work(rt: &HostRuntime, queue: &mut Queue, worker: &str, jobs: &[StreamId]) ->
     Ok(())
 }
 
+/// Tells how many jobs each worker finished.
+fn tell(rt: &HostRuntime, queue: &mut Queue, workers: &[&str]) -> Result<()> {
+    for row in queue.finished(workers)?.keys {
+        println!(rt; "{}: {} in all", row.key, row.ids.len())?;
+    }
+    Ok(())
+}
+
 fn main(rt: HostRuntime) -> Result<()> {
-    let file = env::args(&rt)?.nth(1).context("example_queue FILE")?;
-    let mut queue = Queue::open(&rt, file.as_str())?;
+    let folder = env::args(&rt)?.nth(1).context("example_queue FOLDER")?;
+    let mut queue = Queue::open(&rt, folder.as_str())?;
+    queue.refresh()?;
     queue.create()?;
     for task in ["resize a photo", "send a letter", "count visits"] {
         println!(rt; "added {}: {task}", queue.add(task)?)?;
@@ -113,5 +162,6 @@ fn main(rt: HostRuntime) -> Result<()> {
     let visits = queue.take("bert")?;
     work(&rt, &mut queue, "bert", &visits)?;
     let left = queue.take_over("bert")?;
-    work(&rt, &mut queue, "bert", &left)
+    work(&rt, &mut queue, "bert", &left)?;
+    tell(&rt, &mut queue, &["anna", "bert", "carl"])
 }
