@@ -1,0 +1,10 @@
+pub mod Digits
+pub mod LineRuns
+pub mod WordSteps
+pub mod Readings
+pub mod Parts
+pub mod LawProofs
+pub mod Goings
+pub mod ReaderSteps
+pub mod Standings
+pub mod ExampleReads

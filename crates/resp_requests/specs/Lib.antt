@@ -1,0 +1,14 @@
+pub mod Messages
+pub mod Gaps
+pub mod Lines
+pub mod Numbers
+pub mod Words
+pub mod WordRuns
+pub mod WordParts
+pub mod Arrays
+pub mod Requests
+pub mod Given
+pub mod Standing
+pub mod Advancing
+pub mod Laws
+pub mod Examples
