@@ -75,15 +75,11 @@ pub(crate) fn answers_to(
 ) -> Result<Vec<u8>, Fail> {
     let mut reader = RequestReader::with_limits(alloc, limits);
     let mut answers = Vec::new(alloc);
-    let mut from = 0;
-    while from < bytes.len() {
-        let left = bytes.len() - from;
-        let count = size.max(1).min(left);
-        reader.feed(&bytes[from..from + count])?;
+    for piece in bytes.chunks(size.max(1)) {
+        reader.feed(piece)?;
         if !answer_all(alloc, &mut reader, &mut answers)? {
             return Ok(answers);
         }
-        from += count;
     }
     Ok(answers)
 }
