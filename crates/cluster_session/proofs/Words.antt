@@ -7,7 +7,8 @@ use Rattle.resp_core.specs.Trees.{verbatim}
 use Rattle.resp_core.specs.declared.value.PushKind.{PushKind}
 use Rattle.resp_core.specs.View.{view, trees_view, pairs_view, kind_view, format_view}
 use Rattle.resp_core.proofs.Views.{view-Array, view-Set, view-Map, view-Push, view-Attribute}
-use Rattle.cluster_session.specs.Printed.{answer_words, each_words, pair_words, tree_count, pair_count, hex_word, kind_text, format_text}
+use Rattle.cluster_session.specs.Printed.{answer_words, each_words, pair_words, tree_count, pair_count, hex_word}
+use Rattle.resp_core.specs.Printed.{format_text, kind_text}
 
 abbrev pub value_words : Value → List ℕ
 value_words v = 32 ∷ answer_words (view v)

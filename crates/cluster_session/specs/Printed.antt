@@ -1,7 +1,6 @@
 -- What a session prints for an answer and for a refusal: the form's name, then its parts, all separated by
 -- one space. Sources: the session language is this repository's own (docs/SESSIONS.md); the forms are those
--- of the RESP3 specification, the names of kinds those of the crate `redis`, the first words of pushes those
--- of the Redis documentation, "Pub/Sub" and "Client side caching".
+-- of the RESP3 specification, the names of kinds those of the crate `redis`.
 use Rattle.std.specs.Prelude.{ℕ, ℤ, suc, Bool, true, false, List, [], ◌∷◌, ◌++◌, length, codes, Option, Some, None, Result, Ok, Err}
 use Rattle.std.specs.List.{flat_map}
 use Rattle.std.specs.Fmt.{decimal, signed_decimal}
@@ -11,34 +10,14 @@ use Rattle.stream_commands.specs.ReadReply.{Row}
 use Rattle.cluster_calls.specs.Calls.Answer.{Answer, Value, Range, Read}
 use Rattle.cluster_session.specs.KindNames.{kind_name}
 use Rattle.hex.specs.Hex.{encode_lower}
-use Rattle.resp_core.specs.Trees.{Format, unknown, markdown, text, Kind, disconnection, other, invalidate, message, pmessage, smessage, unsubscribe, punsubscribe, sunsubscribe, subscribe, psubscribe, ssubscribe, Tree, nil, int, bulk, array, simple, okay, set, attribute, double, boolean, verbatim, big_number, push, server_error, Trees, no_trees, tree, Pairs, no_pairs, pair}
+use Rattle.resp_core.specs.Printed.{format_text, kind_text}
+use Rattle.resp_core.specs.Trees.{Tree, nil, int, bulk, array, simple, okay, set, attribute, double, boolean, verbatim, big_number, push, server_error, Trees, no_trees, tree, Pairs, no_pairs, pair}
 use Rattle.resp_core.specs.Trees as forms
 
 -- bytes in lower case hexadecimal, a dash for none
 abbrev pub hex_word : List ℕ → List ℕ
 hex_word [] = codes "-"
 hex_word (byte ∷ bytes) = encode_lower (byte ∷ bytes)
-
--- how a verbatim text is marked up
-abbrev pub format_text : Format → List ℕ
-format_text (unknown name) = name
-format_text markdown = codes "mkd"
-format_text text = codes "txt"
-
--- the text that a push begins with
-unfoldable pub kind_text : Kind → List ℕ
-kind_text disconnection = codes "disconnection"
-kind_text (other name) = name
-kind_text invalidate = codes "invalidate"
-kind_text message = codes "message"
-kind_text pmessage = codes "pmessage"
-kind_text smessage = codes "smessage"
-kind_text unsubscribe = codes "unsubscribe"
-kind_text punsubscribe = codes "punsubscribe"
-kind_text sunsubscribe = codes "sunsubscribe"
-kind_text subscribe = codes "subscribe"
-kind_text psubscribe = codes "psubscribe"
-kind_text ssubscribe = codes "ssubscribe"
 
 abbrev pub truth_word : Bool → List ℕ
 truth_word true = codes "true"

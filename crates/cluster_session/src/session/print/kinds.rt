@@ -1,10 +1,8 @@
-//! The names of the kinds of refusals and of pushes.
+//! The names of the kinds of refusals.
 ghost use Rattle.std.specs.Prelude.{◌≡◌, ◌++◌, OnOk, string_bytes, codes};
-ghost use Rattle.resp_core.specs.View.{kind_view};
 ghost use Rattle.cluster_session.specs.KindNames.{kind_name, server_name};
-ghost use Rattle.cluster_session.specs.Printed.{kind_text};
 
-use resp_core::{ErrorKind, PushKind, ServerErrorKind};
+use resp_core::{ErrorKind, ServerErrorKind};
 use std::alloc::AllocError;
 
 /// Appends the name of a refusal's kind; a named server error's is `Server(..)`.
@@ -62,26 +60,5 @@ fn server_name(kind: ServerErrorKind) -> &'static str
         ServerErrorKind::NotBusy => "NotBusy",
         ServerErrorKind::NoSub => "NoSub",
         ServerErrorKind::NoPerm => "NoPerm",
-    }
-}
-
-/// The text that a push begins with.
-#[tactic(auto, unfolding(crate::specs::Printed::kind_text))]
-pub(super) fn push_name(kind: &PushKind) -> &str
-    ensures { result.now ≡ kind_text (kind_view kind.now) }
-{
-    match kind {
-        PushKind::Disconnection => "disconnection",
-        PushKind::Other(name) => name.as_str(),
-        PushKind::Invalidate => "invalidate",
-        PushKind::Message => "message",
-        PushKind::PMessage => "pmessage",
-        PushKind::SMessage => "smessage",
-        PushKind::Unsubscribe => "unsubscribe",
-        PushKind::PUnsubscribe => "punsubscribe",
-        PushKind::SUnsubscribe => "sunsubscribe",
-        PushKind::Subscribe => "subscribe",
-        PushKind::PSubscribe => "psubscribe",
-        PushKind::SSubscribe => "ssubscribe",
     }
 }

@@ -1,11 +1,10 @@
 //! Answers as words: the form's name, then its parts.
 ghost use Rattle.std.specs.Prelude.{◌≡◌, ◌++◌, OnOk, string_bytes, length, decimal};
-ghost use Rattle.resp_core.specs.View.{view, trees_view, pairs_view, format_view};
-ghost use Rattle.cluster_session.specs.Printed.{answer_words, each_words, pair_words, format_text};
+ghost use Rattle.resp_core.specs.View.{view, trees_view, pairs_view};
+ghost use Rattle.cluster_session.specs.Printed.{answer_words, each_words, pair_words};
 
-use crate::session::print::kinds::push_name;
 use crate::session::print::words::{print_bytes, print_count};
-use resp_core::{Value, VerbatimFormat};
+use resp_core::Value;
 use std::alloc::AllocError;
 
 /// Appends the words of an answer.
@@ -32,25 +31,15 @@ pub(super) fn print_value(output: &mut String, value: &Value) -> Result<(), Allo
         Value::Boolean(true) => output.push_str("bool true"),
         Value::Boolean(false) => output.push_str("bool false"),
         Value::VerbatimString { format, text } => {
-            print_bytes(output, "verbatim ", format_name(format).as_bytes())?;
+            print_bytes(output, "verbatim ", format.as_str().as_bytes())?;
             print_bytes(output, " ", text.as_bytes())
         }
         Value::BigNumber(digits) => print_bytes(output, "big ", digits),
         Value::Push { kind, items } => {
-            print_bytes(output, "push ", push_name(kind).as_bytes())?;
+            print_bytes(output, "push ", kind.as_str().as_bytes())?;
             print_items(output, " ", items)
         }
         Value::ServerError(error) => print_bytes(output, "error ", error.code().as_bytes()),
-    }
-}
-
-fn format_name(format: &VerbatimFormat) -> &str
-    ensures { result.now ≡ format_text (format_view format.now) }
-{
-    match format {
-        VerbatimFormat::Unknown(name) => name.as_str(),
-        VerbatimFormat::Markdown => "mkd",
-        VerbatimFormat::Text => "txt",
     }
 }
 

@@ -1,7 +1,8 @@
 use Rattle.std.proofs.Common.{rules, arith, ◌≡◌, ◌++◌, ◌≤◌, ◌∙◌, ap, sym, subst, length, flat_map, string_bytes, codes, OnOk}
 use mathlib.Core.List.{append_assoc}
 use Rattle.resp_core.specs.View.{view, kind_view, format_view}
-use Rattle.cluster_session.specs.Printed.{answer_words, hex_word, kind_text, format_text}
+use Rattle.cluster_session.specs.Printed.{answer_words, hex_word}
+use Rattle.resp_core.specs.Printed.{format_text, kind_text}
 use Rattle.std.proofs.lemmas.List.{take_all}
 use Rattle.cluster_session.proofs.Words.{value_words, entry_words, list_words, table_words, each_words_of_values, pair_words_of_values, words-Array, words-Set, words-Map, words-Push, words-Attribute, words-VerbatimString, regroup}
 use Rattle.cluster_session.proofs.session.print.value.+print.Goals as goal
