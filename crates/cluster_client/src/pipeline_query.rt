@@ -125,10 +125,12 @@ impl ClusterPipeline {
     /// next one go out when the replies of this one are there. All replies are held until the last.
     ///
     /// # Errors
-    /// In the order of the checks: for the first command that waits for no response, or does not go
-    /// whole to one slot, its position (`RedisError::position`); then command by command `NoNode` where
-    /// no node serves its slot and `NoLink` where no usable link leads to the node. Until then nothing
-    /// is sent. `Io` and `Parse` where a link failed, which is closed then; no later node is served.
+    /// In the order of the checks: for the first command that waits for no response, does not go whole
+    /// to one slot, or is an `XREAD` whose keys have several slots, its position
+    /// (`RedisError::position`); then command by command `NoNode` where no node serves its slot and
+    /// `NoLink` where no usable link leads to the node. Until then nothing is sent. The keys of an
+    /// `XREAD` are the first half of what stands behind its first `STREAMS`, where that is an even
+    /// number of arguments, none of them a gap; of any other the node says what is wrong. `Io` and `Parse` where a link failed, which is closed then; no later node is served.
     /// Where replies hold errors, also ignored ones, all of these, each the first of its reply, with the
     /// positions of their commands (`RedisError::into_server_errors`). `UnexpectedReturnType` where the
     /// array is no `T`; `Memory`, behind the first byte only in a link call, which serves no further node,
