@@ -130,11 +130,12 @@ impl ClusterPipeline {
     /// (`RedisError::position`); then command by command `NoNode` where no node serves its slot and
     /// `NoLink` where no usable link leads to the node. Until then nothing is sent. The keys of an
     /// `XREAD` are the first half of what stands behind its first `STREAMS`, where that is an even
-    /// number of arguments, none of them a gap; of any other the node says what is wrong. `Io` and `Parse` where a link failed, which is closed then; no later node is served.
-    /// Where replies hold errors, also ignored ones, all of these, each the first of its reply, with the
-    /// positions of their commands (`RedisError::into_server_errors`). `UnexpectedReturnType` where the
-    /// array is no `T`; `Memory`, behind the first byte only in a link call, which serves no further node,
-    /// or for the answer.
+    /// number of arguments, none of them a gap; of any other the node says what is wrong. `Io` and
+    /// `Parse` where a link failed, which is closed then; no later node is served. Where replies hold
+    /// errors, also ignored ones, all of these, each the first of its reply, with the positions of their
+    /// commands (`RedisError::into_server_errors`). `UnexpectedReturnType` where the array is no `T`;
+    /// `Memory`, behind the first byte only in a link call, which serves no further node, or for the
+    /// answer.
     ///
     /// Source: the documentation of the crate `redis`, `ClusterPipeline`.
     pub fn query<L: ConnectionLike + Drop, T: FromRedisValue>(

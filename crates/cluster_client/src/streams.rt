@@ -290,7 +290,8 @@ impl<L: ConnectionLike + Drop> ClusterClient<L> {
         strategy: Option<&dyn ReadRoutingStrategy>,
     ) -> Result<T, RedisError>
         ensures { (call : StreamCall) (shown : T.Meaning → Answer) → stream_refusal call ≡ None
-            → stream_task call ≡ sentence_task call → IfOk cmd (λ c. c ≡ plain_command (sentence call)) → IsReadBy call T.convert shown
+            → stream_task call ≡ sentence_task call
+            → IfOk cmd (λ c. c ≡ plain_command (sentence call)) → IsReadBy call T.convert shown
             → CallMade (option_map (λ s. admits s.now) strategy.entry) (whole L.seen self.old)
             (whole L.seen self.new) (OnStreams call)
             (record_answer (λ value. shown (T.meaning value)) result) }

@@ -24,8 +24,8 @@ use stream_commands::{StreamReadReply, join_read_replies};
 /// positions: where all keys have one slot as it was read, else the rows of all parts in order of the keys.
 ///
 /// # Errors
-/// `UnexpectedReturnType` where a reply is no such record, and of several parts where a row names no key of its
-/// part, or a key is named twice; `Memory`.
+/// `UnexpectedReturnType` where a reply is no such record, and of several parts where a row names no key of
+/// its part, or a key is named twice; `Memory`.
 pub fn record_of_parts(
     alloc: Global,
     streams: &[Stream],
