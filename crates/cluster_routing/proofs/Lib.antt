@@ -35,3 +35,4 @@ pub mod AnyOrder
 pub mod CountsInTurn
 pub mod AggregatesInTurn
 pub mod SameRoutings
+pub mod Lengths
