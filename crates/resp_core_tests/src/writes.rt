@@ -20,8 +20,9 @@ fn is_written<R: Abort>(
     alloc: Global,
 ) -> Result<(), Fail> {
     let out = written(alloc, value, protocol)?;
-    assert_eq!(rt; out[0], b'?');
-    assert_eq!(rt; &out[1..], wanted);
+    let mut whole = vec![in alloc; b'?']?;
+    whole.extend_from_slice(wanted)?;
+    assert_eq!(rt; out, whole);
     Ok(())
 }
 
