@@ -55,6 +55,7 @@ memory_by causes.Parse e = cc
 memory_by causes.UnexpectedReturnType e = cc
 memory_by causes.ClaimsIdsAlone e = cc
 memory_by causes.LevelsOutOfRange e = cc
+memory_by causes.NotAsked e = cc
 
 no_server_kind : (o : Option ServerErrorKind) (e : Refusal) → named_kind o ≡ kinds.Memory → e ≡ by_cause causes.Memory
 no_server_kind (Some kind) e k = cc

@@ -83,6 +83,10 @@ const CAUSES: &[(Cause, &str)] = &[
         Cause::LevelsOutOfRange,
         "the client's settings are invalid (refusal 19): the limit of levels is out of range",
     ),
+    (
+        Cause::NotAsked,
+        "no usable link to a node (refusal 20): not sent, since the link of a node before it failed",
+    ),
 ];
 
 #[test]
