@@ -4,7 +4,8 @@
 # make test             the gate (every proof, test and must-fail edit), every session, and memory refused
 # MINUTES=N make test   the same, but with as many of the must-fail edits as end within N minutes (docs/GATE.md)
 # make bench            times 10,000 and 20,000 queries, an MGET of as many keys, an XREAD of as many streams, a pipeline of as
-#                       many commands, the parser over bytes cut in pieces, and a map of up to 16,384 slot ranges
+#                       many commands, the parser over bytes cut in pieces, a map of up to 16,384 slot ranges, and what a call
+#                       takes beside a lean client in plain Rust
 # make live HOST=H PORT=P   takes commands for the cluster of the node at H and P from standard input (docs/LIVE.md)
 # make live-test        tries the program of docs/SOCKETS.md, and then `make live`, by one client and by four on the same keys,
 #                       against clusters of six, which it starts; no part of the gate
@@ -28,6 +29,7 @@ bench:
 	@program=$$(tools/build) && tools/bench "$$program"
 	@program=$$(tools/build parser_bench) && tools/parser-bench "$$program"
 	@program=$$(tools/build range_map_bench) && tools/range-map-bench "$$program"
+	@program=$$(tools/build call_bench) && tools/call-bench "$$program"
 
 live:
 	@program=$$(tools/build redis_live) && tools/live "$$program" "$(HOST)" "$(PORT)"
