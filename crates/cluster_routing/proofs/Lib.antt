@@ -3,6 +3,7 @@ pub mod Tags
 pub mod Addresses
 pub mod RangeMaps
 pub mod Puts
+pub mod PutsByEnds
 pub mod Lends
 pub mod Distinct
 pub mod Tuples

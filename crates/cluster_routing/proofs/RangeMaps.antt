@@ -1,6 +1,7 @@
 -- Places in lists of ranges.
 use Rattle.std.proofs.Common.{◌≡◌, ℕ, zero, suc, ◌<◌, ◌≤◌, ◌-◌, Bool, true, false, nat_lt, ◌==◌, if◌then◌else◌, List, [], ◌∷◌, length, set, Some, None, slice_get, refl, sym, ap, arith}
 use mathlib.Core.Bool.{false≢true}
+use Rattle.std.specs.Bool.{⊤}
 use Rattle.std.specs.List.{insert}
 use Rattle.std.specs.List.Sorted.{IsNonDecreasingBy, IsPartitionPoint}
 use Rattle.std.proofs.lemmas.Bool.Decides.{nat_tests}
@@ -78,3 +79,19 @@ put_ascends (q ∷ qs) e h = by (put_ascends qs e h.1) (nat_lt e.0 q.0) (e.0 == 
     by r true b k l = (grind (arith, nat_tests, k), h)
     by r false true k l = (below-more e.0 q.0 qs (grind (arith, nat_tests, l)) h.0, h.1)
     by r false false k l = (below-put q.0 qs e (grind (arith, nat_tests, k, l)) h.0, r)
+
+-- ends above a number
+abbrev pub AllAbove : {V : Type 0} → ℕ → List (Entry V) → Type 0
+AllAbove e [] = ⊤
+AllAbove e (q ∷ qs) = (e < q.0) × AllAbove e qs
+
+pub above-less : {V : Type 0} (d e : ℕ) (qs : List (Entry V)) → d < e → AllAbove e qs → AllAbove d qs
+above-less d e [] l h = tt
+above-less d e (q ∷ qs) l h = (below d e q.0 l h.0, above-less d e qs l h.1)
+  where
+    below : (a b c : ℕ) → a < b → b < c → a < c
+    below a b c k m = omega arith
+
+pub above-rest : {V : Type 0} (e : ℕ) (qs : List (Entry V)) → IsBelowEnds e qs → IsAscending qs → AllAbove e qs
+above-rest e [] b h = tt
+above-rest e (q ∷ qs) b h = (b, above-less e q.0 qs b (above-rest q.0 qs h.0 h.1))

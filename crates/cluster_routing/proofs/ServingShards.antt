@@ -11,28 +11,13 @@ use Rattle.cluster_routing.specs.Topology.{ShardOf, put_ranges, put_shards, same
 use Rattle.cluster_routing.specs.Laws.{TopologyServes}
 use Rattle.cluster_routing.proofs.Distinct.{Tells}
 use Rattle.cluster_routing.proofs.DistinctNodes.{nodes_own, nodes_tell}
+use Rattle.cluster_routing.proofs.RangeMaps.{AllAbove, above-rest}
 use Rattle.cluster_routing.proofs.PlacedShards.{put_ranges-values, value_at-values, with_values}
 
 -- entries put in, one after another
 abbrev put_each : {V : Type 0} → List (Entry V) → List (Entry V) → List (Entry V)
 put_each es [] = es
 put_each es (x ∷ xs) = put_each (put es x) xs
-
--- ends above a number
-abbrev AllAbove : {V : Type 0} → ℕ → List (Entry V) → Type 0
-AllAbove e [] = ⊤
-AllAbove e (q ∷ qs) = (e < q.0) × AllAbove e qs
-
-above-less : {V : Type 0} (d e : ℕ) (qs : List (Entry V)) → d < e → AllAbove e qs → AllAbove d qs
-above-less d e [] l h = tt
-above-less d e (q ∷ qs) l h = (below d e q.0 l h.0, above-less d e qs l h.1)
-  where
-    below : (a b c : ℕ) → a < b → b < c → a < c
-    below a b c k m = omega arith
-
-above-rest : {V : Type 0} (e : ℕ) (qs : List (Entry V)) → IsBelowEnds e qs → IsAscending qs → AllAbove e qs
-above-rest e [] b h = tt
-above-rest e (q ∷ qs) b h = (b, above-less e q.0 qs b (above-rest q.0 qs h.0 h.1))
 
 above-filter : {V : Type 0} (e : ℕ) (p : Entry V → Bool) (qs : List (Entry V)) → AllAbove e qs → AllAbove e (filter p qs)
 above-filter e p [] h = tt

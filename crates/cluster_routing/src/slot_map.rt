@@ -49,7 +49,7 @@ impl SlotMap {
         ensures { IfOk result (λ m. m ≡ put_all [] slots.items) }
     {
         let mut map = SlotMap::new(alloc);
-        map.fill_slots(slots)?;
+        map.fill_slots(by_ends(slots)?)?;
         Ok(map)
     }
 
@@ -135,6 +135,15 @@ impl SlotMap {
     {
         self.slots.values()
     }
+}
+
+/// The ranges by ascending ends, those with an equal end in their order, so that each goes behind the
+/// ones before it.
+fn by_ends(mut slots: Vec<SlotRange>) -> Result<Vec<SlotRange>, AllocError>
+    ensures { IfOk result (λ sorted. put_all [] sorted.items ≡ put_all [] slots.items) }
+{
+    slots.sort_by_key(|range| range.end)?;
+    Ok(slots)
 }
 
 fn put_each(map: &mut SlotRangeMap<SlotAddrs>, slots: Vec<SlotRange>) -> Result<(), AllocError>
