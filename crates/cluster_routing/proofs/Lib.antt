@@ -37,3 +37,4 @@ pub mod CountsInTurn
 pub mod AggregatesInTurn
 pub mod SameRoutings
 pub mod Lengths
+mod DirectionRules

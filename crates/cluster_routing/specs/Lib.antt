@@ -23,6 +23,7 @@ pub mod Laws
 pub mod Examples
 pub mod ExampleRoutes
 pub mod Split
+pub mod Directions
 pub mod Combine
 pub mod Policies
 pub mod Outcomes

@@ -7,6 +7,7 @@ mod candidates;
 mod combine;
 pub mod comparisons;
 mod copies;
+mod direction;
 mod keys;
 pub mod laws;
 mod parts;
@@ -31,6 +32,7 @@ pub use combine::{
     aggregate, combine_and_sort_array_results, combine_array_results, combine_map_results,
     combine_nodes, combine_parts, is_permutation, logical_aggregate,
 };
+pub use direction::Direction;
 pub use keys::group_keys_by_slot;
 pub use policy::{AggregateOp, LogicalAggregateOp, MultiSlotArgPattern, ResponsePolicy};
 pub use range::{SlotAddrs, SlotAddrsIter, SlotRange};

@@ -179,7 +179,7 @@ fn info_by_rule<R: Routable>(
     }
 }
 
-fn any_node() -> Option<RoutingInfo>
+pub(crate) fn any_node() -> Option<RoutingInfo>
     ensures { result ≡ Some (RoutingInfo.SingleNode SingleNodeRoutingInfo.Random) }
 {
     Some(RoutingInfo::SingleNode(SingleNodeRoutingInfo::Random))
@@ -191,7 +191,7 @@ fn all(nodes: MultipleNodeRoutingInfo, policy: ResponsePolicy) -> Option<Routing
     Some(RoutingInfo::MultiNode((nodes, Some(policy))))
 }
 
-fn key_at<R: Routable>(r: &R, role: SlotAddr, place: usize) -> Option<RoutingInfo>
+pub(crate) fn key_at<R: Routable>(r: &R, role: SlotAddr, place: usize) -> Option<RoutingInfo>
     ensures { option_map shown_info result ≡ to_key role (slice_get (R.args r.now) place) }
 {
     match r.arg_idx(place) {
@@ -202,7 +202,7 @@ fn key_at<R: Routable>(r: &R, role: SlotAddr, place: usize) -> Option<RoutingInf
     }
 }
 
-fn counted_key<R: Routable>(
+pub(crate) fn counted_key<R: Routable>(
     r: &R,
     role: SlotAddr,
     place: u8,
@@ -237,7 +237,7 @@ fn number(bytes: &[u8]) -> Option<u64>
     }
 }
 
-fn key_behind_streams<R: Routable>(r: &R, role: SlotAddr) -> Option<RoutingInfo>
+pub(crate) fn key_behind_streams<R: Routable>(r: &R, role: SlotAddr) -> Option<RoutingInfo>
     ensures { option_map shown_info result
         ≡ to_key_behind role (R.args r.now) (place_of (codes "STREAMS") (R.args r.now)) }
 {

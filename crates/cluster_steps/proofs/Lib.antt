@@ -7,6 +7,7 @@ pub mod RequestCounts
 pub mod Dispatching
 pub mod Dispatched
 pub mod SplitCommands
+mod Directions
 pub mod PartReplies
 pub mod OneSlot
 pub mod DistinctKeys

@@ -5,16 +5,13 @@ ghost use Rattle.resp_args.specs.Left.{shown};
 ghost use Rattle.resp_core.specs.Errors.{by_cause};
 ghost use Rattle.resp_core.specs.declared.errors.redis_error.Cause.TheVariants.{Memory};
 ghost use Rattle.resp_args.specs.Packed.{sent};
-ghost use Rattle.cluster_routing.specs.Routing.{destination};
-ghost use Rattle.cluster_routing.specs.Info.{shown_info, shown_parts, shown_split, texts};
+ghost use Rattle.cluster_routing.specs.Info.{shown_parts, shown_split, texts};
 ghost use Rattle.cluster_routing.specs.Split.{has_split_word, parts_by_place};
-ghost use Rattle.cluster_calls.specs.Calls.Parts.{is_gap, only_part, parts_of};
+ghost use Rattle.cluster_calls.specs.Calls.Parts.{is_gap, parts_of};
 ghost use Rattle.cluster_steps.specs.CodeParts.{part_at, parts_by};
-ghost use Rattle.cluster_steps.specs.FirstPlaces.{one_part, part_of, target_by, target_of};
+ghost use Rattle.cluster_steps.specs.FirstPlaces.{is_split, one_part, part_by, part_of, target_by, target_of};
 
-use cluster_routing::{
-    MultiSlotArgPattern, Routable, Route, RoutingInfo, SingleNodeRoutingInfo, SplitParts,
-};
+use cluster_routing::{Direction, Route, SplitParts};
 use resp_args::{Arg, ArgsIter, Cmd};
 use resp_core::{Cause, RedisError};
 use std::alloc::{AllocError, Global};
@@ -63,22 +60,22 @@ pub fn parts_of(
     if cmd.is_no_response() {
         return Err(RedisError::from(Cause::NoResponse));
     }
-    if has_split_word(cmd) {
+    let direction = Direction::for_routable(alloc, cmd, read_only)?;
+    if is_split(direction) {
         return split_parts(alloc, cmd, read_only);
     }
-    let part = only_part(alloc, cmd, read_only, number)?;
+    let part = only_part(alloc, cmd, direction, number)?;
     let mut list = Vec::new(alloc);
     list.push(part)?;
     Ok(Parts { list, split: None })
 }
 
-/// Whether the command's word is one of those that are split by their keys.
-fn has_split_word(cmd: &Cmd) -> bool
-    ensures { result ≡ has_split_word cmd.now.args }
+fn is_split(direction: Direction) -> bool
+    ensures { result ≡ is_split direction }
 {
-    match cmd.arg_idx(0) {
-        None => false,
-        Some(word) => MultiSlotArgPattern::for_command(word).is_some(),
+    match direction {
+        Direction::SplitByKeys => true,
+        Direction::Slot(_) | Direction::AnyNode | Direction::Elsewhere => false,
     }
 }
 
@@ -151,17 +148,13 @@ fn parts_at(
 }
 
 /// The target of a command that goes to one node; `None` for every other.
-fn target_in(info: Option<RoutingInfo>, number: u64) -> Option<Target>
-    ensures { option_map target_of result ≡ target_by number (option_map shown_info info) }
+fn target_in(direction: Direction, number: u64) -> Option<Target>
+    ensures { option_map target_of result ≡ target_by number direction }
 {
-    match info {
-        Some(RoutingInfo::SingleNode(SingleNodeRoutingInfo::SpecificNode(route))) => {
-            Some(Target::Slot(route))
-        }
-        Some(RoutingInfo::SingleNode(SingleNodeRoutingInfo::Random)) => Some(Target::Number(
-            number,
-        )),
-        _ => None,
+    match direction {
+        Direction::Slot(route) => Some(Target::Slot(route)),
+        Direction::AnyNode => Some(Target::Number(number)),
+        Direction::SplitByKeys | Direction::Elsewhere => None,
     }
 }
 
@@ -169,14 +162,13 @@ fn target_in(info: Option<RoutingInfo>, number: u64) -> Option<Target>
 fn only_part(
     alloc: Global,
     cmd: &Cmd,
-    read_only: &[Vec<u8>],
+    direction: Direction,
     number: u64,
 ) -> Result<Part, RedisError>
     ensures { result ≢ Err (by_cause Memory)
-        → one_part result ≡ only_part (sent cmd.now) number (destination cmd.now.args (texts read_only.now)) }
+        → one_part result ≡ part_by (sent cmd.now) (target_by number direction) }
 {
-    let info = RoutingInfo::for_routable(alloc, cmd, read_only)?;
-    let Some(target) = target_in(info, number) else {
+    let Some(target) = target_in(direction, number) else {
         return Err(RedisError::from(Cause::NoRoute));
     };
     Ok(Part {

@@ -1,6 +1,7 @@
 pub mod Tables
 pub mod Writings
 pub mod Packings
+mod Digits
 pub mod Trees
 pub mod Answering
 pub mod Texts

@@ -1,5 +1,5 @@
 //! Arguments that stand one after another in one buffer.
-ghost use Rattle.std.specs.Prelude.{◌≡◌, ℕ, List, [], ◌∷◌, ◌++◌, Option, None, Some, IfOk, is_ok, length, take, if◌then◌else◌};
+ghost use Rattle.std.specs.Prelude.{◌≡◌, ◌+◌, ℕ, List, [], ◌∷◌, ◌++◌, vec_len, Option, None, Some, IfOk, is_ok, length, take, if◌then◌else◌};
 ghost use Rattle.resp_args.specs.declared.cmd.Arg.{Arg};
 ghost use Rattle.resp_args.specs.declared.cmd.Arg.TheVariants.{Simple, Cursor};
 ghost use Rattle.resp_args.specs.Table.{Ascends, end_of};
@@ -8,6 +8,9 @@ use crate::cmd::Arg;
 use crate::write::RedisWrite;
 use std::alloc::{AllocError, Global};
 use std::marker::Model;
+
+// How many bytes the first argument makes room for: those of a short command.
+const FIRST_ROOM: usize = 40;
 
 // The buffer holds the bytes of all arguments, and the table says where each ends, or that it is a gap.
 #[derive(Drop, Debug)]
@@ -78,6 +81,11 @@ impl Arguments {
         self.ends.len()
     }
 
+    // How many bytes the arguments have in all; a gap has none.
+    pub(crate) fn byte_count(&self) -> usize {
+        self.buffer.len()
+    }
+
     pub(crate) fn push_gap(&mut self) -> Result<(), AllocError>
         ensures { self.new ≡ (if is_ok result then self.old ++ Cursor ∷ [] else self.old) }
     {
@@ -124,6 +132,19 @@ fn end_after(last: usize, end: Arg<usize>) -> usize
     }
 }
 
+// Appends bytes. Where the buffer takes no memory yet, it gets room for more than these.
+fn append(buffer: &mut Vec<u8>, bytes: &[u8]) -> Result<(), AllocError>
+    ensures items { buffer.new.items
+        ≡ (if is_ok result then buffer.old.items ++ bytes.now else buffer.old.items) }
+    ensures len { vec_len buffer.new
+        ≡ (if is_ok result then vec_len buffer.old + length bytes.now else vec_len buffer.old) }
+{
+    if buffer.capacity() == 0 {
+        buffer.reserve(bytes.len().max(FIRST_ROOM))?;
+    }
+    buffer.extend_from_slice(bytes)
+}
+
 impl RedisWrite for Arguments {
     ghost written = { λ c. c };
 
@@ -133,7 +154,7 @@ impl RedisWrite for Arguments {
 
     fn write_arg(&mut self, arg: &[u8]) -> Result<(), AllocError> {
         let len = self.buffer.len();
-        self.buffer.extend_from_slice(arg)?;
+        append(&mut self.buffer, arg)?;
         let end = self.buffer.len();
         match self.ends.push(Arg::Simple(end)) {
             Ok(()) => Ok(()),
@@ -166,6 +187,13 @@ impl<'a> Model for ArgsIter<'a> {
     ghost view = { λ c. args_from c.buffer.now c.start c.ends.now };
 
     ghost invariant = { λ c. Ascends c.start c.ends.now (length c.buffer.now) };
+}
+
+impl<'a> ArgsIter<'a> {
+    // How many arguments are left.
+    pub(crate) fn count_left(&self) -> usize {
+        self.ends.len()
+    }
 }
 
 impl<'a> Iterator for ArgsIter<'a> {

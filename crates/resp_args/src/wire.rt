@@ -16,7 +16,7 @@ pub(crate) fn wire(
 ) -> Result<Vec<Vec<u8>>, AllocError>
     ensures { IfOk result (λ v. map (λ a. a.items) v.items ≡ wire cursor args.entry) }
 {
-    let mut all = Vec::new(alloc);
+    let mut all = Vec::with_capacity(alloc, args.count_left())?;
     for arg in args {
         all.push(wire_arg(alloc, arg, cursor)?)?;
     }
