@@ -1,0 +1,7 @@
+//! Runs of a proxy before made-up servers.
+#![tactic(auto)]
+
+#[cfg(test)]
+mod moving;
+#[cfg(test)]
+mod turns;

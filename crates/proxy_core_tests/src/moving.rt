@@ -1,0 +1,69 @@
+//! Servers that tell one key's commands another fate for a while.
+ghost use Rattle.std.specs.Prelude.{◌==◌};
+
+use proxy_core::{Asked, Command, Fate, Outcome, Servers};
+use std::alloc::{AllocError, Global};
+
+/// A command at a key of one byte, which is its reply too.
+#[derive(Drop)]
+pub(crate) struct OnKey {
+    pub(crate) key: u8,
+}
+
+impl Command for OnKey {
+    ghost overlaps = { λ a b. a.key == b.key };
+
+    fn overlaps(&self, later: &OnKey) -> bool {
+        self.key == later.key
+    }
+}
+
+/// What a guest reads of a command that was not answered.
+pub(crate) const ERROR: u8 = 255;
+
+/// Servers that tell commands at `key` the fate in so many calls, of each the first one alone or all;
+/// each other command is answered.
+#[derive(Drop)]
+pub(crate) struct Moving {
+    pub(crate) key: u8,
+    pub(crate) fate: Fate,
+    pub(crate) calls: u8,
+    pub(crate) first_only: bool,
+}
+
+impl Moving {
+    fn outcome(&self, command: &OnKey, met: bool) -> Outcome<u8> {
+        let is_moved = command.key == self.key && self.calls > 0 && !(met && self.first_only);
+        if is_moved {
+            Outcome {
+                fate: self.fate,
+                reply: ERROR,
+            }
+        } else {
+            Outcome {
+                fate: Fate::Answered,
+                reply: command.key,
+            }
+        }
+    }
+}
+
+impl Servers<OnKey, u8> for Moving {
+    ghost asks = { λ old batch outcomes new. Unit {0} };
+
+    fn ask(
+        &mut self,
+        alloc: Global,
+        batch: &[Asked<'_, OnKey>],
+    ) -> Result<Vec<Outcome<u8>>, AllocError> {
+        let mut outcomes = Vec::new(alloc);
+        let mut met = false;
+        'batch: for i in 0..batch.len() {
+            let command = batch[i].command;
+            outcomes.push(self.outcome(command, met))?;
+            met = met || command.key == self.key;
+        }
+        self.calls = self.calls.saturating_sub(1);
+        Ok(outcomes)
+    }
+}
