@@ -2,6 +2,9 @@ pub mod Fates
 pub mod Queue
 pub mod Batch
 pub mod Guests
+pub mod State
 pub mod Seen
 pub mod Moves
-pub mod Runs
+pub mod Steps
+pub mod Sees
+pub mod Laws

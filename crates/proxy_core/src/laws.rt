@@ -1,5 +1,6 @@
 //! Laws of proxies.
-ghost use Rattle.proxy_core.specs.Runs.{AsksOnce, EachSeesItsOwn, KeepsOrder};
+ghost use Rattle.proxy_core.specs.Laws.{AsksOnce, KeepsOrder};
+ghost use Rattle.proxy_core.specs.Sees.{EachSeesItsOwn};
 
 use crate::command::Command;
 use crate::servers::Servers;

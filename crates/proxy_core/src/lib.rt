@@ -12,6 +12,7 @@ mod outcome;
 mod proxy;
 mod queue;
 mod refusal;
+mod run;
 mod servers;
 
 pub use command::Command;
@@ -21,4 +22,5 @@ pub use outcome::{Fate, Outcome};
 pub use proxy::Proxy;
 pub use queue::Entry;
 pub use refusal::{Refusal, Refused};
+pub use run::{Answer, Call};
 pub use servers::{Asked, Servers};

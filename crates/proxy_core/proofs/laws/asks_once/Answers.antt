@@ -1,4 +1,4 @@
-use Rattle.proxy_core.proofs.RunLemmas.{asks_once}
+use Rattle.proxy_core.proofs.LawProofs.{asks_once}
 use Rattle.proxy_core.proofs.laws.asks_once.Goals as goal
 
 pub returns : goal.returns

@@ -1,4 +1,4 @@
-use Rattle.proxy_core.proofs.RunLemmas.{keeps_order}
+use Rattle.proxy_core.proofs.LawProofs.{keeps_order}
 use Rattle.proxy_core.proofs.laws.keeps_order.Goals as goal
 
 pub returns : goal.returns
