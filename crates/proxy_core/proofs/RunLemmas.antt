@@ -1,5 +1,5 @@
 -- What a guest sees of a whole run.
-use Rattle.std.proofs.Common.{◌≡◌, ◌≢◌, ℕ, zero, suc, ◌<◌, Bool, true, false, cond, ◌==◌, List, [], ◌∷◌, ◌++◌, length, get_or, set, refl, sym, ◌∙◌, ap, arith, eqb-true}
+use Rattle.std.proofs.Common.{◌≡◌, ◌≢◌, ℕ, ◌<◌, Bool, true, false, cond, ◌==◌, List, [], ◌∷◌, ◌++◌, length, get_or, set, refl, sym, ◌∙◌, ap, arith, eqb-true}
 use Rattle.std.proofs.lemmas.List.{get_or-set_same, get_or-set_other}
 use Rattle.proxy_core.specs.declared.outcome.Outcome.{Outcome}
 use Rattle.proxy_core.specs.declared.queue.Entry.{Entry}
@@ -9,20 +9,9 @@ use Rattle.proxy_core.specs.Batch.{Asks, outcomes_of}
 use Rattle.proxy_core.specs.Guests.{Queues, queue_at}
 use Rattle.proxy_core.specs.State.{State}
 use Rattle.proxy_core.specs.Steps.{Step, Joined, NotJoined, Put, NotPut, Took, NotTook, Left, Turned, NotTurned, Makes, Runs}
-use Rattle.proxy_core.specs.Sees.{Event, Came, Ended, events_of, taken_by, sees, shown}
+use Rattle.proxy_core.specs.Sees.{Event, Came, Renewed, events_of, taken_by, sees, shown}
 
 module _ {C V : Type 0} where
-  queue_at-joined : (qs : Queues C V) (g : ℕ) → queue_at (qs ++ [] ∷ []) g ≡ queue_at qs g
-  queue_at-joined [] zero = refl
-  queue_at-joined [] (suc g) = refl
-  queue_at-joined (q ∷ qs) zero = refl
-  queue_at-joined (q ∷ qs) (suc g) = queue_at-joined qs g
-
-  queue_at-ended : (qs : Queues C V) (g : ℕ) → queue_at (set qs g []) g ≡ []
-  queue_at-ended [] g = refl
-  queue_at-ended (q ∷ qs) zero = refl
-  queue_at-ended (q ∷ qs) (suc g) = queue_at-ended qs g
-
   module _ (overlaps : C → C → Bool) where
     -- what was taken is settled no more
     settled_shown : (vs : List V) (q : List (Entry C V)) (os : List (Outcome V)) → settled overlaps (shown vs q) os ≡ shown vs (settled overlaps q os)
@@ -59,23 +48,23 @@ module _ {C V : Type 0} where
         let other : g ≢ h = grind arith in
         ap (λ q. sees overlaps (shown vs q) events) (ap (λ xs. queue_at xs g) k ∙ get_or-set_other qs h g (queue_at qs1 h) [] other)
 
-    own_leave : (b : Bool) (h g : ℕ) (qs qs1 : Queues C V) (vs : List V) (events : List (Event C V)) → (h == g) ≡ b
-        → qs1 ≡ set qs h []
-        → sees overlaps (shown (cond b [] vs) (queue_at qs1 g)) events ≡ sees overlaps (shown vs (queue_at qs g)) (cond b (Ended ∷ events) events)
-    own_leave true h g qs qs1 vs events s k =
+    own_renew : (b : Bool) (h g : ℕ) (qs qs1 : Queues C V) (vs : List V) (events : List (Event C V)) → (h == g) ≡ b
+        → queue_at qs1 h ≡ [] → ((k : ℕ) → k ≢ h → queue_at qs1 k ≡ queue_at qs k)
+        → sees overlaps (shown (cond b [] vs) (queue_at qs1 g)) events ≡ sees overlaps (shown vs (queue_at qs g)) (cond b (Renewed ∷ events) events)
+    own_renew true h g qs qs1 vs events s k o =
         let same : h ≡ g = eqb-true h g s in
-        ap (λ q. sees overlaps q events) (ap (λ xs. queue_at xs g) k ∙ ap (λ n. queue_at (set qs n []) g) same ∙ queue_at-ended qs g)
-    own_leave false h g qs qs1 vs events s k =
+        ap (λ q. sees overlaps q events) (ap (queue_at qs1) (sym same) ∙ k)
+    own_renew false h g qs qs1 vs events s k o =
         let other : g ≢ h = grind arith in
-        ap (λ q. sees overlaps (shown vs q) events) (ap (λ xs. queue_at xs g) k ∙ get_or-set_other qs h g [] [] other)
+        ap (λ q. sees overlaps (shown vs q) events) (o g other)
 
-    module _ {S : Type 0} (asks : Asks S C V) where
+    module _ (command : C → ℕ) (reply : V → ℕ) {S : Type 0} (asks : Asks S C V) where
       -- one call
       step_sees : (step : Step C V) (steps : List (Step C V)) (old : State C V) (s : S) (new : State C V) (s' : S) (g : ℕ) (vs : List V)
-          → Makes overlaps asks step old s new s' → sees overlaps (shown (taken_by g vs (step ∷ [])) (queue_at new.queues g)) (events_of g steps) ≡ sees overlaps (shown vs (queue_at old.queues g)) (events_of g (step ∷ steps))
+          → Makes overlaps command reply asks step old s new s' → sees overlaps (shown (taken_by g vs (step ∷ [])) (queue_at new.queues g)) (events_of g steps) ≡ sees overlaps (shown vs (queue_at old.queues g)) (events_of g (step ∷ steps))
       step_sees (Joined h) steps old s new s' g vs m =
-          ap (λ q. sees overlaps (shown vs q) (events_of g steps)) (ap (λ xs. queue_at xs g) m.1 ∙ queue_at-joined old.queues g)
-      step_sees NotJoined steps old s new s' g vs m = ap (λ qs. sees overlaps (shown vs (queue_at qs g)) (events_of g steps)) m.0.0
+          own_renew (h == g) h g old.queues new.queues vs (events_of g steps) refl m.2.0 (λ k o. (m.2.3 k o).0)
+      step_sees (NotJoined why) steps old s new s' g vs m = ap (λ qs. sees overlaps (shown vs (queue_at qs g)) (events_of g steps)) m.1.0
       step_sees (Put h e) steps old s new s' g vs m =
           own_put (h == g) h g e old.queues new.queues vs (events_of g steps) refl m.1.0 m.1.1
       step_sees (NotPut h e why) steps old s new s' g vs m = ap (λ qs. sees overlaps (shown vs (queue_at qs g)) (events_of g steps)) m.1.0
@@ -83,14 +72,14 @@ module _ {C V : Type 0} where
           own_take (h == g) h g v old.queues new.queues vs (events_of g steps) refl m.0.1 m.0.2
       step_sees (NotTook h) steps old s new s' g vs m = ap (λ qs. sees overlaps (shown vs (queue_at qs g)) (events_of g steps)) m.1.0
       step_sees (Left h) steps old s new s' g vs m =
-          own_leave (h == g) h g old.queues new.queues vs (events_of g steps) refl m.0
+          own_renew (h == g) h g old.queues new.queues vs (events_of g steps) refl m.0.0 (λ k o. (m.0.3 k o).0)
       step_sees (Turned batch outcomes) steps old s new s' g vs m =
           ap (λ q. sees overlaps q (events_of g steps)) (ap (shown vs) (m.2 g).1 ∙ sym (settled_shown vs (queue_at old.queues g) (outcomes_of g batch outcomes)))
       step_sees NotTurned steps old s new s' g vs m = ap (λ qs. sees overlaps (shown vs (queue_at qs g)) (events_of g steps)) m.0.0
 
       taken_step : (step : Step C V) (steps : List (Step C V)) (g : ℕ) (vs : List V) → taken_by g vs (step ∷ steps) ≡ taken_by g (taken_by g vs (step ∷ [])) steps
       taken_step (Joined h) steps g vs = refl
-      taken_step NotJoined steps g vs = refl
+      taken_step (NotJoined why) steps g vs = refl
       taken_step (Put h e) steps g vs = refl
       taken_step (NotPut h e why) steps g vs = refl
       taken_step (Took h v) steps g vs = refl
@@ -99,7 +88,7 @@ module _ {C V : Type 0} where
       taken_step (Turned batch outcomes) steps g vs = refl
       taken_step NotTurned steps g vs = refl
 
-      pub run_sees : (steps : List (Step C V)) (old : State C V) (s : S) (new : State C V) (s' : S) → Runs overlaps asks steps old s new s'
+      pub run_sees : (steps : List (Step C V)) (old : State C V) (s : S) (new : State C V) (s' : S) → Runs overlaps command reply asks steps old s new s'
           → (g : ℕ) (vs : List V) → shown (taken_by g vs steps) (queue_at new.queues g) ≡ sees overlaps (shown vs (queue_at old.queues g)) (events_of g steps)
       run_sees [] old s new s' r g vs = ap (λ (st : State C V). shown vs (queue_at st.queues g)) r.0
       run_sees (step ∷ steps) old s new s' r g vs =

@@ -1,13 +1,11 @@
 -- A turn asks of each guest what waits of it, and settles its queue by its own outcomes.
-use Rattle.std.proofs.Common.{◌≡◌, ◌≢◌, ℕ, suc, zero, ◌+◌, ◌<◌, Bool, true, false, cond, ◌&&◌, ◌||◌, ◌==◌, List, [], ◌∷◌, ◌++◌, map, length, get_or, take, drop, sum, refl, sym, ◌∙◌, ap, arith, eq-eqb}
+use Rattle.std.proofs.Common.{◌≡◌, ◌≢◌, ℕ, suc, zero, ◌+◌, ◌<◌, Bool, true, false, cond, ◌&&◌, ◌||◌, ◌==◌, List, [], ◌∷◌, ◌++◌, length, get_or, take, drop, refl, sym, ◌∙◌, ap, arith, eq-eqb}
 use Rattle.std.proofs.lemmas.List.{append-nil}
-use Rattle.std.proofs.lemmas.List.Sums.{sum-map}
 use Rattle.proxy_core.specs.declared.outcome.Outcome.{Outcome}
 use Rattle.proxy_core.specs.declared.queue.Entry.{Entry}
 use Rattle.proxy_core.specs.declared.queue.Entry.TheVariants.{Waits, Reads}
 use Rattle.proxy_core.specs.Fates.{may_be_done}
 use Rattle.proxy_core.specs.Queue.{waiting, overtaken, settled, settled_one}
-use Rattle.proxy_core.specs.Guests.{total}
 use Rattle.proxy_core.specs.Batch.{asked_by, commands_of, outcomes_of, batch_from, all_settled}
 
 same_number : (g : ℕ) → (g == g) ≡ true
@@ -101,13 +99,3 @@ module _ {C V : Type 0} where
     length-settled (Reads v ∷ q) os = ap (λ n. suc n) (length-settled q os)
     length-settled (Waits c ∷ q) [] = ap (λ n. suc n) (length-settled q [])
     length-settled (Waits c ∷ q) (o ∷ os) = ap (λ n. suc n) (length-settled q os)
-
-    lengths-settled : (qs : List (List (Entry C V))) (os : List (Outcome V)) → map (λ (q : List (Entry C V)). length q) (all_settled overlaps qs os) ≡ map (λ (q : List (Entry C V)). length q) qs
-    lengths-settled [] os = refl
-    lengths-settled (q ∷ qs) os =
-        ap (λ n. n ∷ map (λ (p : List (Entry C V)). length p) (all_settled overlaps qs (drop (length (waiting q)) os))) (length-settled q os)
-        ∙ ap (λ ns. length q ∷ ns) (lengths-settled qs (drop (length (waiting q)) os))
-
-    pub total-settled : (qs : List (List (Entry C V))) (os : List (Outcome V)) → total (all_settled overlaps qs os) ≡ total qs
-    total-settled qs os =
-        sym (sum-map (λ (q : List (Entry C V)). length q) (all_settled overlaps qs os)) ∙ ap sum (lengths-settled qs os) ∙ sum-map (λ (q : List (Entry C V)). length q) qs

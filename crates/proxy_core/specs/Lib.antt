@@ -7,4 +7,5 @@ pub mod Seen
 pub mod Moves
 pub mod Steps
 pub mod Sees
+pub mod Shares
 pub mod Laws

@@ -1,21 +1,39 @@
--- What the calls of a proxy do to the queues of its guests, qs before and qs' after.
-use Rattle.std.specs.Prelude.{◌≡◌, ℕ, ◌<◌, ◌≤◌, Bool, false, List, [], ◌∷◌, ◌++◌, length, slice_set}
+-- What the calls of a proxy do: to the queues of its guests, qs before and qs' after, or to all of it.
+use Rattle.std.specs.Prelude.{◌≡◌, ◌≢◌, ℕ, ◌+◌, ◌<◌, ◌≤◌, ◌⊎◌, Bool, false, List, [], ◌∷◌, ◌++◌, length, slice_set}
+use Rattle.proxy_core.specs.declared.limits.Room.{Room}
 use Rattle.proxy_core.specs.declared.outcome.Outcome.{Outcome}
 use Rattle.proxy_core.specs.declared.queue.Entry.{Entry}
 use Rattle.proxy_core.specs.declared.queue.Entry.TheVariants.{Reads}
 use Rattle.proxy_core.specs.declared.refusal.Refusal.{Refusal}
-use Rattle.proxy_core.specs.declared.refusal.Refusal.TheVariants.{NoGuest, GuestFull, Full, NoMemory}
+use Rattle.proxy_core.specs.declared.refusal.Refusal.TheVariants.{NoGuest, Full, NoMemory}
+use Rattle.proxy_core.specs.declared.refusal.JoinRefusal.{JoinRefusal}
+use Rattle.proxy_core.specs.declared.refusal.JoinRefusal.TheVariants as joins
 use Rattle.proxy_core.specs.Queue.{waiting, settled}
 use Rattle.proxy_core.specs.Batch.{Asks, commands_of, outcomes_of}
-use Rattle.proxy_core.specs.Guests.{Queues, queue_at}
+use Rattle.proxy_core.specs.Guests.{Queues, queue_at, is_open_at, free_from}
+use Rattle.proxy_core.specs.State.{State}
 
--- when an entry is refused so, by whether its guest is there, how many entries the guest has and all
--- have, and the limits of both
-abbrev pub IsDue : Refusal → Bool → ℕ → ℕ → ℕ → ℕ → Type 0
-IsDue NoGuest is_there own each held all = is_there ≡ false
-IsDue GuestFull is_there own each held all = each ≤ own
-IsDue Full is_there own each held all = all ≤ held
-IsDue NoMemory is_there own each held all = Unit {0}
+-- an entry of so many bytes has no room in a share of which so many entries and bytes are held
+abbrev pub IsFull : Room → ℕ → ℕ → ℕ → Type 0
+IsFull share entries held size = (share.entries ≤ entries) ⊎ (share.bytes < held + size)
+
+-- when an entry is refused so, by whether its guest is there, and by its share: what other guests hold is
+-- no cause
+abbrev pub IsDue : Refusal → Bool → Room → ℕ → ℕ → ℕ → Type 0
+IsDue NoGuest is_there share entries held size = is_there ≡ false
+IsDue Full is_there share entries held size = IsFull share entries held size
+IsDue NoMemory is_there share entries held size = Unit {0}
+
+-- when a guest is refused so: all numbers below the limit are taken
+abbrev pub IsJoinDue : JoinRefusal → List Bool → ℕ → Type 0
+IsJoinDue joins.Full openings most = most ≤ free_from 0 openings
+IsJoinDue joins.NoMemory openings most = Unit {0}
+
+-- of guest g nothing is held now, and it is there or not; nothing changes of other guests
+abbrev pub Renews : {C V : Type 0} → State C V → State C V → ℕ → Bool → Type 0
+Renews old new g is_there = (queue_at new.queues g ≡ []) × (is_open_at new.openings g ≡ is_there)
+    × (new.limits ≡ old.limits) × ((h : ℕ) → h ≢ g → (queue_at new.queues h ≡ queue_at old.queues h)
+    × (is_open_at new.openings h ≡ is_open_at old.openings h))
 
 -- guest g has one entry more, behind the others; no other guest's queue changes
 abbrev pub Puts : {C V : Type 0} → Queues C V → Queues C V → ℕ → Entry C V → Type 0

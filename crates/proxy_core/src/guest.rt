@@ -1,106 +1,110 @@
-//! The guests of a proxy, by their numbers, and what a turn does to all of them.
-ghost use Rattle.std.specs.Prelude.{◌≡◌, false, ◌<◌, ◌+◌, ◌++◌, ◌∷◌, ℕ, [], ◌⊎◌, length, drop, map, vec_len, slice_set, IfErr, IfOk, MatchOption, OnErr, OnOk};
-ghost use Rattle.proxy_core.specs.Batch.{all_settled, batch_from, batch_of};
-ghost use Rattle.proxy_core.specs.Guests.{openings, queue_at, queues, total};
-ghost use Rattle.proxy_core.specs.Queue.{first_reply};
+//! A guest, and what the proxy holds of it.
+ghost use Rattle.std.specs.Prelude.{◌≡◌, ◌≤◌, ◌+◌, ◌++◌, ◌∷◌, [], drop, true, length, is_ok, is_some, if◌then◌else◌, IfErr, OnOk};
+ghost use Rattle.proxy_core.specs.Guests.{IsCounted, entry_bytes, queue_bytes};
+ghost use Rattle.proxy_core.specs.Moves.{IsDue};
+ghost use Rattle.proxy_core.specs.Queue.{first_reply, settled, waiting};
 
-use crate::command::Command;
+use crate::command::{Bytes, Command};
+use crate::limits::Room;
 use crate::outcome::Outcome;
 use crate::queue::{Entry, settle, take_first};
-use crate::servers::{Asked, Servers, gather_guest};
-use std::alloc::{AllocError, AllocFailed, Global};
+use crate::refusal::{Refusal, Refused};
 use std::collections::VecDeque;
 
 /// A guest.
 #[derive(Drop)]
 pub(crate) struct Guest<C, V> {
     pub(crate) open: bool,
+    pub(crate) bytes: u128,
     pub(crate) entries: VecDeque<Entry<C, V>>,
 }
 
-// What waits of all guests, guest behind guest.
-fn gather<C, V>(alloc: Global, guests: &[Guest<C, V>]) -> Result<Vec<Asked<'_, C>>, AllocError>
-    ensures { IfOk result (λ batch. batch_of batch.items ≡ batch_from 0 (queues guests.now)) }
+// How many bytes a queue takes.
+fn bytes_in<C: Bytes, V: Bytes>(entries: &VecDeque<Entry<C, V>>) -> u128
+    ensures { result ≡ queue_bytes C.bytes V.bytes entries.now.items }
 {
-    let mut batch = Vec::new(alloc);
-    'guests: for i in 0..guests.len() {
-        batch = gather_guest(batch, i, &guests[i].entries)?;
+    let mut sum = 0;
+    'entries: for i in 0..entries.len() {
+        sum += entries[i].bytes() as u128;
     }
-    Ok(batch)
+    sum
 }
 
-/// Asks the servers what waits.
-pub(crate) fn ask_waiting<C, V, S: Servers<C, V>>(
-    alloc: Global,
-    guests: &[Guest<C, V>],
-    servers: &mut S,
-) -> Result<Vec<Outcome<V>>, AllocError>
-    ensures one_each { IfOk result (λ outcomes. vec_len outcomes
-        ≡ length (batch_from 0 (queues guests.now))) }
-    ensures asked { IfOk result (λ outcomes. S.asks servers.old
-        (batch_from 0 (queues guests.now)) outcomes.items servers.new) }
-    ensures refused { OnErr result ((servers.new ≡ servers.old) ⊎ S.asks servers.old [] [] servers.new) }
-{
-    let batch = gather(alloc, guests)?;
-    servers.ask(alloc, &batch)
+impl<C: Bytes, V: Bytes> Guest<C, V> {
+    /// Puts an entry behind the others, where the share has room for it.
+    pub(crate) fn put(
+        &mut self,
+        share: Room,
+        entry: Entry<C, V>,
+    ) -> Result<(), Refused<Entry<C, V>>>
+        ensures entries { self.new.entries.items
+            ≡ (if is_ok result then self.old.entries.items ++ entry ∷ [] else self.old.entries.items) }
+        ensures bytes { self.new.bytes
+            ≡ (if is_ok result then self.old.bytes + entry_bytes C.bytes V.bytes entry else self.old.bytes) }
+        ensures bounded { OnOk result (length self.new.entries.items ≤ share.entries) }
+        ensures value { IfErr result (λ refused. refused.value ≡ entry) }
+        ensures why { IfErr result (λ refused. IsDue refused.why true share
+            (length self.old.entries.items) self.old.bytes (entry_bytes C.bytes V.bytes entry)) }
+        ensures still_open { self.new.open ≡ self.old.open }
+    {
+        let size = entry.bytes();
+        if share.entries <= self.entries.len() {
+            return Err(Refused {
+                why: Refusal::Full,
+                value: entry,
+            });
+        }
+        if (share.bytes as u128) < self.bytes {
+            return Err(Refused {
+                why: Refusal::Full,
+                value: entry,
+            });
+        }
+        if share.bytes as u128 - self.bytes < size as u128 {
+            return Err(Refused {
+                why: Refusal::Full,
+                value: entry,
+            });
+        }
+        match self.entries.push_back(entry) {
+            Ok(()) => {
+                self.bytes += size as u128;
+                Ok(())
+            }
+            Err(failed) => Err(Refused {
+                why: Refusal::NoMemory,
+                value: failed.value,
+            }),
+        }
+    }
+
+    /// Takes the first reply, where no command waits before it.
+    pub(crate) fn take(&mut self) -> Option<V>
+        requires { IsCounted C.bytes V.bytes self.old }
+        ensures first { result ≡ first_reply self.old.entries.items }
+        ensures rest { self.new.entries.items
+            ≡ (if is_some result then drop 1 self.old.entries.items else self.old.entries.items) }
+        ensures counted { IsCounted C.bytes V.bytes self.new }
+        ensures still_open { self.new.open ≡ self.old.open }
+    {
+        let reply = take_first(&mut self.entries)?;
+        self.bytes = self.bytes.saturating_sub(reply.bytes() as u128);
+        Some(reply)
+    }
 }
 
-/// Settles each guest's queue by its own outcomes, which stand guest behind guest.
-pub(crate) fn settle_all<C: Command, V: Drop>(
-    guests: &mut [Guest<C, V>],
-    outcomes: VecDeque<Outcome<V>>,
+/// Leaves a guest's queue as a turn with these outcomes leaves it, and takes its own of them.
+pub(crate) fn settle_guest<C: Command, V: Bytes>(
+    guest: &mut Guest<C, V>,
+    outcomes: &mut VecDeque<Outcome<V>>,
 )
-    ensures queues { queues guests.new ≡ all_settled C.overlaps (queues guests.old) outcomes.items }
-    ensures openings { openings guests.new ≡ openings guests.old }
+    ensures entries { guest.new.entries.items
+        ≡ settled C.overlaps guest.old.entries.items outcomes.old.items }
+    ensures outcomes { outcomes.new.items
+        ≡ drop (length (waiting guest.old.entries.items)) outcomes.old.items }
+    ensures counted { IsCounted C.bytes V.bytes guest.new }
+    ensures still_open { guest.new.open ≡ guest.old.open }
 {
-    let mut left = outcomes;
-    'guests: for i in 0..guests.len() {
-        settle(&mut guests[i].entries, &mut left);
-    }
-}
-
-/// Puts an entry behind those of a guest.
-pub(crate) fn put_in<C: Drop, V: Drop>(
-    guests: &mut [Guest<C, V>],
-    guest: usize,
-    entry: Entry<C, V>,
-) -> Result<(), AllocFailed<Entry<C, V>>>
-    requires { guest < length guests.old }
-    ensures ok { OnOk result (queues guests.new
-        ≡ slice_set (queues guests.old) guest (queue_at (queues guests.old) guest ++ entry ∷ [])) }
-    ensures err { IfErr result (λ failed. (failed.value ≡ entry) × (queues guests.new ≡ queues guests.old)) }
-    ensures openings { openings guests.new ≡ openings guests.old }
-{
-    guests[guest].entries.push_back(entry)
-}
-
-/// Takes a guest's first reply, where no command waits before it.
-pub(crate) fn take_from<C: Drop, V: Drop>(guests: &mut [Guest<C, V>], guest: usize) -> Option<V>
-    requires { guest < length guests.old }
-    ensures taken { MatchOption result (queues guests.new ≡ queues guests.old) (λ v.
-        queues guests.new
-        ≡ slice_set (queues guests.old) guest (drop 1 (queue_at (queues guests.old) guest))) }
-    ensures first { result ≡ first_reply (queue_at (queues guests.old) guest) }
-    ensures openings { openings guests.new ≡ openings guests.old }
-{
-    take_first(&mut guests[guest].entries)
-}
-
-/// Ends a guest: what it has is dropped. Says how many entries it had.
-pub(crate) fn close_in<C: Drop, V: Drop>(
-    guests: &mut [Guest<C, V>],
-    alloc: Global,
-    guest: usize,
-) -> usize
-    requires { guest < length guests.old }
-    ensures queues { queues guests.new ≡ slice_set (queues guests.old) guest [] }
-    ensures openings { openings guests.new ≡ slice_set (openings guests.old) guest false }
-    ensures freed { result + total (queues guests.new) ≡ total (queues guests.old) }
-{
-    let freed = guests[guest].entries.len();
-    guests[guest] = Guest {
-        open: false,
-        entries: VecDeque::new(alloc),
-    };
-    freed
+    settle(&mut guest.entries, outcomes);
+    guest.bytes = bytes_in(&guest.entries);
 }

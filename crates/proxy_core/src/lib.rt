@@ -6,6 +6,7 @@
 mod calls;
 mod command;
 mod guest;
+mod guests;
 mod laws;
 mod limits;
 mod outcome;
@@ -15,12 +16,12 @@ mod refusal;
 mod run;
 mod servers;
 
-pub use command::Command;
-pub use laws::{asks_once, each_sees_its_own, keeps_order};
-pub use limits::Limits;
+pub use command::{Bytes, Command};
+pub use laws::{asks_once, each_sees_its_own, keeps_order, stays_within};
+pub use limits::{Limits, Room};
 pub use outcome::{Fate, Outcome};
 pub use proxy::Proxy;
 pub use queue::Entry;
-pub use refusal::{Refusal, Refused};
+pub use refusal::{JoinRefusal, Refusal, Refused};
 pub use run::{Answer, Call};
 pub use servers::{Asked, Servers};

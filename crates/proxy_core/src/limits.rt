@@ -1,10 +1,16 @@
 //! How much a proxy holds.
 
-/// How many entries a proxy holds at most.
+/// Room in a proxy.
+#[derive(Clone, Copy, Debug)]
+pub struct Room {
+    pub entries: usize,
+    pub bytes: usize,
+}
+
+/// How much a proxy holds at most: of so many guests, and of each its share, which is its own whatever
+/// the others hold.
 #[derive(Clone, Copy, Debug)]
 pub struct Limits {
-    /// Of one guest.
-    pub each: usize,
-    /// Of all guests together.
-    pub all: usize,
+    pub guests: usize,
+    pub share: Room,
 }

@@ -1,9 +1,10 @@
 //! What a proxy holds of one guest.
 ghost use Rattle.std.specs.Prelude.{◌≡◌, ◌≤◌, ◌<◌, ◌+◌, ◌++◌, ◌∷◌, [], take, drop, length, is_some, if◌then◌else◌};
 ghost use Rattle.proxy_core.specs.Fates.{may_be_done};
+ghost use Rattle.proxy_core.specs.Guests.{entry_bytes};
 ghost use Rattle.proxy_core.specs.Queue.{LeavesFirst, first_reply, overtaken, settled, waiting};
 
-use crate::command::Command;
+use crate::command::{Bytes, Command};
 use crate::outcome::{Fate, Outcome};
 use std::collections::VecDeque;
 
@@ -14,6 +15,18 @@ pub enum Entry<C, V> {
     Waits(C),
     /// Its reply is there.
     Reads(V),
+}
+
+impl<C: Bytes, V: Bytes> Entry<C, V> {
+    /// How many bytes of its guest's share it takes.
+    pub fn bytes(&self) -> usize
+        ensures { result ≡ entry_bytes C.bytes V.bytes self.now }
+    {
+        match self {
+            Entry::Waits(command) => command.bytes(),
+            Entry::Reads(reply) => reply.bytes(),
+        }
+    }
 }
 
 // Whether a command with this fate may have been done.

@@ -1,13 +1,11 @@
-//! Why an entry is not taken.
+//! Why a guest, or an entry, is not taken.
 
 /// Why an entry is not taken.
 #[derive(Clone, Copy, PartialEq, Eq, Debug)]
 pub enum Refusal {
     /// No guest has that number.
     NoGuest,
-    /// The guest has as many entries as one guest may have: it has to read first.
-    GuestFull,
-    /// All guests together have as many entries as all may have.
+    /// The guest's share has no room for it: the guest has to read first.
     Full,
     /// Memory was refused. The call may be made again.
     NoMemory,
@@ -18,4 +16,13 @@ pub enum Refusal {
 pub struct Refused<T> {
     pub why: Refusal,
     pub value: T,
+}
+
+/// Why a guest is not let in.
+#[derive(Clone, Copy, PartialEq, Eq, Debug)]
+pub enum JoinRefusal {
+    /// As many guests are there as may be.
+    Full,
+    /// Memory was refused. The call may be made again.
+    NoMemory,
 }

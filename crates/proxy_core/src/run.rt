@@ -3,10 +3,10 @@ ghost use Rattle.std.specs.Prelude.{◌≡◌, ◌≢◌, [], OnErr, OnOk};
 ghost use Rattle.proxy_core.specs.Seen.{state_of};
 ghost use Rattle.proxy_core.specs.Steps.{MakesOne, Plays};
 
-use crate::command::Command;
+use crate::command::{Bytes, Command};
 use crate::proxy::Proxy;
 use crate::queue::Entry;
-use crate::refusal::Refused;
+use crate::refusal::{JoinRefusal, Refused};
 use crate::servers::Servers;
 use std::alloc::{AllocError, Global};
 use std::collections::VecDeque;
@@ -31,6 +31,8 @@ pub enum Call<C, V> {
 pub enum Answer<C, V> {
     /// A guest was let in, with this number.
     Joined(usize),
+    /// No guest was let in.
+    NotJoined(JoinRefusal),
     /// The entry was taken.
     Put,
     /// The entry was not taken.
@@ -47,7 +49,7 @@ pub enum Answer<C, V> {
     NoMemory,
 }
 
-impl<C: Command, V: Drop> Proxy<C, V> {
+impl<C: Command, V: Bytes> Proxy<C, V> {
     // What a call answers.
     fn answer_to<S: Servers<C, V>>(
         &mut self,
@@ -55,13 +57,14 @@ impl<C: Command, V: Drop> Proxy<C, V> {
         servers: &mut S,
         call: Call<C, V>,
     ) -> Answer<C, V>
-        ensures { MakesOne C.overlaps S.asks call result
-            (state_of self.old) servers.old (state_of self.new) servers.new }
+        ensures { MakesOne C.overlaps C.bytes V.bytes S.asks call result
+            (state_of self.old.guests.items self.old.limits) servers.old
+            (state_of self.new.guests.items self.new.limits) servers.new }
     {
         match call {
             Call::Join => match self.join(alloc) {
                 Ok(guest) => Answer::Joined(guest),
-                Err(_) => Answer::NoMemory,
+                Err(why) => Answer::NotJoined(why),
             },
             Call::Put(guest, entry) => match self.put(guest, entry) {
                 Ok(()) => Answer::Put,
@@ -94,9 +97,10 @@ impl<C: Command, V: Drop> Proxy<C, V> {
         calls: &mut VecDeque<Call<C, V>>,
         answers: &mut Vec<Answer<C, V>>,
     ) -> Result<(), AllocError>
-        ensures played { Plays C.overlaps S.asks calls.old.items calls.new.items
+        ensures played { Plays C.overlaps C.bytes V.bytes S.asks calls.old.items calls.new.items
             answers.old.items answers.new.items
-            (state_of self.old) servers.old (state_of self.new) servers.new }
+            (state_of self.old.guests.items self.old.limits) servers.old
+            (state_of self.new.guests.items self.new.limits) servers.new }
         ensures all { OnOk result (calls.new.items ≡ []) }
         ensures cut { OnErr result (calls.new.items ≢ []) }
     {

@@ -4,4 +4,6 @@
 #[cfg(test)]
 mod moving;
 #[cfg(test)]
+mod runs;
+#[cfg(test)]
 mod turns;

@@ -1,13 +1,21 @@
 //! Servers that tell one key's commands another fate for a while.
 ghost use Rattle.std.specs.Prelude.{◌==◌};
 
-use proxy_core::{Asked, Command, Fate, Outcome, Servers};
+use proxy_core::{Asked, Bytes, Command, Fate, Outcome, Servers};
 use std::alloc::{AllocError, Global};
 
-/// A command at a key of one byte, which is its reply too.
+/// A command of ten bytes at a key, which is its reply too.
 #[derive(Drop)]
 pub(crate) struct OnKey {
     pub(crate) key: u8,
+}
+
+impl Bytes for OnKey {
+    ghost bytes = { λ command. 10 };
+
+    fn bytes(&self) -> usize {
+        10
+    }
 }
 
 impl Command for OnKey {
@@ -15,6 +23,18 @@ impl Command for OnKey {
 
     fn overlaps(&self, later: &OnKey) -> bool {
         self.key == later.key
+    }
+}
+
+/// A reply of one byte.
+#[derive(Drop)]
+pub(crate) struct Reply(pub(crate) u8);
+
+impl Bytes for Reply {
+    ghost bytes = { λ reply. 1 };
+
+    fn bytes(&self) -> usize {
+        1
     }
 }
 
@@ -32,30 +52,30 @@ pub(crate) struct Moving {
 }
 
 impl Moving {
-    fn outcome(&self, command: &OnKey, met: bool) -> Outcome<u8> {
+    fn outcome(&self, command: &OnKey, met: bool) -> Outcome<Reply> {
         let is_moved = command.key == self.key && self.calls > 0 && !(met && self.first_only);
         if is_moved {
             Outcome {
                 fate: self.fate,
-                reply: ERROR,
+                reply: Reply(ERROR),
             }
         } else {
             Outcome {
                 fate: Fate::Answered,
-                reply: command.key,
+                reply: Reply(command.key),
             }
         }
     }
 }
 
-impl Servers<OnKey, u8> for Moving {
+impl Servers<OnKey, Reply> for Moving {
     ghost asks = { λ old batch outcomes new. Unit {0} };
 
     fn ask(
         &mut self,
         alloc: Global,
         batch: &[Asked<'_, OnKey>],
-    ) -> Result<Vec<Outcome<u8>>, AllocError> {
+    ) -> Result<Vec<Outcome<Reply>>, AllocError> {
         let mut outcomes = Vec::new(alloc);
         let mut met = false;
         'batch: for i in 0..batch.len() {

@@ -1,10 +1,19 @@
 //! What guests read of commands with each fate.
-use crate::moving::{ERROR, Moving, OnKey};
-use proxy_core::{Entry, Fate, Limits, Proxy, asks_once, each_sees_its_own, keeps_order};
+use crate::moving::{ERROR, Moving, OnKey, Reply};
+use proxy_core::{Entry, Fate, Limits, Proxy, Room, asks_once, each_sees_its_own, keeps_order};
 use std::alloc::Global;
 use std::test::*;
 
-type Guests = Proxy<OnKey, u8>;
+pub(crate) type Guests = Proxy<OnKey, Reply>;
+
+/// Three commands of a guest and an answer have room, and no more bytes than these.
+pub(crate) const LIMITS: Limits = Limits {
+    guests: 2,
+    share: Room {
+        entries: 4,
+        bytes: 31,
+    },
+};
 
 // What all guests take, one after the other.
 fn take_all(proxy: &mut Guests, seen: &mut Vec<u8>) -> Result<(), Fail> {
@@ -13,7 +22,7 @@ fn take_all(proxy: &mut Guests, seen: &mut Vec<u8>) -> Result<(), Fail> {
             let Some(reply) = proxy.take(guest) else {
                 break;
             };
-            seen.push(reply)?;
+            seen.push(reply.0)?;
         }
     }
     Ok(())
@@ -22,22 +31,23 @@ fn take_all(proxy: &mut Guests, seen: &mut Vec<u8>) -> Result<(), Fail> {
 // One guest asks at keys 7, 3 and 7, with an answer in place behind them, and the other at key 9; what
 // both take behind two turns.
 fn seen(alloc: Global, fate: Fate, first_only: bool) -> Result<Vec<u8>, Fail> {
-    let mut proxy: Guests = Proxy::new(alloc, Limits { each: 4, all: 16 });
+    let mut proxy: Guests = Proxy::new(alloc, LIMITS);
     let mut servers = Moving {
         key: 7,
         fate,
         calls: 1,
         first_only,
     };
-    proxy.join(alloc)?;
-    proxy.join(alloc)?;
     let mut refused: u8 = 0;
+    for _ in 0..3 {
+        refused = refused.saturating_add(u8::from(proxy.join(alloc).is_err()));
+    }
     for (guest, key) in [(0, 7), (0, 3), (0, 7), (1, 9)] {
         let put = proxy.put(guest, Entry::Waits(OnKey { key }));
         refused = refused.saturating_add(u8::from(put.is_err()));
     }
     for answer in [100, 101] {
-        let put = proxy.put(0, Entry::Reads(answer));
+        let put = proxy.put(0, Entry::Reads(Reply(answer)));
         refused = refused.saturating_add(u8::from(put.is_err()));
     }
     let mut seen = Vec::new(alloc);
@@ -52,10 +62,10 @@ fn seen(alloc: Global, fate: Fate, first_only: bool) -> Result<Vec<u8>, Fail> {
 // The fate of the commands at key 7 in the first turn, of the first one alone or of both; that one entry
 // was refused, and what was taken in both turns.
 const TURNS: [(Fate, bool, &[u8]); 4] = [
-    (Fate::Redirected, false, &[1, 9, 7, 3, 7, 100]),
-    (Fate::Redirected, true, &[1, ERROR, 3, 7, 100, 9]),
-    (Fate::NotAsked, false, &[1, 9, 7, 3, 7, 100]),
-    (Fate::Lost, false, &[1, ERROR, 3, ERROR, 100, 9]),
+    (Fate::Redirected, false, &[2, 9, 7, 3, 7, 100]),
+    (Fate::Redirected, true, &[2, ERROR, 3, 7, 100, 9]),
+    (Fate::NotAsked, false, &[2, 9, 7, 3, 7, 100]),
+    (Fate::Lost, false, &[2, ERROR, 3, ERROR, 100, 9]),
 ];
 
 #[test]
@@ -69,8 +79,8 @@ fn fates_are_told_in_order(rt: HostRuntime) -> Result<(), Fail> {
 
 #[test]
 fn laws_are_there(rt: HostRuntime) {
-    each_sees_its_own::<OnKey, u8, Moving>();
-    asks_once::<OnKey, u8>();
-    keeps_order::<OnKey, u8>();
+    each_sees_its_own::<OnKey, Reply, Moving>();
+    asks_once::<OnKey, Reply>();
+    keeps_order::<OnKey, Reply>();
     assert_eq!(rt; ERROR, 255);
 }
