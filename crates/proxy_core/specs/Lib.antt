@@ -1,0 +1,11 @@
+pub mod Fates
+pub mod Queue
+pub mod Batch
+pub mod Guests
+pub mod State
+pub mod Seen
+pub mod Moves
+pub mod Steps
+pub mod Sees
+pub mod Shares
+pub mod Laws

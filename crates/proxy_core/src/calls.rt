@@ -1,0 +1,164 @@
+//! The calls of a proxy.
+ghost use Rattle.std.specs.Prelude.{◌≡◌, ◌≤◌, ◌<◌, ◌+◌, ◌++◌, ◌∷◌, [], ◌⊎◌, false, true, length, IfOk, IfErr, OnOk, OnErr, MatchOption};
+ghost use Rattle.proxy_core.specs.declared.refusal.Refusal.TheVariants.{NoMemory};
+ghost use Rattle.proxy_core.specs.Guests.{entry_bytes, free_from, is_open_at, openings, queue_at, queue_bytes, queues};
+ghost use Rattle.proxy_core.specs.Moves.{IsDue, IsJoinDue, Puts, Renews, Takes, Turns};
+ghost use Rattle.proxy_core.specs.Queue.{first_reply};
+ghost use Rattle.proxy_core.specs.Seen.{state_of};
+
+use crate::command::{Bytes, Command};
+use crate::guest::Guest;
+use crate::guests::{ask_waiting, free_number, put_in, renew, settle_all, take_from};
+use crate::limits::Limits;
+use crate::proxy::Proxy;
+use crate::queue::Entry;
+use crate::refusal::{JoinRefusal, Refusal, Refused};
+use crate::servers::Servers;
+use std::alloc::{AllocError, Global};
+use std::collections::VecDeque;
+
+impl<C: Command, V: Bytes> Proxy<C, V> {
+    /// A proxy with no guest.
+    pub fn new(alloc: Global, limits: Limits) -> Proxy<C, V>
+        ensures none { queues result.guests.items ≡ [] }
+        ensures nobody { openings result.guests.items ≡ [] }
+        ensures limits { result.limits ≡ limits }
+    {
+        Proxy {
+            guests: Vec::new(alloc),
+            limits,
+        }
+    }
+
+    /// Lets a guest in, and answers its number: the first one that no guest has. Where it is refused
+    /// nothing has changed.
+    pub fn join(&mut self, alloc: Global) -> Result<usize, JoinRefusal>
+        ensures number { IfOk result (λ g. g ≡ free_from 0 (openings self.old.guests.items)) }
+        ensures within { IfOk result (λ g. g < self.old.limits.guests) }
+        ensures ok { IfOk result (λ g. Renews (state_of self.old.guests.items self.old.limits)
+            (state_of self.new.guests.items self.new.limits) g true) }
+        ensures why { IfErr result (λ why. IsJoinDue why
+            (openings self.old.guests.items) self.old.limits.guests) }
+        ensures err { OnErr result (queues self.new.guests.items ≡ queues self.old.guests.items) }
+        ensures still_open { OnErr result (openings self.new.guests.items ≡ openings self.old.guests.items) }
+        ensures limits { self.new.limits ≡ self.old.limits }
+    {
+        let number = free_number(&self.guests);
+        if self.limits.guests <= number {
+            return Err(JoinRefusal::Full);
+        }
+        if number < self.guests.len() {
+            renew(&mut self.guests, alloc, number, true);
+            return Ok(number);
+        }
+        match self.add(alloc) {
+            Ok(()) => Ok(number),
+            Err(_) => Err(JoinRefusal::NoMemory),
+        }
+    }
+
+    // Lets a guest in behind the others.
+    fn add(&mut self, alloc: Global) -> Result<(), AllocError>
+        ensures queues { OnOk result (queues self.new.guests.items
+            ≡ queues self.old.guests.items ++ [] ∷ []) }
+        ensures openings { OnOk result (openings self.new.guests.items
+            ≡ openings self.old.guests.items ++ true ∷ []) }
+        ensures err { OnErr result (queues self.new.guests.items ≡ queues self.old.guests.items) }
+        ensures still_open { OnErr result (openings self.new.guests.items ≡ openings self.old.guests.items) }
+        ensures limits { self.new.limits ≡ self.old.limits }
+    {
+        self.guests.push(Guest {
+            open: true,
+            bytes: 0,
+            entries: VecDeque::new(alloc),
+        })?;
+        Ok(())
+    }
+
+    // Whether a guest is there.
+    fn is_open(&self, guest: usize) -> bool
+        ensures is_there { result ≡ is_open_at (openings self.now.guests.items) guest }
+    {
+        if self.guests.len() <= guest {
+            return false;
+        }
+        self.guests[guest].open
+    }
+
+    /// Takes a command of a guest, or an answer of the proxy's own in the place of one. Where it is
+    /// refused nothing has changed, and the entry comes back. What other guests hold is no cause: an
+    /// entry that the guest's own share has room for is refused by want of memory alone.
+    pub fn put(&mut self, guest: usize, entry: Entry<C, V>) -> Result<(), Refused<Entry<C, V>>>
+        ensures is_open { OnOk result (is_open_at (openings self.old.guests.items) guest ≡ true) }
+        ensures ok { OnOk result (Puts
+            (queues self.old.guests.items) (queues self.new.guests.items) guest entry) }
+        ensures bounded { OnOk result
+            (length (queue_at (queues self.new.guests.items) guest) ≤ self.old.limits.share.entries) }
+        ensures entry { IfErr result (λ refused. refused.value ≡ entry) }
+        ensures err { OnErr result (queues self.new.guests.items ≡ queues self.old.guests.items) }
+        ensures why { let q = queue_at (queues self.old.guests.items) guest in
+            IfErr result (λ refused. IsDue refused.why (is_open_at (openings self.old.guests.items) guest)
+            self.old.limits.share (length q) (queue_bytes C.bytes V.bytes q)
+            (entry_bytes C.bytes V.bytes entry)) }
+        ensures own_share { let q = queue_at (queues self.old.guests.items) guest in
+            is_open_at (openings self.old.guests.items) guest ≡ true
+            → length q < self.old.limits.share.entries
+            → queue_bytes C.bytes V.bytes q + entry_bytes C.bytes V.bytes entry ≤ self.old.limits.share.bytes
+            → IfErr result (λ refused. refused.why ≡ NoMemory) }
+        ensures openings { openings self.new.guests.items ≡ openings self.old.guests.items }
+        ensures limits { self.new.limits ≡ self.old.limits }
+    {
+        if !self.is_open(guest) || self.guests.len() <= guest {
+            return Err(Refused {
+                why: Refusal::NoGuest,
+                value: entry,
+            });
+        }
+        put_in(&mut self.guests, guest, self.limits.share, entry)
+    }
+
+    /// Hands a guest its next reply: none where its first command waits.
+    pub fn take(&mut self, guest: usize) -> Option<V>
+        ensures first { result ≡ first_reply (queue_at (queues self.old.guests.items) guest) }
+        ensures taken { MatchOption result (queues self.new.guests.items ≡ queues self.old.guests.items)
+            (λ v. Takes (queues self.old.guests.items) (queues self.new.guests.items) guest v) }
+        ensures openings { openings self.new.guests.items ≡ openings self.old.guests.items }
+        ensures limits { self.new.limits ≡ self.old.limits }
+    {
+        if self.guests.len() <= guest {
+            return None;
+        }
+        take_from(&mut self.guests, guest)
+    }
+
+    /// Ends a guest, and drops what the proxy holds of it: its commands are not asked any more, and its
+    /// number is free.
+    pub fn leave(&mut self, alloc: Global, guest: usize)
+        ensures ended { Renews (state_of self.old.guests.items self.old.limits)
+            (state_of self.new.guests.items self.new.limits) guest false }
+    {
+        if self.guests.len() <= guest {
+            return;
+        }
+        renew(&mut self.guests, alloc, guest, false);
+    }
+
+    /// Asks the servers all that waits, in one call, and leaves each guest's queue as its outcomes say.
+    /// Where memory was refused no queue has changed, and the servers were not called or asked nothing.
+    pub fn turn<S: Servers<C, V>>(
+        &mut self,
+        alloc: Global,
+        servers: &mut S,
+    ) -> Result<(), AllocError>
+        ensures ok { OnOk result (Turns C.overlaps S.asks
+            (queues self.old.guests.items) (queues self.new.guests.items) servers.old servers.new) }
+        ensures err { OnErr result (queues self.new.guests.items ≡ queues self.old.guests.items) }
+        ensures unasked { OnErr result ((servers.new ≡ servers.old) ⊎ S.asks servers.old [] [] servers.new) }
+        ensures openings { openings self.new.guests.items ≡ openings self.old.guests.items }
+        ensures limits { self.new.limits ≡ self.old.limits }
+    {
+        let outcomes = ask_waiting(alloc, &self.guests, servers)?;
+        settle_all(&mut self.guests, VecDeque::from_vec(outcomes));
+        Ok(())
+    }
+}

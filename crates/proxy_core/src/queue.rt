@@ -1,0 +1,127 @@
+//! What a proxy holds of one guest.
+ghost use Rattle.std.specs.Prelude.{◌≡◌, ◌≤◌, ◌<◌, ◌+◌, ◌++◌, ◌∷◌, [], take, drop, length, is_some, if◌then◌else◌};
+ghost use Rattle.proxy_core.specs.Fates.{may_be_done};
+ghost use Rattle.proxy_core.specs.Guests.{entry_bytes};
+ghost use Rattle.proxy_core.specs.Queue.{LeavesFirst, first_reply, overtaken, settled, waiting};
+
+use crate::command::{Bytes, Command};
+use crate::outcome::{Fate, Outcome};
+use std::collections::VecDeque;
+
+/// One command of a guest, in its place.
+#[derive(Drop)]
+pub enum Entry<C, V> {
+    /// It waits to be asked.
+    Waits(C),
+    /// Its reply is there.
+    Reads(V),
+}
+
+impl<C: Bytes, V: Bytes> Entry<C, V> {
+    /// How many bytes of its guest's share it takes.
+    pub fn bytes(&self) -> usize
+        ensures { result ≡ entry_bytes C.bytes V.bytes self.now }
+    {
+        match self {
+            Entry::Waits(command) => command.bytes(),
+            Entry::Reads(reply) => reply.bytes(),
+        }
+    }
+}
+
+// Whether a command with this fate may have been done.
+fn may_be_done(fate: Fate) -> bool
+    ensures { result ≡ may_be_done fate }
+{
+    match fate {
+        Fate::Answered | Fate::Lost => true,
+        Fate::Redirected | Fate::NotAsked => false,
+    }
+}
+
+// Whether one of the first `count` commands behind `command` overtook it.
+fn is_overtaken<C: Command, V>(
+    command: &C,
+    behind: &VecDeque<Entry<C, V>>,
+    count: usize,
+    outcomes: &VecDeque<Outcome<V>>,
+) -> bool
+    requires { count ≤ length behind.now.items }
+    ensures { result ≡ overtaken C.overlaps command.now (take count behind.now.items) outcomes.now.items }
+{
+    let mut next = 0;
+    'behind: for i in 0..count {
+        match &behind[i] {
+            Entry::Reads(_) => {}
+            Entry::Waits(later) => {
+                let Some(outcome) = outcomes.get(next) else {
+                    return false;
+                };
+                if may_be_done(outcome.fate) && command.overlaps(later) {
+                    return true;
+                }
+                next += 1;
+            }
+        }
+    }
+    false
+}
+
+// What becomes of a command that waits, with `count` entries behind it.
+fn settle_one<C: Command, V: Drop>(
+    command: C,
+    behind: &VecDeque<Entry<C, V>>,
+    count: usize,
+    outcomes: &mut VecDeque<Outcome<V>>,
+) -> Entry<C, V>
+    requires { count ≤ length behind.now.items }
+    ensures next { outcomes.new.items ≡ drop 1 outcomes.old.items }
+    ensures entry { LeavesFirst C.overlaps command (take count behind.now.items)
+        outcomes.old.items outcomes.new.items result }
+{
+    let Some(outcome) = outcomes.pop_front() else {
+        return Entry::Waits(command);
+    };
+    if may_be_done(outcome.fate) || is_overtaken(&command, behind, count, outcomes) {
+        Entry::Reads(outcome.reply)
+    } else {
+        Entry::Waits(command)
+    }
+}
+
+/// Leaves the queue as a turn with these outcomes leaves it, and takes its own of them.
+pub(crate) fn settle<C: Command, V: Drop>(
+    entries: &mut VecDeque<Entry<C, V>>,
+    outcomes: &mut VecDeque<Outcome<V>>,
+)
+    ensures entries { entries.new.items ≡ settled C.overlaps entries.old.items outcomes.old.items }
+    ensures outcomes { outcomes.new.items ≡ drop (length (waiting entries.old.items)) outcomes.old.items }
+{
+    let count = entries.len();
+    'entries: for i in 0..count {
+        let Some(entry) = entries.pop_front() else {
+            break;
+        };
+        let left = match entry {
+            Entry::Waits(command) => settle_one(command, entries, count - 1 - i, outcomes),
+            Entry::Reads(reply) => Entry::Reads(reply),
+        };
+        entries.push_back_reserved(left);
+    }
+}
+
+/// Takes the first reply, where no command waits before it.
+pub(crate) fn take_first<C, V>(entries: &mut VecDeque<Entry<C, V>>) -> Option<V>
+    ensures first { result ≡ first_reply entries.old.items }
+    ensures rest { entries.new.items
+        ≡ (if is_some result then drop 1 entries.old.items else entries.old.items) }
+{
+    match entries.pop_front() {
+        Some(Entry::Reads(reply)) => Some(reply),
+        Some(Entry::Waits(command)) => {
+            entries.push_front_reserved(Entry::Waits(command));
+            None
+        }
+        None => None,
+    }
+}
