@@ -39,8 +39,8 @@ NodeByNode (group ∷ groups) xs =
     × MatchBool (list_any is_unanswered (take (length group) xs)) (drop (length group) xs ≡ [])
     (NodeByNode groups (drop (length group) xs))
 
--- the exchanges are those that a task makes, from its dispatches on; a refresh, a command to several nodes and
--- one to a node that is named follow no redirect
+-- the exchanges are those that a task makes, from its dispatches on; a refresh, a command to several nodes
+-- and one to a node that is named follow no redirect
 abbrev pub AreMade : Client → Task → List Dispatch → List Exchange → Type 0
 AreMade client (slot_map_of node) ds xs = requests xs ≡ map direct ds
 AreMade client (one_command command number order) ds xs = PartByPart client ds xs

@@ -20,8 +20,8 @@ use Rattle.cluster_calls.specs.Calls.Answer.{Answer, Value, Refreshed, Read, ans
 use Rattle.cluster_calls.specs.OneServer.Honest.{is_counted}
 use Rattle.cluster_calls.specs.OneServer.Operations.{Operation, ReadKeys, Response, Reply, Rows, run_each}
 
--- the calls whose keyspace is spoken of: not those to several nodes or to one that is named, nor commands that
--- any node may serve
+-- the calls whose keyspace is spoken of: not those to several nodes or to one that is named, nor commands
+-- that any node may serve
 abbrev pub is_any_node : Option Destination → Bool
 is_any_node (Some to_any_node) = true
 is_any_node _ = false

@@ -58,8 +58,8 @@ RefreshesSendOnce = (client : Client) (picks : List Address) (node : Address) (x
     → requests xs ≡ (if is_linked client.links node then direct (record { node = node; args = slots_command })
     ∷ [] else [])
 
--- A command to one node is sent once, as it is and to that node, whatever comes of it; not at all where it waits
--- for no response or no open link leads there.
+-- A command to one node is sent once, as it is and to that node, whatever comes of it; not at all where it
+-- waits for no response or no open link leads there.
 abbrev pub OneNodeIsAskedOnce : Type 0
 OneNodeIsAskedOnce = (client : Client) (picks : List Address) (node : Address) (command : Command)
     (xs : List Exchange) → IsLegalCall client picks (At node command) xs

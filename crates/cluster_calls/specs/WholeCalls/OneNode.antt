@@ -51,7 +51,8 @@ without_a_link_it_is_refused = refl
 abbrev pub unanswered : Command
 unanswered = record { args = Simple (codes "PING") ∷ []; cursor = None; no_response = true }
 
-pub want_of_a_response_comes_first : plan (client 1 halves []) [] (At n1 unanswered) ≡ Err (by_cause NoResponse)
+pub want_of_a_response_comes_first : plan (client 1 halves []) [] (At n1 unanswered)
+    ≡ Err (by_cause NoResponse)
 want_of_a_response_comes_first = refl
 
 pub it_makes_one_request : call_bound on_halves [] at_n1 ≡ 1
