@@ -25,6 +25,7 @@ pub mod Ordering
 pub mod OneCommand
 pub mod OneRequest
 pub mod Refreshing
+pub mod OneNode
 pub mod Stretched
 pub mod FirstCalls
 pub mod ClosedNodes

@@ -17,6 +17,7 @@ pub mod PipesOnce
 pub mod SentListsAre
 pub mod SentNoMore
 pub mod RefreshesOnce
+pub mod OneNodeOnce
 pub mod RefusedAsKind
 pub mod OneRun
 pub mod OneSpelling

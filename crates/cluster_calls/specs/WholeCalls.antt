@@ -6,6 +6,7 @@ pub mod Reads
 pub mod RedirectedCalls
 pub mod Pipelines
 pub mod SeveralNodes
+pub mod OneNode
 pub mod Checks
 pub mod WrongRules
 pub mod KeyRuns

@@ -11,7 +11,7 @@ ghost use Rattle.cluster_calls.specs.OneServer.Played.{PlayedAsOnOneServer};
 ghost use Rattle.cluster_calls.specs.OneServer.PlayedAmongOthers.{PlayedAmongOthers};
 ghost use Rattle.cluster_calls.specs.OneServer.PromisedPlays.{PromisedPlays};
 ghost use Rattle.cluster_calls.specs.OneServer.RefusedPlays.{PlaysAreRefused};
-ghost use Rattle.cluster_calls.specs.OneServer.Resending.{NoneIsSentAgain, PartsHaveTheirOwnSlots, PipelinesSendOnce, RefreshesSendOnce};
+ghost use Rattle.cluster_calls.specs.OneServer.Resending.{NoneIsSentAgain, PartsHaveTheirOwnSlots, PipelinesSendOnce, OneNodeIsAskedOnce, RefreshesSendOnce};
 ghost use Rattle.cluster_calls.specs.OneServer.RespelledPlays.{RespelledPlays};
 ghost use Rattle.cluster_calls.specs.OneServer.Respelling.{RespelledRuns};
 ghost use Rattle.cluster_calls.specs.OneServer.SentLists.{NoOtherLists};
@@ -133,6 +133,11 @@ pub fn pipelines_send_once()
 /// A refresh sends one request, and never again.
 pub fn refreshes_send_once()
     ensures { RefreshesSendOnce }
+{}
+
+/// A command to one node makes one request to it, and none where no open link leads there.
+pub fn one_node_is_asked_once()
+    ensures { OneNodeIsAskedOnce }
 {}
 
 /// A run is a run before any of its calls, and from there on.

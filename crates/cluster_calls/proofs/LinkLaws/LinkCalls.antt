@@ -8,7 +8,7 @@ use Rattle.cluster_calls.specs.Links.Request.{Request, requests_to}
 use Rattle.cluster_calls.specs.Links.World.{Node, link_at}
 use Rattle.cluster_calls.specs.Links.Leaves.{Leaves}
 use Rattle.cluster_calls.specs.Links.Events.{Event, AllTo, LinkCalled, Runs, log_of, calls_of}
-use Rattle.cluster_calls.specs.Calls.Task.{Task, slot_map_of, one_command, pipeline_of, several_nodes, read_of}
+use Rattle.cluster_calls.specs.Calls.Task.{Task, slot_map_of, one_command, pipeline_of, several_nodes, one_node, read_of}
 use Rattle.cluster_calls.specs.Links.Nodes.{in_one, link_calls}
 use Rattle.cluster_calls.specs.Links.Chains.{IsSingle}
 use Rattle.cluster_calls.proofs.LinkLaws.Addresses.{same_true}
@@ -74,6 +74,7 @@ link_calls_made old new xs (slot_map_of node) r h a = singles old new xs r h a
 link_calls_made old new xs (one_command command number order) r h a = singles old new xs r h a
 link_calls_made old new xs (pipeline_of entries) r h a = once old new xs r h a
 link_calls_made old new xs (several_nodes command) r h a = singles old new xs r h a
+link_calls_made old new xs (one_node node command) r h a = singles old new xs r h a
 link_calls_made old new xs (read_of options streams) r h a = singles old new xs r h a
 
 -- ---- nodes without a request, also where memory was refused

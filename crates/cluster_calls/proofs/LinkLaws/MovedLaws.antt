@@ -14,7 +14,7 @@ use Rattle.cluster_routing.specs.Lists.{IsDistinct}
 use Rattle.cluster_calls.specs.Links.Request.{Request, skipped}
 use Rattle.cluster_calls.specs.Links.Log.{Exchange, is_moved, is_moved_reply, has_lost}
 use Rattle.cluster_calls.specs.Links.World.{Node, World}
-use Rattle.cluster_calls.specs.Calls.Call.{Call, Refresh, Query, Ordered, Pipeline, FanOut, OnStreams}
+use Rattle.cluster_calls.specs.Calls.Call.{Call, Refresh, Query, Ordered, Pipeline, FanOut, At, OnStreams}
 use Rattle.cluster_calls.specs.Calls.Task.{task_of}
 use Rattle.cluster_calls.specs.Calls.Picks.{ArePicks}
 use Rattle.cluster_calls.specs.Calls.Legal.{IsLegalCall}
@@ -155,6 +155,7 @@ plain_map (Query command number) entries xs n = refl
 plain_map (Ordered command order number) entries xs n = refl
 plain_map (Pipeline commands) entries xs n = refl
 plain_map (FanOut command) entries xs n = refl
+plain_map (At node command) entries xs n = refl
 plain_map (OnStreams call) entries xs n = refl
 
 plain_flag : (old new : List Node) (xs : List Event) (place : ℕ) (call : Call) (flag : Bool) → is_refresh call ≡ false → lack_memory xs ≡ false → Runs old new xs → AreLinkCalls (task_of call) xs
@@ -164,6 +165,7 @@ plain_flag old new xs place (Query command number) flag n m r h = ap (λ b. flag
 plain_flag old new xs place (Ordered command order number) flag n m r h = ap (λ b. flag || b) (moved_singles old new xs place m r h)
 plain_flag old new xs place (Pipeline commands) flag n m r h = ap (λ b. flag || b) (moved_once old new xs place m r h)
 plain_flag old new xs place (FanOut command) flag n m r h = ap (λ b. flag || b) (moved_singles old new xs place m r h)
+plain_flag old new xs place (At node command) flag n m r h = ap (λ b. flag || b) (moved_singles old new xs place m r h)
 plain_flag old new xs place (OnStreams call) flag n m r h =
     ap (λ b. flag || b) (moved_singles old new xs place m r (stream_tasks (λ task. AreLinkCalls task xs → AllByRecursion IsSingle xs) (λ command number order a. a) (λ options streams a. a) call h))
 

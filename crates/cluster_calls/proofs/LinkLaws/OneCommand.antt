@@ -12,7 +12,7 @@ use Rattle.cluster_calls.specs.Links.Nodes.{link_calls}
 use Rattle.cluster_calls.specs.Links.Happened.{client_of, is_refresh, Answered, Happened, CallMade}
 use Rattle.cluster_calls.specs.Links.Run.{with_log}
 use Rattle.cluster_calls.specs.Calls.Call.{Call}
-use Rattle.cluster_calls.specs.Calls.Task.{Task, slot_map_of, one_command, pipeline_of, several_nodes, read_of, task_of}
+use Rattle.cluster_calls.specs.Calls.Task.{Task, slot_map_of, one_command, pipeline_of, several_nodes, one_node, read_of, task_of}
 use Rattle.cluster_calls.specs.Calls.Plan.{plan}
 use Rattle.cluster_calls.specs.Calls.Picks.{ArePicks}
 use Rattle.cluster_calls.specs.Calls.Answer.{Answer}
@@ -45,6 +45,7 @@ no_link_calls (slot_map_of node) = refl
 no_link_calls (one_command command number order) = refl
 no_link_calls (pipeline_of entries) = refl
 no_link_calls (several_nodes command) = refl
+no_link_calls (one_node node command) = refl
 no_link_calls (read_of options streams) = refl
 
 abbrev pub nothing_happened : (strategy : Option Strategy) (old new : World) (call : Call) → Untouched old new → Happened strategy old new call
@@ -82,6 +83,7 @@ unsent_answered strategy old new call refusal n u why m =
     no_calls (one_command command number order) = tt
     no_calls (pipeline_of entries) = tt
     no_calls (several_nodes command) = tt
+    no_calls (one_node node command) = tt
     no_calls (read_of options streams) = tt
 
 -- a check before sending was not met, or memory was refused before anything was sent

@@ -11,14 +11,14 @@ use Rattle.cluster_routing.specs.Routing.{destination}
 use Rattle.cluster_calls.specs.Links.Request.{Request, skipped}
 use Rattle.cluster_calls.specs.Links.Log.{Exchange, exchanges, left_after, left_after_all, reply_at, is_unanswered, is_answered, last_of, has_lost, behind_answers}
 use Rattle.cluster_calls.specs.Calls.Call.{Call}
-use Rattle.cluster_calls.specs.Calls.Task.{Task, slot_map_of, one_command, pipeline_of, several_nodes, read_of, task_of}
+use Rattle.cluster_calls.specs.Calls.Task.{Task, slot_map_of, one_command, pipeline_of, several_nodes, one_node, read_of, task_of}
 use Rattle.cluster_calls.specs.Calls.Parts.{result_then}
 use Rattle.cluster_calls.specs.Calls.Plan.{Client, plan}
 use Rattle.cluster_calls.specs.Calls.Legal.{IsLegalCall}
 use Rattle.cluster_calls.specs.Links.Faults.{LinkFault, refusal_by_fault}
 use Rattle.cluster_calls.specs.Links.Run.{whole_log}
 use Rattle.cluster_calls.specs.Calls.Replies.{outcome_by, outcomes, policy_in, reply_by_outcomes, in_pipeline_order, several_reply}
-use Rattle.cluster_calls.specs.Calls.Refusals.{refusal_in, refresh_refusal, last_refusal, pipeline_refusal, errors_from, sent_refusal}
+use Rattle.cluster_calls.specs.Calls.Refusals.{refusal_in, direct_refusal, last_refusal, pipeline_refusal, errors_from, sent_refusal}
 use Rattle.cluster_calls.specs.Calls.Answer.{answer_in, task_answer, tree_in, unless, answer_of}
 use Rattle.cluster_calls.specs.Calls.After.{client_after}
 use Rattle.cluster_calls.specs.OneServer.Headline.{PlayedCall, RepliedCall, with_replies_from, IsPlayedFrom}
@@ -88,11 +88,11 @@ module _ (faults faults' : Address → LinkFault) where
       ap (λ o. (x.request.node, o) ∷ outcomes faults xs) (outcome_same (faults x.request.node) (faults' x.request.node) x.reply h.0)
       ∙ ap (λ l. (x.request.node, outcome_by (faults' x.request.node) x.reply) ∷ l) (outcomes_same xs h.1)
 
-  refresh_one : (f g : LinkFault) (r : Option Tree) → (is_none r ≡ true → f ≡ g) → refresh_refusal f r ≡ refresh_refusal g r
-  refresh_one f g None h = ap (λ k. refresh_refusal k None) (h refl)
+  refresh_one : (f g : LinkFault) (r : Option Tree) → (is_none r ≡ true → f ≡ g) → direct_refusal f r ≡ direct_refusal g r
+  refresh_one f g None h = ap (λ k. direct_refusal k None) (h refl)
   refresh_one f g (Some tree) h = refl
 
-  refresh_same : (xs : List Exchange) → SameFaults xs → option_and_then (λ (x : Exchange). refresh_refusal (faults x.request.node) x.reply) (last_of xs) ≡ option_and_then (λ (x : Exchange). refresh_refusal (faults' x.request.node) x.reply) (last_of xs)
+  refresh_same : (xs : List Exchange) → SameFaults xs → option_and_then (λ (x : Exchange). direct_refusal (faults x.request.node) x.reply) (last_of xs) ≡ option_and_then (λ (x : Exchange). direct_refusal (faults' x.request.node) x.reply) (last_of xs)
   refresh_same [] h = refl
   refresh_same (x ∷ []) h = refresh_one (faults x.request.node) (faults' x.request.node) x.reply h.0
   refresh_same (x ∷ y ∷ xs) h = refresh_same (y ∷ xs) h.1
@@ -136,6 +136,7 @@ module _ (faults faults' : Address → LinkFault) where
       refused (one_command command number order) = part_last client (length (behind_answers xs)) (behind_answers xs) (behind_same xs h)
       refused (pipeline_of entries) = pipeline_same xs (errors_from 0 (in_pipeline_order entries xs)) h
       refused (several_nodes command) = ap refusal_in (several_same command xs h)
+      refused (one_node node command) = refresh_same xs h
       refused (read_of options streams) = part_last client (length (behind_answers xs)) (behind_answers xs) (behind_same xs h)
 
       told : (task : Task) → task_answer faults call task xs ≡ task_answer faults' call task xs
@@ -143,6 +144,7 @@ module _ (faults faults' : Address → LinkFault) where
       told (one_command command number order) = refl
       told (pipeline_of entries) = refl
       told (several_nodes command) = ap (λ r. option_and_then (answer_in call) (tree_in r)) (several_same command xs h)
+      told (one_node node command) = refl
       told (read_of options streams) = refl
 
   lost_first : (a : Address) (t : PlayedCall) (ts : List PlayedCall) (queues : Address → List Tree) (place : ℕ)

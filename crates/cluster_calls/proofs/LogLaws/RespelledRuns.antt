@@ -20,15 +20,15 @@ use Rattle.stream_commands.proofs.Respellings.{respelled_read_alike}
 use Rattle.cluster_calls.specs.Links.Request.{Request, requests_to}
 use Rattle.cluster_calls.specs.Links.Log.{Exchange, exchanges, left_after, left_after_all, reply_at, is_unanswered, last_of, has_lost}
 use Rattle.stream_commands.specs.Settings.{ReadSettings}
-use Rattle.cluster_calls.specs.Calls.Call.{Stream, Xadd, Xtrim, Xread, Xrange, Xclaim, Xautoclaim, Xpending, XinfoStream, XinfoGroups, XinfoConsumers, XdelEx, Call, Refresh, Query, Ordered, Pipeline, FanOut, OnStreams}
+use Rattle.cluster_calls.specs.Calls.Call.{Stream, Xadd, Xtrim, Xread, Xrange, Xclaim, Xautoclaim, Xpending, XinfoStream, XinfoGroups, XinfoConsumers, XdelEx, Call, Refresh, Query, Ordered, Pipeline, FanOut, At, OnStreams}
 use Rattle.stream_commands.specs.Commands.{plain_command}
-use Rattle.cluster_calls.specs.Calls.Task.{Task, slot_map_of, one_command, pipeline_of, several_nodes, read_of, task_of, sentence, sentence_task, is_by_key, stream_keys}
+use Rattle.cluster_calls.specs.Calls.Task.{Task, slot_map_of, one_command, pipeline_of, several_nodes, one_node, read_of, task_of, sentence, sentence_task, is_by_key, stream_keys}
 use Rattle.cluster_calls.specs.Calls.Parts.{result_then}
 use Rattle.cluster_calls.specs.Calls.Plan.{Client, plan}
 use Rattle.cluster_calls.specs.Calls.Legal.{IsLegalCall}
 use Rattle.cluster_calls.specs.Links.Faults.{LinkFault, refusal_by_fault}
 use Rattle.cluster_calls.specs.Calls.Replies.{outcome_by, outcomes, policy_in, reply_by_outcomes, in_pipeline_order, several_reply}
-use Rattle.cluster_calls.specs.Calls.Refusals.{refusal_in, refresh_refusal, pipeline_refusal, errors_from, sent_refusal}
+use Rattle.cluster_calls.specs.Calls.Refusals.{refusal_in, direct_refusal, pipeline_refusal, errors_from, sent_refusal}
 use Rattle.cluster_calls.specs.Calls.Answer.{Answer, Read, Range, Claim, answer_in, task_answer, tree_in, unless, answer_of}
 use Rattle.cluster_calls.specs.Calls.After.{map_after, links_after, client_after}
 use Rattle.cluster_calls.specs.OneServer.Headline.{PlayedCall, with_replies_from, IsPlayedFrom}
@@ -92,11 +92,11 @@ outcomes_same faults faults' [] h = refl
 outcomes_same faults faults' (x ∷ xs) h =
     ap (λ o. (x.request.node, o) ∷ outcomes faults xs) (outcome_same (faults x.request.node) (faults' x.request.node) x.reply h.0) ∙ ap (λ l. (x.request.node, outcome_by (faults' x.request.node) x.reply) ∷ l) (outcomes_same faults faults' xs h.1)
 
-refresh_same : (faults faults' : Address → LinkFault) (xs : List Exchange) → AreReplied xs → option_and_then (λ (x : Exchange). refresh_refusal (faults x.request.node) x.reply) (last_of xs) ≡ option_and_then (λ (x : Exchange). refresh_refusal (faults' x.request.node) x.reply) (last_of xs)
+refresh_same : (faults faults' : Address → LinkFault) (xs : List Exchange) → AreReplied xs → option_and_then (λ (x : Exchange). direct_refusal (faults x.request.node) x.reply) (last_of xs) ≡ option_and_then (λ (x : Exchange). direct_refusal (faults' x.request.node) x.reply) (last_of xs)
 refresh_same faults faults' [] h = refl
 refresh_same faults faults' (x ∷ []) h = by x.reply h.0
   where
-    by : (r : Option Tree) → is_none r ≡ false → refresh_refusal (faults x.request.node) r ≡ refresh_refusal (faults' x.request.node) r
+    by : (r : Option Tree) → is_none r ≡ false → direct_refusal (faults x.request.node) r ≡ direct_refusal (faults' x.request.node) r
     by None e = cc
     by (Some tree) e = refl
 refresh_same faults faults' (x ∷ y ∷ xs) h = refresh_same faults faults' (y ∷ xs) h.1
@@ -135,6 +135,7 @@ exact_answers client picks faults faults' call xs ys h =
     refused (one_command command number order) = part_refusal_alike None client faults faults' xs xs itself
     refused (pipeline_of entries) = pipeline_same faults faults' xs (errors_from 0 (in_pipeline_order entries xs)) fine
     refused (several_nodes command) = ap refusal_in (several_same faults faults' command xs fine)
+    refused (one_node node command) = refresh_same faults faults' xs fine
     refused (read_of options streams) = part_refusal_alike None client faults faults' xs xs itself
 
     told_same : (task : Task) → task_answer faults call task xs ≡ task_answer faults' call task xs
@@ -142,6 +143,7 @@ exact_answers client picks faults faults' call xs ys h =
     told_same (one_command command number order) = refl
     told_same (pipeline_of entries) = refl
     told_same (several_nodes command) = ap (λ r. option_and_then (answer_in call) (tree_in r)) (several_same faults faults' command xs fine)
+    told_same (one_node node command) = refl
     told_same (read_of options streams) = refl
 
 -- ---- the calls whose replies may be respelled
@@ -160,6 +162,7 @@ answers_alike client picks faults faults' (Query command number) xs ys h = exact
 answers_alike client picks faults faults' (Ordered command order number) xs ys h = exact_answers client picks faults faults' (Ordered command order number) xs ys h
 answers_alike client picks faults faults' (Pipeline entries) xs ys h = exact_answers client picks faults faults' (Pipeline entries) xs ys h
 answers_alike client picks faults faults' (FanOut command) xs ys h = exact_answers client picks faults faults' (FanOut command) xs ys h
+answers_alike client picks faults faults' (At node command) xs ys h = exact_answers client picks faults faults' (At node command) xs ys h
 answers_alike client picks faults faults' (OnStreams (Xadd key options id fields)) xs ys h = exact_answers client picks faults faults' (OnStreams (Xadd key options id fields)) xs ys h
 answers_alike client picks faults faults' (OnStreams (Xtrim key options)) xs ys h = exact_answers client picks faults faults' (OnStreams (Xtrim key options)) xs ys h
 answers_alike client picks faults faults' (OnStreams (Xread streams options)) xs ys h = by (is_by_key options (stream_keys streams)) refl
@@ -215,6 +218,7 @@ map_alike entries (Query command number) xs ys h = refl
 map_alike entries (Ordered command order number) xs ys h = refl
 map_alike entries (Pipeline es) xs ys h = refl
 map_alike entries (FanOut command) xs ys h = refl
+map_alike entries (At node command) xs ys h = refl
 map_alike entries (OnStreams call) xs ys h = refl
 
 client_alike : (client : Client) (call : Call) (xs ys : List Exchange) → Pairwise (AlikeExchange (respelling call)) xs ys → client_after client call xs ≡ client_after client call ys

@@ -8,7 +8,7 @@ use Rattle.cluster_routing.specs.Address.{Address}
 use Rattle.cluster_calls.specs.Links.Request.{Request}
 use Rattle.cluster_calls.specs.Links.Log.{Exchange, requests, exchanges, left_after, reply_at, is_answered, is_unanswered}
 use Rattle.cluster_calls.specs.Calls.Call.{Call}
-use Rattle.cluster_calls.specs.Calls.Task.{Task, slot_map_of, one_command, pipeline_of, several_nodes, read_of, task_of}
+use Rattle.cluster_calls.specs.Calls.Task.{Task, slot_map_of, one_command, pipeline_of, several_nodes, one_node, read_of, task_of}
 use Rattle.cluster_calls.specs.Calls.Plan.{Client, Dispatch, plan}
 use Rattle.cluster_calls.specs.Calls.Redirects.{Hop, Next, Stays, Lost, Goes, next_of, MatchNext, FollowsRedirects}
 use Rattle.cluster_calls.specs.Calls.Legal.{first_hop, direct, PartByPart, NodeByNode, node_groups, AreMade, IsLegalCall}
@@ -112,6 +112,7 @@ made_log client (slot_map_of node) ds = same_requests ds
 made_log client (one_command command number order) ds = parts_log client ds
 made_log client (pipeline_of entries) ds = nodes_log (node_groups ds)
 made_log client (several_nodes command) ds = same_requests ds
+made_log client (one_node node command) ds = same_requests ds
 made_log client (read_of options streams) ds = parts_log client ds
 
 pub replies_determine_logs : (client : Client) (picks : List Address) (call : Call) (queues : Address → List Tree) (place : ℕ) (left right : List Request)

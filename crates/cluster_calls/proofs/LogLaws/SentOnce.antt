@@ -19,7 +19,7 @@ use Rattle.cluster_calls.specs.Links.Log.{Exchange, requests, is_unanswered}
 use Rattle.cluster_calls.specs.Links.Request.{Request, slots_command}
 use Rattle.cluster_calls.specs.Links.World.{is_linked}
 use Rattle.cluster_calls.specs.Calls.Call.{Call, Entry}
-use Rattle.cluster_calls.specs.Calls.Task.{Task, slot_map_of, one_command, pipeline_of, several_nodes, read_of, task_of}
+use Rattle.cluster_calls.specs.Calls.Task.{Task, slot_map_of, one_command, pipeline_of, several_nodes, one_node, read_of, task_of}
 use Rattle.cluster_calls.specs.Calls.Parts.{Part, part_to, at_node, to_nodes, node_parts, with_whole, whole_part, reads_several_slots, if_one_slot, parts_of, pipeline_parts}
 use Rattle.cluster_calls.specs.Calls.Plan.{Client, Dispatch, with_first, dispatches, plan}
 use Rattle.cluster_calls.specs.Calls.Legal.{direct, nodes_in_use, node_groups, NodeByNode, AreMade, IsLegalCall}
@@ -124,16 +124,32 @@ pipeline_bound client picks call entries ds xs t e h =
     let k = grouped_bound (nodes_in_use ds) (firsts_distinct same_address (map (λ (d : Dispatch). d.node) ds)) ds in
     omega (arith, a, b, c, g, k)
 
+-- one part has one request
+one_part_bound : (client : Client) (picks : List Address) (task : Task) (ds : List Dispatch) (xs : List Exchange) (p : Planned client picks task ds) → length p.found ≡ length ds → (part : Part) → part ∷ [] ≡ p.parts
+    → requests xs ≡ map direct ds → length xs ≤ 1
+one_part_bound client picks task ds xs p c part one h =
+    let a : 1 ≡ length p.parts = ap length one in
+    let b : length p.parts ≡ length p.found = pair_length IsFor p.parts p.found (dispatches_for client p.parts picks p.found p.found_are) in
+    let d = sent_length xs ds h in
+    omega (arith, a, b, c, d)
+
 refresh_bound : (client : Client) (picks : List Address) (call : Call) (node : Address) (ds : List Dispatch) (xs : List Exchange) → task_of call ≡ slot_map_of node → plan client picks call ≡ Ok ds
     → requests xs ≡ map direct ds → length xs ≤ 1
 refresh_bound client picks call node ds xs t e h =
     let p = subst (λ task. Planned client picks task ds) t (planned client picks call ds e) in
     let one : part_to slots_command (at_node node) ∷ [] ≡ p.parts = let f = p.parts_are in cc in
-    let a : 1 ≡ length p.parts = ap length one in
-    let b : length p.parts ≡ length p.found = pair_length IsFor p.parts p.found (dispatches_for client p.parts picks p.found p.found_are) in
-    let c : length p.found ≡ length ds = ap length p.ordered in
-    let d = sent_length xs ds h in
-    omega (arith, a, b, c, d)
+    one_part_bound client picks (slot_map_of node) ds xs p (ap length p.ordered) (part_to slots_command (at_node node)) one h
+
+one_node_bound : (client : Client) (picks : List Address) (call : Call) (node : Address) (command : Command) (ds : List Dispatch) (xs : List Exchange) → task_of call ≡ one_node node command → plan client picks call ≡ Ok ds
+    → requests xs ≡ map direct ds → length xs ≤ 1
+one_node_bound client picks call node command ds xs t e h = by command.no_response p.parts_are
+  where
+    p : Planned client picks (one_node node command) ds
+    p = subst (λ task. Planned client picks task ds) t (planned client picks call ds e)
+
+    by : (b : Bool) → cond b (Err (by_cause NoResponse)) (Ok (part_to (sent command) (at_node node) ∷ [])) ≡ Ok p.parts → length xs ≤ 1
+    by true f = cc
+    by false f = one_part_bound client picks (one_node node command) ds xs p (ap length p.ordered) (part_to (sent command) (at_node node)) (cc) h
 
 pub requests_are_bounded : (client : Client) (picks : List Address) (call : Call) (ds : List Dispatch) (xs : List Exchange)
     → plan client picks call ≡ Ok ds → IsLegalCall client picks call xs → length xs ≤ request_bound client.settings.budget (length ds) (task_of call)
@@ -144,6 +160,7 @@ requests_are_bounded client picks call ds xs e legal = by (task_of call) refl (s
     by (one_command command number order) t m = parts_bound client ds xs m
     by (pipeline_of entries) t m = pipeline_bound client picks call entries ds xs t e m
     by (several_nodes command) t m = let s = sent_length xs ds m in omega (arith, s)
+    by (one_node node command) t m = one_node_bound client picks call node command ds xs t e m
     by (read_of options streams) t m = parts_bound client ds xs m
 
 -- ---- several nodes

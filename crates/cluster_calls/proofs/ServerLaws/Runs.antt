@@ -8,7 +8,7 @@ use Rattle.cluster_routing.specs.Choice.{Strategy}
 use Rattle.cluster_routing.specs.Lists.{concat, is_distinct, Pairwise}
 use Rattle.cluster_routing.specs.Policies.{or_bad_reply}
 use Rattle.cluster_calls.specs.Links.Log.{Exchange}
-use Rattle.cluster_calls.specs.Calls.Call.{Stream, Xadd, Xtrim, Xread, Xrange, Xclaim, Xautoclaim, Xpending, XinfoStream, XinfoGroups, XinfoConsumers, XdelEx, Call, Refresh, Query, Ordered, Pipeline, FanOut, OnStreams}
+use Rattle.cluster_calls.specs.Calls.Call.{Stream, Xadd, Xtrim, Xread, Xrange, Xclaim, Xautoclaim, Xpending, XinfoStream, XinfoGroups, XinfoConsumers, XdelEx, Call, Refresh, Query, Ordered, Pipeline, FanOut, At, OnStreams}
 use Rattle.stream_commands.specs.Settings.{ReadSettings}
 use Rattle.cluster_calls.specs.Calls.Task.{read_of, task_of, sentence_task, is_by_key, stream_keys}
 use Rattle.cluster_calls.specs.Calls.Parts.{result_then}
@@ -69,6 +69,7 @@ reads_differ (Query command number) options streams t = cc
 reads_differ (Ordered command order number) options streams t = cc
 reads_differ (Pipeline entries) options streams t = cc
 reads_differ (FanOut command) options streams t = cc
+reads_differ (At node command) options streams t = cc
 reads_differ (OnStreams (Xadd key settings id fields)) options streams t = cc
 reads_differ (OnStreams (Xtrim key settings)) options streams t = cc
 reads_differ (OnStreams (Xread read settings)) options streams t = by (is_by_key settings (stream_keys read)) refl t
@@ -98,6 +99,7 @@ call_served client faults meaning moves done picks (OnStreams call) xs gaps s le
     (λ options streams t h. read_served client faults meaning moves done picks options streams (reads_differ (OnStreams call) options streams t) (OnStreams call) t xs h legal) call refl honest
 call_served client faults meaning moves done picks (Pipeline entries) xs gaps s legal honest = pipeline_served client faults meaning moves done picks entries xs gaps legal honest
 call_served client faults meaning moves done picks (FanOut command) xs gaps s legal honest = absurd (false≢true s)
+call_served client faults meaning moves done picks (At node command) xs gaps s legal honest = absurd (false≢true s)
 call_served client faults meaning moves done picks (Refresh node) xs gaps s legal honest = by (plan client picks (Refresh node)) (sent_refusal client faults (task_of (Refresh node)) xs)
   where
     by : (o : Result (List Dispatch) Refusal) (r : Option Refusal) → CallServed meaning done (Refresh node) (result_then o (λ ds. unless r (Ok Refreshed))) xs moves

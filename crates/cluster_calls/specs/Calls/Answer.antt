@@ -18,11 +18,11 @@ use Rattle.stream_commands.specs.StatusCodes.{status}
 use Rattle.cluster_routing.specs.Policies.{or_bad_reply}
 use Rattle.cluster_calls.specs.Links.Log.{Exchange, is_answered}
 use Rattle.cluster_calls.specs.Calls.Call.{StreamCall, Xadd, Xtrim, Xread, Xrange, Xclaim, Xautoclaim, Xpending, XinfoStream, XinfoGroups, XinfoConsumers, XdelEx, Call, Refresh, OnStreams}
-use Rattle.cluster_calls.specs.Calls.Task.{Task, slot_map_of, one_command, pipeline_of, several_nodes, read_of, task_of}
+use Rattle.cluster_calls.specs.Calls.Task.{Task, slot_map_of, one_command, pipeline_of, several_nodes, one_node, read_of, task_of}
 use Rattle.cluster_calls.specs.Calls.Parts.{result_then}
 use Rattle.cluster_calls.specs.Calls.Plan.{Client, plan}
 use Rattle.cluster_calls.specs.Links.Faults.{LinkFault}
-use Rattle.cluster_calls.specs.Calls.Replies.{part_replies, reply_of_parts, pipeline_reply, several_reply}
+use Rattle.cluster_calls.specs.Calls.Replies.{part_replies, reply_of_parts, only_reply, pipeline_reply, several_reply}
 use Rattle.cluster_calls.specs.Calls.Reads.{read_rows}
 use Rattle.cluster_calls.specs.Calls.Refusals.{refusal_in, sent_refusal}
 
@@ -83,6 +83,7 @@ reply_of faults (slot_map_of node) xs = Some nil
 reply_of faults (one_command command number order) xs = reply_of_parts (sent command) (part_replies xs)
 reply_of faults (pipeline_of entries) xs = Some (pipeline_reply entries xs)
 reply_of faults (several_nodes command) xs = tree_in (several_reply faults command xs)
+reply_of faults (one_node node command) xs = only_reply xs
 reply_of faults (read_of options streams) xs = None
 
 abbrev pub task_answer : (Address → LinkFault) → Call → Task → List Exchange → Option Answer

@@ -7,7 +7,7 @@ use Rattle.cluster_routing.specs.Lists.{firsts}
 use Rattle.cluster_calls.specs.Links.Request.{Request}
 use Rattle.cluster_calls.specs.Links.Log.{Exchange, requests, is_answered, is_unanswered}
 use Rattle.cluster_calls.specs.Calls.Call.{Call}
-use Rattle.cluster_calls.specs.Calls.Task.{Task, slot_map_of, one_command, pipeline_of, several_nodes, read_of, task_of}
+use Rattle.cluster_calls.specs.Calls.Task.{Task, slot_map_of, one_command, pipeline_of, several_nodes, one_node, read_of, task_of}
 use Rattle.cluster_calls.specs.Calls.Plan.{Client, Dispatch, plan}
 use Rattle.cluster_calls.specs.Calls.Redirects.{Hop, FollowsRedirects}
 
@@ -39,13 +39,14 @@ NodeByNode (group ∷ groups) xs =
     × MatchBool (list_any is_unanswered (take (length group) xs)) (drop (length group) xs ≡ [])
     (NodeByNode groups (drop (length group) xs))
 
--- the exchanges are those that a task makes, from its dispatches on; a refresh and a command to several nodes
--- follow no redirect
+-- the exchanges are those that a task makes, from its dispatches on; a refresh, a command to several nodes
+-- and one to a node that is named follow no redirect
 abbrev pub AreMade : Client → Task → List Dispatch → List Exchange → Type 0
 AreMade client (slot_map_of node) ds xs = requests xs ≡ map direct ds
 AreMade client (one_command command number order) ds xs = PartByPart client ds xs
 AreMade client (pipeline_of entries) ds xs = NodeByNode (node_groups ds) xs
 AreMade client (several_nodes command) ds xs = requests xs ≡ map direct ds
+AreMade client (one_node node command) ds xs = requests xs ≡ map direct ds
 AreMade client (read_of options streams) ds xs = PartByPart client ds xs
 
 -- a call that is refused before sending makes no request

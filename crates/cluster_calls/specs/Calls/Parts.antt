@@ -23,7 +23,7 @@ use Rattle.stream_commands.specs.Settings.{ReadSettings}
 use Rattle.cluster_calls.specs.Links.Request.{slots_command}
 use Rattle.cluster_calls.specs.Calls.Call.{Entry, Stream}
 use Rattle.cluster_calls.specs.Calls.Reads.{stream_slots, streams_at}
-use Rattle.cluster_calls.specs.Calls.Task.{Task, slot_map_of, one_command, pipeline_of, several_nodes, read_of, stream_keys, stream_ids, are_of_one_slot}
+use Rattle.cluster_calls.specs.Calls.Task.{Task, slot_map_of, one_command, pipeline_of, several_nodes, one_node, read_of, stream_keys, stream_ids, are_of_one_slot}
 
 -- where a part goes first: to its slot, to the node with this number among all, or to a node
 pub data Target : Type 0 where
@@ -138,6 +138,12 @@ node_parts entries args (Some (to_all_nodes policy)) = to_nodes args (all_nodes 
 node_parts entries args (Some (to_all_primaries policy)) = to_nodes args (all_primaries entries)
 node_parts entries args _ = Err (by_cause NoRoute)
 
+-- ---- one node: the command as it is, wherever its keys are
+
+abbrev pub node_part : Address → Command → Result (List Part) Refusal
+node_part node command = if command.no_response then Err (by_cause NoResponse)
+    else Ok (part_to (sent command) (at_node node) ∷ [])
+
 -- ---- reads of streams: a read for each slot, of its streams in the call's order
 
 abbrev pub read_part : SlotAddr → ReadSettings → List Stream → ℕ → Part
@@ -160,3 +166,4 @@ task_parts read_only entries (read_of options streams) = Ok (read_parts read_onl
 task_parts read_only entries (several_nodes command) =
     if command.no_response then Err (by_cause NoResponse)
     else node_parts entries (sent command) (destination command.args read_only)
+task_parts read_only entries (one_node node command) = node_part node command

@@ -6,7 +6,7 @@ use Rattle.resp_core.specs.Parts.{first_error}
 use Rattle.resp_core.specs.declared.errors.redis_error.Cause.TheVariants.{NoLink}
 use Rattle.cluster_routing.specs.Address.{Address}
 use Rattle.cluster_calls.specs.Links.Log.{Exchange, is_unanswered, last_of, behind_answers}
-use Rattle.cluster_calls.specs.Calls.Task.{Task, slot_map_of, one_command, pipeline_of, several_nodes, read_of}
+use Rattle.cluster_calls.specs.Calls.Task.{Task, slot_map_of, one_command, pipeline_of, several_nodes, one_node, read_of}
 use Rattle.cluster_calls.specs.Calls.Plan.{Client}
 use Rattle.cluster_calls.specs.Calls.Redirects.{Next, Lost, next_of}
 use Rattle.cluster_calls.specs.Links.Faults.{LinkFault, refusal_by_fault}
@@ -34,11 +34,16 @@ abbrev pub part_refusal : Client → (Address → LinkFault) → List Exchange �
 part_refusal client faults xs = option_and_then
     (λ (x : Exchange). last_refusal client (length xs) (faults x.request.node) x.reply) (last_of xs)
 
--- ---- refreshes: no redirect is followed, and each error in the reply refuses
+-- ---- refreshes, and commands to one node: no redirect is followed, and each error in the reply refuses
 
-abbrev pub refresh_refusal : LinkFault → Option Tree → Option Refusal
-refresh_refusal fault None = Some (refusal_by_fault fault)
-refresh_refusal fault (Some tree) = reply_error tree
+abbrev pub direct_refusal : LinkFault → Option Tree → Option Refusal
+direct_refusal fault None = Some (refusal_by_fault fault)
+direct_refusal fault (Some tree) = reply_error tree
+
+-- by the last request, which is the only one
+abbrev pub only_refusal : (Address → LinkFault) → List Exchange → Option Refusal
+only_refusal faults xs = option_and_then
+    (λ (x : Exchange). direct_refusal (faults x.request.node) x.reply) (last_of xs)
 
 -- ---- pipelines: the first link's fault, else all positions whose reply holds an error, each with its first
 
@@ -63,11 +68,11 @@ pipeline_refusal faults (x ∷ xs) errors = if is_unanswered x
 -- ---- all
 
 abbrev pub sent_refusal : Client → (Address → LinkFault) → Task → List Exchange → Option Refusal
-sent_refusal client faults (slot_map_of node) xs = option_and_then
-    (λ (x : Exchange). refresh_refusal (faults x.request.node) x.reply) (last_of xs)
+sent_refusal client faults (slot_map_of node) xs = only_refusal faults xs
 sent_refusal client faults (one_command command number order) xs = part_refusal client faults
     (behind_answers xs)
 sent_refusal client faults (pipeline_of entries) xs = pipeline_refusal faults xs
     (errors_from 0 (in_pipeline_order entries xs))
 sent_refusal client faults (several_nodes command) xs = refusal_in (several_reply faults command xs)
+sent_refusal client faults (one_node node command) xs = only_refusal faults xs
 sent_refusal client faults (read_of options streams) xs = part_refusal client faults (behind_answers xs)

@@ -14,7 +14,7 @@ use Rattle.cluster_routing.specs.Lists.{draw}
 use Rattle.cluster_routing.specs.Split.{Split, split_of}
 use Rattle.cluster_routing.specs.Combine.{PartReply, combine, array_of}
 use Rattle.cluster_routing.specs.Policies.{Outcome, bad_reply, combine_outcomes}
-use Rattle.cluster_calls.specs.Links.Log.{Exchange, is_answered}
+use Rattle.cluster_calls.specs.Links.Log.{Exchange, is_answered, last_of}
 use Rattle.cluster_calls.specs.Calls.Call.{Entry}
 use Rattle.cluster_calls.specs.Links.Faults.{LinkFault, refusal_by_fault}
 
@@ -54,6 +54,12 @@ reply_by_split None _ = None
 -- the reply to a command from those of its parts
 abbrev pub reply_of_parts : List (List ℕ) → List PartReply → Option Tree
 reply_of_parts args replies = reply_by_split (split_of args) replies
+
+-- ---- one node
+
+-- the reply to the only request
+abbrev pub only_reply : List Exchange → Option Tree
+only_reply xs = option_and_then (λ (x : Exchange). x.reply) (last_of xs)
 
 -- ---- pipelines
 

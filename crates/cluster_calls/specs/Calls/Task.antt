@@ -1,5 +1,5 @@
 -- What a call comes down to: a command or a read of streams part by part, a pipeline, a command to several
--- nodes, or a request for the slot map.
+-- nodes or to one, or a request for the slot map.
 use Rattle.std.specs.Prelude.{ℕ, Bool, false, not, ◌&&◌, ◌||◌, ◌==◌, nat_eq, nat_lt, bytes_eq, if◌then◌else◌, List, [], ◌∷◌, map, length, Option, Some, None, is_none, codes}
 use Rattle.resp_core.specs.Errors.{Refusal, by_cause}
 use Rattle.resp_core.specs.declared.errors.redis_error.Cause.{Cause}
@@ -12,7 +12,7 @@ use Rattle.cluster_routing.specs.Lists.{firsts, is_distinct}
 use Rattle.stream_commands.specs.Settings.{GroupNames, ReadSettings}
 use Rattle.stream_commands.specs.Commands as commands
 use Rattle.stream_commands.specs.Commands.{plain_command}
-use Rattle.cluster_calls.specs.Calls.Call.{Entry, Stream, StreamCall, Xadd, Xtrim, Xread, Xrange, Xclaim, Xautoclaim, Xpending, XinfoStream, XinfoGroups, XinfoConsumers, XdelEx, Call, Refresh, Query, Ordered, Pipeline, FanOut, OnStreams}
+use Rattle.cluster_calls.specs.Calls.Call.{Entry, Stream, StreamCall, Xadd, Xtrim, Xread, Xrange, Xclaim, Xautoclaim, Xpending, XinfoStream, XinfoGroups, XinfoConsumers, XdelEx, Call, Refresh, Query, Ordered, Pipeline, FanOut, At, OnStreams}
 
 -- ---- sentences of calls on streams
 
@@ -86,6 +86,8 @@ pub data Task : Type 0 where
   one_command : (command : Command) → (number : ℕ) → (order : Option (List ℕ)) → Task
   pipeline_of : (entries : List Entry) → Task
   several_nodes : (command : Command) → Task
+  -- as it is, to a node that the caller names
+  one_node : (node : Address) → (command : Command) → Task
   -- streams, one part for each slot of their keys, as they first appear
   read_of : (options : ReadSettings) → (streams : List Stream) → Task
 
@@ -104,4 +106,5 @@ task_of (Query command number) = one_command command number None
 task_of (Ordered command order number) = one_command command number (Some order)
 task_of (Pipeline entries) = pipeline_of entries
 task_of (FanOut command) = several_nodes command
+task_of (At node command) = one_node node command
 task_of (OnStreams call) = stream_task call

@@ -13,14 +13,15 @@ use Rattle.stream_commands.specs.ReadReply.{Row}
 use Rattle.stream_commands.specs.Settings.{ReadSettings}
 use Rattle.cluster_calls.specs.Links.Log.{Exchange}
 use Rattle.cluster_calls.specs.Calls.Call.{Entry, Stream, Call}
-use Rattle.cluster_calls.specs.Calls.Task.{Task, slot_map_of, one_command, pipeline_of, several_nodes, read_of, task_of}
+use Rattle.cluster_calls.specs.Calls.Task.{Task, slot_map_of, one_command, pipeline_of, several_nodes, one_node, read_of, task_of}
 use Rattle.cluster_calls.specs.Calls.Reads.{read_slot}
 use Rattle.cluster_calls.specs.Calls.Replies.{exchange_slot, in_pipeline_order, not_ignored}
 use Rattle.cluster_calls.specs.Calls.Answer.{Answer, Value, Refreshed, Read, answer_in}
 use Rattle.cluster_calls.specs.OneServer.Honest.{is_counted}
 use Rattle.cluster_calls.specs.OneServer.Operations.{Operation, ReadKeys, Response, Reply, Rows, run_each}
 
--- the calls whose keyspace is spoken of: not those to several nodes, nor commands that any node may serve
+-- the calls whose keyspace is spoken of: not those to several nodes or to one that is named, nor commands
+-- that any node may serve
 abbrev pub is_any_node : Option Destination → Bool
 is_any_node (Some to_any_node) = true
 is_any_node _ = false
@@ -28,6 +29,7 @@ is_any_node _ = false
 abbrev pub is_task_on_slots : Task → Bool
 is_task_on_slots (one_command command number order) = not (is_any_node (destination command.args []))
 is_task_on_slots (several_nodes command) = false
+is_task_on_slots (one_node node command) = false
 is_task_on_slots (pipeline_of entries) = true
 is_task_on_slots (slot_map_of node) = true
 is_task_on_slots (read_of options streams) = true
@@ -103,6 +105,7 @@ IsTaskAnswer call (one_command command number order) answer responses = (tree : 
 IsTaskAnswer call (pipeline_of entries) answer responses = (trees : List Tree) × (responses ≡ map Reply trees)
     × (answer ≡ Value (array_of (not_ignored entries trees)))
 IsTaskAnswer call (several_nodes command) answer responses = ⊥
+IsTaskAnswer call (one_node node command) answer responses = ⊥
 IsTaskAnswer call (read_of options streams) answer responses = (rows : List Row)
     × (responses ≡ Rows (Some rows) ∷ []) × (answer ≡ Read rows)
 

@@ -1,13 +1,16 @@
--- What is sent again, and what never is: of a command in parts, of a pipeline, of a refresh.
-use Rattle.std.specs.Prelude.{◌≡◌, ◌≢◌, ℕ, true, false, if◌then◌else◌, nat_eq, List, [], ◌∷◌, ◌++◌, map, None, Ok}
+-- What is sent again, and what never is: of a command in parts, of a pipeline, of a refresh, of a command to
+-- one node.
+use Rattle.std.specs.Prelude.{◌≡◌, ◌≢◌, ℕ, true, false, not, ◌&&◌, if◌then◌else◌, nat_eq, List, [], ◌∷◌, ◌++◌, map, None, Ok}
 use Rattle.std.specs.List.{list_any, AllByRecursion}
+use Rattle.resp_args.specs.Command.{Command}
+use Rattle.resp_args.specs.Packed.{sent}
 use Rattle.cluster_routing.specs.Address.{Address}
 use Rattle.cluster_routing.specs.Lists.{concat, IsDistinct}
 use Rattle.cluster_calls.specs.Links.Faults.{LinkFault}
 use Rattle.cluster_calls.specs.Links.Log.{Exchange, requests, is_unanswered}
 use Rattle.cluster_calls.specs.Links.Request.{slots_command}
 use Rattle.cluster_calls.specs.Links.World.{is_linked}
-use Rattle.cluster_calls.specs.Calls.Call.{Entry, Call, Refresh}
+use Rattle.cluster_calls.specs.Calls.Call.{Entry, Call, Refresh, At}
 use Rattle.cluster_calls.specs.Calls.Legal.{direct, node_groups, IsLegalCall}
 use Rattle.cluster_calls.specs.Calls.Plan.{Client, Dispatch, plan}
 use Rattle.cluster_calls.specs.Calls.Reads.{read_slot}
@@ -54,3 +57,11 @@ RefreshesSendOnce = (client : Client) (picks : List Address) (node : Address) (x
     → IsLegalCall client picks (Refresh node) xs
     → requests xs ≡ (if is_linked client.links node then direct (record { node = node; args = slots_command })
     ∷ [] else [])
+
+-- A command to one node is sent once, as it is and to that node, whatever comes of it; not at all where it
+-- waits for no response or no open link leads there.
+abbrev pub OneNodeIsAskedOnce : Type 0
+OneNodeIsAskedOnce = (client : Client) (picks : List Address) (node : Address) (command : Command)
+    (xs : List Exchange) → IsLegalCall client picks (At node command) xs
+    → requests xs ≡ (if not command.no_response && is_linked client.links node
+    then direct (record { node = node; args = sent command }) ∷ [] else [])
