@@ -30,3 +30,4 @@ pub mod FirstCalls
 pub mod ClosedNodes
 pub mod Unpicked
 pub mod ReadMade
+pub mod Told

@@ -22,3 +22,6 @@ pub mod OneRun
 pub mod OneSpelling
 pub mod PromisedPlays
 pub mod StreamTasks
+pub mod EachPosition
+pub mod Fates
+pub mod EachAnswer
