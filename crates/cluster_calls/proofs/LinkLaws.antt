@@ -31,3 +31,4 @@ pub mod FirstCalls
 pub mod ClosedNodes
 pub mod Unpicked
 pub mod ReadMade
+pub mod Told

@@ -23,3 +23,6 @@ pub mod OneRun
 pub mod OneSpelling
 pub mod PromisedPlays
 pub mod StreamTasks
+pub mod EachPosition
+pub mod Fates
+pub mod EachAnswer

@@ -22,3 +22,4 @@ pub mod Orders
 pub mod Taken
 pub mod Building
 pub mod PipeReplies
+pub mod EachMade

@@ -20,3 +20,4 @@ pub mod Resending
 pub mod RefusedPlays
 pub mod ClosedLinks
 pub mod PromisedPlays
+pub mod Fates

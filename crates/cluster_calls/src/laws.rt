@@ -4,6 +4,7 @@ ghost use Rattle.cluster_calls.specs.Links.Leaves.{UnaskedNodesStay};
 ghost use Rattle.cluster_calls.specs.OneServer.AmongOthers.{AnswersAmongOthers, UnsplitRunsStay};
 ghost use Rattle.cluster_calls.specs.OneServer.Bounds.{CallsAreBounded, PlaysAreBounded};
 ghost use Rattle.cluster_calls.specs.OneServer.ClosedLinks.{ClosedLinksChangeNothing};
+ghost use Rattle.cluster_calls.specs.OneServer.Fates.{EachPositionHasItsFate, OutcomesMakeTheAnswer};
 ghost use Rattle.cluster_calls.specs.OneServer.Headline.{AnswersAndKeyspace, Refusals};
 ghost use Rattle.cluster_calls.specs.OneServer.Laws.{HistoriesAreBySlot, EachPartIsAnsweredOnce, GapsNameNoKey, JoinIsTheWhole, NodesKeepHistories, NodesOnceAscending, OneServerIsDetermined, OnlyRedirectsRepeat, PartsKeepHistories, RequestsAreBounded, RunsAgree};
 ghost use Rattle.cluster_calls.specs.OneServer.OneCall.{OneCallAmongOthers, OneCallAsOnOneServer, RepliesDetermineLogs};
@@ -225,4 +226,15 @@ pub fn join_is_the_whole()
 /// and send each node the same bytes.
 pub fn promised_plays()
     ensures { PromisedPlays }
+{}
+
+/// What a pipeline that tells of each position ensures lets its caller know of each whether it was done,
+/// was not done, or may have been done, also where memory is refused.
+pub fn each_position_has_its_fate()
+    ensures { EachPositionHasItsFate }
+{}
+
+/// The one answer to a pipeline is a function of the outcomes of its positions.
+pub fn outcomes_make_the_answer()
+    ensures { OutcomesMakeTheAnswer }
 {}

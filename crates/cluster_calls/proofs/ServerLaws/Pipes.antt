@@ -42,7 +42,7 @@ use Rattle.cluster_calls.proofs.LogLaws.PipePlans.{IsOneSlot, IsWholePart, pipel
 
 -- ---- the nodes that were reached
 
-any-front : {X : Type 0} (p : X → Bool) (xs ys : List X) → list_any p (xs ++ ys) ≡ false → (list_any p xs ≡ false) × (list_any p ys ≡ false)
+pub any-front : {X : Type 0} (p : X → Bool) (xs ys : List X) → list_any p (xs ++ ys) ≡ false → (list_any p xs ≡ false) × (list_any p ys ≡ false)
 any-front p [] ys h = (refl, h)
 any-front p (x ∷ xs) ys h = by (p x) h (λ g. any-front p xs ys g)
   where
@@ -51,24 +51,24 @@ any-front p (x ∷ xs) ys h = by (p x) h (λ g. any-front p xs ys g)
     by false h ih = ih h
 
 -- the exchange is the dispatch's request
-abbrev IsSent : Dispatch → Exchange → Type 0
+abbrev pub IsSent : Dispatch → Exchange → Type 0
 IsSent d x = x.request ≡ direct d
 
-sent_pairs : (ds : List Dispatch) (xs : List Exchange) → requests xs ≡ map direct ds → Pairwise IsSent ds xs
+pub sent_pairs : (ds : List Dispatch) (xs : List Exchange) → requests xs ≡ map direct ds → Pairwise IsSent ds xs
 sent_pairs [] [] e = tt
 sent_pairs [] (x ∷ xs) e = cc
 sent_pairs (d ∷ ds) [] e = cc
 sent_pairs (d ∷ ds) (x ∷ xs) e = let a : x.request ≡ direct d = cc in let b : requests xs ≡ map direct ds = cc in (a, sent_pairs ds xs b)
 
 -- the log is that of the first nodes, whole; of all of them where nothing was left unanswered
-record Reached (ds : List Dispatch) (nodes : List Address) (xs : List Exchange) : Type 0 where
-  first : List Address
-  later : List Address
-  all : nodes ≡ first ++ later
-  pairs : Pairwise IsSent (group_by_group same_address (λ (d : Dispatch). d.node) first ds) xs
-  whole : list_any is_unanswered xs ≡ false → later ≡ []
+pub record Reached (ds : List Dispatch) (nodes : List Address) (xs : List Exchange) : Type 0 where
+  pub first : List Address
+  pub later : List Address
+  pub all : nodes ≡ first ++ later
+  pub pairs : Pairwise IsSent (group_by_group same_address (λ (d : Dispatch). d.node) first ds) xs
+  pub whole : list_any is_unanswered xs ≡ false → later ≡ []
 
-reached : (ds : List Dispatch) (nodes : List Address) (xs : List Exchange) → NodeByNode (map (λ node. filter (λ (d : Dispatch). same_address d.node node) ds) nodes) xs → Reached ds nodes xs
+pub reached : (ds : List Dispatch) (nodes : List Address) (xs : List Exchange) → NodeByNode (map (λ node. filter (λ (d : Dispatch). same_address d.node node) ds) nodes) xs → Reached ds nodes xs
 reached ds [] xs h = record { first = []; later = []; all = refl; pairs = subst (Pairwise IsSent []) (sym h) tt; whole = λ n. refl }
 reached ds (node ∷ nodes) xs h = by (list_any is_unanswered own) refl h.1 (λ g. reached ds nodes rest_of g)
   where
@@ -115,10 +115,10 @@ zipped R (x ∷ xs) (s ∷ ss) h =
     ((x, s) ∷ r.0, ap (λ q. x ∷ q) r.1, ap (λ q. s ∷ q) r.2, (h.0, r.3))
 
 -- what a dispatch of a pipeline is
-record IsPipeDispatch (client : Client) (d : Dispatch) : Type 0 where
-  slot : args_slot d.args ≡ (args_slot d.args)
-  one : IsOneSlot d.args
-  node : d.node ≡ primary_of client (args_slot d.args)
+pub record IsPipeDispatch (client : Client) (d : Dispatch) : Type 0 where
+  pub slot : args_slot d.args ≡ (args_slot d.args)
+  pub one : IsOneSlot d.args
+  pub node : d.node ≡ primary_of client (args_slot d.args)
 
 -- an exchange of the dispatch, with the steps that account for it, and a fact of the caller's
 record Matches (meaning : Meaning) (done : ℕ → Bool) (Q : Exchange → Type 0) (d : Dispatch) (z : Exchange × List Step) : Type 0 where
@@ -169,14 +169,14 @@ facts_of meaning done Q (d ∷ ds) (z ∷ zs) h =
 among-front : {A : Type 0} (eq : A → A → Bool) (k : A) (xs ys : List A) → among eq k (xs ++ ys) ≡ false → among eq k xs ≡ false
 among-front eq k xs ys h = (any-front (λ x. eq k x) xs ys h).0
 
-distinct-front : {A : Type 0} (eq : A → A → Bool) (xs ys : List A) → IsDistinct eq (xs ++ ys) → IsDistinct eq xs
+pub distinct-front : {A : Type 0} (eq : A → A → Bool) (xs ys : List A) → IsDistinct eq (xs ++ ys) → IsDistinct eq xs
 distinct-front eq [] ys h = tt
 distinct-front eq (x ∷ xs) ys h = (among-front eq x xs ys h.0, distinct-front eq xs ys h.1)
 
 -- the dispatch is for the entry
-record IsEntryDispatch (e : Entry) (d : Dispatch) : Type 0 where
-  args : d.args ≡ sent e.command
-  slot : (args_slot d.args) ≡ args_slot (sent e.command)
+pub record IsEntryDispatch (e : Entry) (d : Dispatch) : Type 0 where
+  pub args : d.args ≡ sent e.command
+  pub slot : (args_slot d.args) ≡ args_slot (sent e.command)
 
 module _ (client : Client) (meaning : Meaning) (done : ℕ → Bool) (Q : Exchange → Type 0) (entries : List Entry) (ds : List Dispatch) (facts : AllByRecursion (IsPipeDispatch client) ds) (for_each : Pairwise IsEntryDispatch entries ds)
     (first : List Address) (distinct : IsDistinct same_address first) (zs : List (Exchange × List Step)) (pairs : Pairwise (Matches meaning done Q) (group_by_group same_address (λ (d : Dispatch). d.node) first ds) zs) where
@@ -274,7 +274,7 @@ drawn_none (k ∷ ks) f h = ap (λ q. front q ++ draw ks (without_front_of k f))
     by s true = ap rest (h s)
     by s false = h s
 
-dispatch_facts : (client : Client) (entries : List Entry) (parts : List Part) (ds : List Dispatch) → Pairwise IsWholePart entries parts → Pairwise IsFor parts ds → AllByRecursion (λ (d : Dispatch). d.node ≡ primary_of client (args_slot d.args)) ds
+pub dispatch_facts : (client : Client) (entries : List Entry) (parts : List Part) (ds : List Dispatch) → Pairwise IsWholePart entries parts → Pairwise IsFor parts ds → AllByRecursion (λ (d : Dispatch). d.node ≡ primary_of client (args_slot d.args)) ds
     → AllByRecursion (IsPipeDispatch client) ds × Pairwise IsEntryDispatch entries ds
 dispatch_facts client [] [] [] w f n = (tt, tt)
 dispatch_facts client [] [] (d ∷ ds) w f n = absurd f
@@ -339,7 +339,7 @@ no_errors_answered position (y ∷ ys) e h = by (first_error (reply_or_nil y)) r
     by None g e ih = (replied y.reply h.0 g, ih e)
     by (Some err) g e ih = cc
 
-nodes_reached : (client : Client) (ds es : List Dispatch) → AllByRecursion (IsPipeDispatch client) es → ((a : Address) → among same_address a (map (λ (d : Dispatch). d.node) es) ≡ true → among same_address a (nodes_in_use ds) ≡ true)
+pub nodes_reached : (client : Client) (ds es : List Dispatch) → AllByRecursion (IsPipeDispatch client) es → ((a : Address) → among same_address a (map (λ (d : Dispatch). d.node) es) ≡ true → among same_address a (nodes_in_use ds) ≡ true)
     → AllByRecursion (λ (d : Dispatch). among same_address (primary_of client (args_slot d.args)) (nodes_in_use ds) ≡ true) es
 nodes_reached client ds [] h k = tt
 nodes_reached client ds (e ∷ es) h k = (

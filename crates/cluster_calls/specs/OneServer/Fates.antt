@@ -1,0 +1,90 @@
+-- What a pipeline that tells of each position lets its caller know: of each position whether it was done, was
+-- not done, or may have been done; and that the one answer of `query` follows from these outcomes.
+use Rattle.std.specs.Prelude.{◌≡◌, ℕ, Bool, true, false, List, [], ◌∷◌, map, filter, filter_map, length, Option, Some, None, Result, Ok, ⊤}
+use Rattle.resp_core.specs.Trees.{Tree}
+use Rattle.resp_core.specs.Errors.{Refusal}
+use Rattle.cluster_routing.specs.Address.{Address, same_address}
+use Rattle.cluster_routing.specs.Choice.{Strategy}
+use Rattle.cluster_calls.specs.Links.Converted.{value_answer}
+use Rattle.cluster_calls.specs.Links.EachMade.{EachMade, told_of}
+use Rattle.cluster_calls.specs.Links.Faults.{LinkFault, refusal_by_fault}
+use Rattle.cluster_calls.specs.Links.Log.{Exchange, requests, has_lost}
+use Rattle.cluster_calls.specs.Links.Request.{requests_to}
+use Rattle.cluster_calls.specs.Links.World.{World, link_at, is_usable}
+use Rattle.cluster_calls.specs.Calls.Answer.{answer_of}
+use Rattle.cluster_calls.specs.Calls.Call.{Entry, Pipeline}
+use Rattle.cluster_calls.specs.Calls.Each.{Fate, answered, redirected, not_asked, lost, fate_of, reply_outcome, exchanges_with, position_exchanges, each_of, answer_of_each}
+use Rattle.cluster_calls.specs.Calls.Legal.{IsLegalCall, direct}
+use Rattle.cluster_calls.specs.Calls.Plan.{Client, Dispatch, plan}
+use Rattle.cluster_calls.specs.OneServer.Laws.{is_redirected}
+
+-- ---- what each fate says of a position's dispatch and exchange
+
+-- its request has this reply, and the outcome is that reply
+pub record IsReplied (xs : List Exchange) (d : Dispatch) (its : Option Exchange) (outcome : Result Tree Refusal)
+    (sent_on : Bool) : Type 0 where
+  pub exchange : Exchange
+  pub reply : Tree
+  pub is_its : its ≡ Some exchange
+  pub request : exchange.request ≡ direct d
+  pub replied : exchange.reply ≡ Some reply
+  pub outcome_is : outcome ≡ reply_outcome reply
+  pub redirect : is_redirected exchange ≡ sent_on
+  pub link_answered : has_lost d.node xs ≡ false
+
+-- its request stands in the log, and the link call of its node was refused, which closed the link
+pub record IsLost (new : World) (xs : List Exchange) (d : Dispatch) (its : Option Exchange) : Type 0 where
+  pub exchange : Exchange
+  pub is_its : its ≡ Some exchange
+  pub request : exchange.request ≡ direct d
+  pub link_refused : has_lost d.node xs ≡ true
+  pub closed : is_usable (link_at new.nodes d.node) ≡ false
+
+-- the log has no request to its node
+pub record IsNotAsked (new : World) (d : Dispatch) (its : Option Exchange) : Type 0 where
+  pub none : its ≡ None
+  pub unasked : requests_to d.node new.log ≡ []
+
+abbrev pub FateSays : World → List Exchange → Dispatch → Option Exchange → Result Tree Refusal → Fate → Type 0
+FateSays new xs d its outcome answered = IsReplied xs d its outcome false
+FateSays new xs d its outcome redirected = IsReplied xs d its outcome true
+FateSays new xs d its outcome not_asked = IsNotAsked new d its
+FateSays new xs d its outcome lost = IsLost new xs d its
+
+-- position by position
+abbrev pub HaveFates : World → List Exchange → List Dispatch → List (Option Exchange)
+    → List (Result Tree Refusal) → Type 0
+HaveFates new xs [] [] [] = ⊤
+HaveFates new xs (d ∷ ds) (its ∷ more) (outcome ∷ outcomes) =
+    FateSays new xs d its outcome (fate_of outcome) × HaveFates new xs ds more outcomes
+HaveFates _ _ _ _ _ = ⊥
+
+-- the exchanges that positions have, in the order of the positions
+abbrev pub exchanges_in : List (Option Exchange) → List Exchange
+exchanges_in its = filter_map (λ x. x) its
+
+-- each position has its fate; the log has the requests of the exchanges and no other; and each exchange with a
+-- node is that of one position, in their order
+pub record PositionsAreKnown (new : World) (entries : List Entry) (ds : List Dispatch) (xs : List Exchange)
+    (outcomes : List (Result Tree Refusal)) : Type 0 where
+  pub fates : HaveFates new xs ds (position_exchanges ds xs) outcomes
+  pub log : requests xs ≡ new.log
+  pub own : (node : Address)
+      → exchanges_with (exchanges_in (position_exchanges ds xs)) node ≡ exchanges_with xs node
+  pub whole : length outcomes ≡ length entries
+
+-- From what a call ensures alone it is known of each position whether it was done (`answered`), was not done
+-- (`redirected`, `not_asked`), or may have been done (`lost`), also where memory is refused.
+abbrev pub EachPositionHasItsFate : Type 0
+EachPositionHasItsFate = (strategy : Option Strategy) (old new : World) (entries : List Entry)
+    (outcomes : List (Result Tree Refusal)) → (made : EachMade strategy old new entries (Ok outcomes))
+    → (place : ℕ)
+    → PositionsAreKnown new entries made.told.dispatches (told_of place made.happened.events) outcomes
+
+-- The answer of `query` is a function of the outcomes.
+abbrev pub OutcomesMakeTheAnswer : Type 0
+OutcomesMakeTheAnswer = (client : Client) (picks : List Address) (faults : Address → LinkFault)
+    (entries : List Entry) (ds : List Dispatch) (xs : List Exchange)
+    → plan client picks (Pipeline entries) ≡ Ok ds → IsLegalCall client picks (Pipeline entries) xs
+    → answer_of client picks faults (Pipeline entries) xs
+    ≡ value_answer (answer_of_each entries (each_of (λ node. refusal_by_fault (faults node)) ds xs))
