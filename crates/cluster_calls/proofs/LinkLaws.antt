@@ -30,3 +30,6 @@ pub mod FirstCalls
 pub mod ClosedNodes
 pub mod Unpicked
 pub mod ReadMade
+pub mod AttemptCalls
+pub mod AttemptLoop
+pub mod Transacted

@@ -22,3 +22,4 @@ pub mod OneRun
 pub mod OneSpelling
 pub mod PromisedPlays
 pub mod StreamTasks
+pub mod Attempts

@@ -12,3 +12,4 @@ pub mod Reads
 pub mod Refusals
 pub mod Answer
 pub mod After
+pub mod Transactions

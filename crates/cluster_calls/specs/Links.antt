@@ -22,3 +22,5 @@ pub mod Orders
 pub mod Taken
 pub mod Building
 pub mod PipeReplies
+pub mod AttemptRuns
+pub mod TransactionMade

@@ -19,4 +19,5 @@ pub mod SentLists
 pub mod Resending
 pub mod RefusedPlays
 pub mod ClosedLinks
+pub mod TransactionLaws
 pub mod PromisedPlays

@@ -23,3 +23,4 @@ pub mod WrongPlays
 pub mod SentAgain
 pub mod MixedPlay
 pub mod ClosedLinks
+pub mod Transactions

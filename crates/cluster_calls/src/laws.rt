@@ -16,6 +16,7 @@ ghost use Rattle.cluster_calls.specs.OneServer.RespelledPlays.{RespelledPlays};
 ghost use Rattle.cluster_calls.specs.OneServer.Respelling.{RespelledRuns};
 ghost use Rattle.cluster_calls.specs.OneServer.SentLists.{NoOtherLists};
 ghost use Rattle.cluster_calls.specs.OneServer.Stretches.{RunsHaveStretches};
+ghost use Rattle.cluster_calls.specs.OneServer.TransactionLaws.{AttemptsAreBounded, OnlyNotDoneIsSentAgain};
 ghost use Rattle.cluster_calls.specs.WholeCalls.MixedPlay.{FourArePlayedWhole};
 
 /// A call leaves the links of all nodes that its log does not name, also where memory is refused.
@@ -220,4 +221,15 @@ pub fn join_is_the_whole()
 /// and send each node the same bytes.
 pub fn promised_plays()
     ensures { PromisedPlays }
+{}
+
+/// A transaction is sent again only where nothing was done by the attempt before, so it is done at most
+/// once.
+pub fn only_not_done_is_sent_again()
+    ensures { OnlyNotDoneIsSentAgain }
+{}
+
+/// A transaction is sent once, and again at most once for each redirect within the budget.
+pub fn attempts_are_bounded()
+    ensures { AttemptsAreBounded }
 {}
