@@ -32,3 +32,6 @@ pub mod ClosedNodes
 pub mod Unpicked
 pub mod ReadMade
 pub mod Told
+pub mod AttemptCalls
+pub mod AttemptLoop
+pub mod Transacted

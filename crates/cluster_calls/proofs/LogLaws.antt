@@ -26,3 +26,4 @@ pub mod StreamTasks
 pub mod EachPosition
 pub mod Fates
 pub mod EachAnswer
+pub mod Attempts

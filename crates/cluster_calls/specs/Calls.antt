@@ -13,3 +13,4 @@ pub mod Refusals
 pub mod Answer
 pub mod After
 pub mod Each
+pub mod Transactions

@@ -23,3 +23,5 @@ pub mod Taken
 pub mod Building
 pub mod PipeReplies
 pub mod EachMade
+pub mod AttemptRuns
+pub mod TransactionMade

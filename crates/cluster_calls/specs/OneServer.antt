@@ -19,5 +19,6 @@ pub mod SentLists
 pub mod Resending
 pub mod RefusedPlays
 pub mod ClosedLinks
+pub mod TransactionLaws
 pub mod PromisedPlays
 pub mod Fates

@@ -24,3 +24,4 @@ pub mod WrongPlays
 pub mod SentAgain
 pub mod MixedPlay
 pub mod ClosedLinks
+pub mod Transactions

@@ -17,6 +17,7 @@ ghost use Rattle.cluster_calls.specs.OneServer.RespelledPlays.{RespelledPlays};
 ghost use Rattle.cluster_calls.specs.OneServer.Respelling.{RespelledRuns};
 ghost use Rattle.cluster_calls.specs.OneServer.SentLists.{NoOtherLists};
 ghost use Rattle.cluster_calls.specs.OneServer.Stretches.{RunsHaveStretches};
+ghost use Rattle.cluster_calls.specs.OneServer.TransactionLaws.{AttemptsAreBounded, OnlyNotDoneIsSentAgain};
 ghost use Rattle.cluster_calls.specs.WholeCalls.MixedPlay.{FourArePlayedWhole};
 
 /// A call leaves the links of all nodes that its log does not name, also where memory is refused.
@@ -237,4 +238,15 @@ pub fn each_position_has_its_fate()
 /// The one answer to a pipeline is a function of the outcomes of its positions.
 pub fn outcomes_make_the_answer()
     ensures { OutcomesMakeTheAnswer }
+{}
+
+/// A transaction is sent again only where nothing was done by the attempt before, so it is done at most
+/// once.
+pub fn only_not_done_is_sent_again()
+    ensures { OnlyNotDoneIsSentAgain }
+{}
+
+/// A transaction is sent once, and again at most once for each redirect within the budget.
+pub fn attempts_are_bounded()
+    ensures { AttemptsAreBounded }
 {}

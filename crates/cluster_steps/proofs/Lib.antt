@@ -14,3 +14,4 @@ pub mod DistinctKeys
 pub mod ReadStreams
 pub mod JoinedReads
 pub mod PipelineReads
+pub mod AttemptReplies

@@ -4,6 +4,7 @@ pub mod CodeParts
 pub mod Dispatches
 pub mod Turns
 pub mod WholeParts
+pub mod Attempts
 pub mod Groups
 pub mod GroupRuns
 pub mod Queues

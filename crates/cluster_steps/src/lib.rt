@@ -3,6 +3,8 @@
 #![tactic(auto)]
 
 pub mod asked;
+pub mod attempt;
+pub mod attempt_turn;
 pub mod dispatch;
 pub mod drawn;
 pub mod exchange;

@@ -114,7 +114,7 @@ fn behind_error<L: ConnectionLike>(
 }
 
 /// Where a reply sends the request on, with so many redirects left.
-fn next_place<L: ConnectionLike>(
+pub(crate) fn next_place<L: ConnectionLike>(
     alloc: Global,
     links: &Links<L>,
     left: u16,

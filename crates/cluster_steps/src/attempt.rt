@@ -1,0 +1,118 @@
+//! An attempt at a transaction, MULTI, the commands and EXEC: it is made ready, with room in the log, and
+//! exchanged.
+ghost use Rattle.std.specs.Prelude.{◌≡◌, ◌<◌, ◌≤◌, ◌+◌, ◌∷◌, [], vec_capacity, vec_len, IfOk};
+ghost use Rattle.resp_core.specs.View.{view};
+ghost use Rattle.cluster_routing.specs.Info.{texts};
+ghost use Rattle.cluster_routing.specs.Seen.{address};
+ghost use Rattle.cluster_calls.specs.Calls.Transactions.{args_of, attempt};
+ghost use Rattle.cluster_calls.specs.Links.Exchanges.{Exchanges};
+ghost use Rattle.cluster_calls.specs.Links.Request.{bytes_of, skipped};
+ghost use Rattle.cluster_calls.specs.Links.World.{nodes, tree_results};
+ghost use Rattle.cluster_steps.specs.Turns.{hop_to};
+
+use crate::asked::Asked;
+use crate::links::Links;
+use crate::place::Place;
+use crate::ready::bytes_of;
+use cluster_routing::NodeAddress;
+use resp_args::Cmd;
+use resp_core::{RedisError, Value};
+use resp_link::ConnectionLike;
+use std::alloc::{AllocError, Global};
+
+/// The requests of an attempt, the place that they go to, and their bytes.
+#[derive(Drop)]
+pub struct Attempt {
+    pub place: Place,
+    pub requests: Vec<Asked>,
+    pub bytes: Vec<u8>,
+    ghost packed: { bytes.items ≡ bytes_of requests.items },
+}
+
+/// The arguments of a command that is one word.
+fn one_word(alloc: Global, word: &[u8]) -> Result<Vec<Vec<u8>>, AllocError>
+    ensures { IfOk result (λ v. texts v.items ≡ word.now ∷ []) }
+{
+    let mut args = Vec::new(alloc);
+    args.push(Vec::from_slice(alloc, word)?)?;
+    Ok(args)
+}
+
+/// A request to a node.
+fn request_to(node: &NodeAddress, args: Vec<Vec<u8>>, asking: bool) -> Result<Asked, AllocError>
+    ensures { IfOk result
+        (λ q. q ≡ record { node = address node.now; args = texts args.items; asking = asking }) }
+{
+    Ok(Asked {
+        node: node.clone()?,
+        args,
+        asking,
+    })
+}
+
+/// The requests of an attempt: MULTI, behind ASKING where that is wanted, the commands, and EXEC.
+fn requests_of(alloc: Global, place: &Place, commands: &[Cmd]) -> Result<Vec<Asked>, AllocError>
+    ensures { IfOk result (λ v. v.items ≡ attempt (hop_to place.now) (args_of commands.now)) }
+{
+    let node = &place.node;
+    let mut requests = Vec::new(alloc);
+    requests.push(request_to(node, one_word(alloc, b"MULTI")?, place.asking)?)?;
+    'commands: for command in commands {
+        requests.push(request_to(node, command.wire_args()?, false)?)?;
+    }
+    requests.push(request_to(node, one_word(alloc, b"EXEC")?, false)?)?;
+    Ok(requests)
+}
+
+/// An attempt at a place, packed, with room in the log for its requests.
+///
+/// # Errors
+/// `AllocError` where memory is refused; the log has the same requests as before.
+pub fn make_attempt_ready(
+    alloc: Global,
+    log: &mut Vec<Asked>,
+    place: Place,
+    commands: &[Cmd],
+) -> Result<Attempt, AllocError>
+    ensures log { log.new.items ≡ log.old.items }
+    ensures room { IfOk result (λ a. vec_len log.new + vec_len a.requests ≤ vec_capacity log.new) }
+    ensures place { IfOk result (λ a. a.place ≡ place) }
+    ensures requests { IfOk result
+        (λ a. a.requests.items ≡ attempt (hop_to place) (args_of commands.now)) }
+{
+    let requests = requests_of(alloc, &place, commands)?;
+    let bytes = bytes_of(alloc, &requests)?;
+    log.reserve(requests.len())?;
+    Ok(Attempt {
+        place,
+        requests,
+        bytes,
+    })
+}
+
+/// The exchange of an attempt at a transaction, for which the log has room: one write for all of its
+/// requests, and their replies without that to ASKING.
+pub fn exchange_attempt<L: ConnectionLike>(
+    links: &mut Links<L>,
+    alloc: Global,
+    log: &mut Vec<Asked>,
+    attempt: Attempt,
+) -> Result<Vec<Value>, RedisError>
+    requires within { attempt.place.which < vec_len links.old.nodes }
+    requires room { vec_len log.old + vec_len attempt.requests ≤ vec_capacity log.old }
+    ensures len { vec_len links.new.nodes ≡ vec_len links.old.nodes }
+    ensures exchange { Exchanges (nodes L.seen links.old.nodes.items)
+        (nodes L.seen links.new.nodes.items) attempt.place.which log.old.items log.new.items
+        attempt.requests.items (skipped attempt.place.asking) (vec_len attempt.requests)
+        (tree_results view result) }
+{
+    let Attempt {
+        place,
+        mut requests,
+        bytes,
+    } = attempt;
+    let offset = if place.asking { 1 } else { 0 };
+    let count = requests.len();
+    log.append(&mut requests).unwrap();
+    links.call(alloc, place.which, &bytes, offset, count)
+}
