@@ -13,7 +13,8 @@ LARGEST_PORT = 2**16 - 1
 HOW = {
     "node": "node ADDR PIECE BYTES", "fault": "fault ADDR read N, or fault ADDR write N",
     "readonly": "readonly NAME", "budget": "budget N", "levels": "levels N",
-    "refresh": "refresh ADDR", "query": "query NUMBER BYTES..", "order": "order I,J,.. BYTES..", "fan": "fan BYTES..", "pipe": "pipe",
+    "refresh": "refresh ADDR", "query": "query NUMBER BYTES..", "order": "order I,J,.. BYTES..", "fan": "fan BYTES..",
+    "at": "at ADDR BYTES..", "pipe": "pipe",
     "cmd": "cmd BYTES..", "skip": "skip BYTES..", "run": "run", "xrange": "xrange KEY START END",
     "xread": "xread KEY,.. ID,..",
 }
@@ -157,6 +158,10 @@ class Reader:
             hexadecimal(word)
 
     cmd = skip = xrange = fan
+
+    def at(self, _, node, *args):
+        address(node)
+        self.fan(_, *args)
 
     def pipe(self, place):
         if place > self.last_run:

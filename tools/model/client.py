@@ -148,6 +148,10 @@ class Client:
         nodes = [self.linked(node) for node in nodes]
         return combine.of_nodes(policy, [(node, self.outcome(node, args)) for node in nodes])
 
+    def at(self, node, args):
+        [reply] = self.exchange(self.linked(node), [Request(node, args)])
+        return without_error(reply)
+
     def xrange(self, key, start, end):
         return records.entries(self.query([b"XRANGE", key, start, end]))
 

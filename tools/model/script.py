@@ -103,6 +103,8 @@ class Script:
             self.add("query", some(words[1:], data), number(words[0]))
         elif word == "fan":
             self.add("fan", some(words, data))
+        elif word == "at":
+            self.add("at", need(address(words[0])), some(words[1:], data))
         elif word == "xrange":
             key, start, end = words
             self.add("xrange", data(key), data(start), data(end))

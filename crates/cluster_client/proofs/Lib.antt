@@ -4,6 +4,7 @@ pub mod PipeParts
 pub mod Piping
 pub mod NodeLoop
 pub mod SeveralNodes
+pub mod OneNode
 pub mod Prepared
 pub mod Ending
 pub mod TypedCalls

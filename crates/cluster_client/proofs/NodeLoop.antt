@@ -64,7 +64,7 @@ nothing_asked old new d same nodes log flag = record {
 pub by_asking : (d : Dispatch) (asking : Bool) → asking ≡ false → record { node = d.node; args = d.args; asking = asking } ≡ direct d
 by_asking d asking e = λ i. record { node = d.node; args = d.args; asking = e i }
 
-same_reply : (r : Result Tree Refusal) → reply_in r ≡ tree_in r
+pub same_reply : (r : Result Tree Refusal) → reply_in r ≡ tree_in r
 same_reply (Ok tree) = refl
 same_reply (Err refusal) = refl
 

@@ -15,7 +15,7 @@ use Rattle.cluster_client.specs.declared.run.Played.{Played as CodePlayed}
 use Rattle.cluster_client.specs.declared.run.Claimant.{Claimant as CodeClaimant}
 use Rattle.cluster_calls.specs.Calls.Answer as answer
 use Rattle.cluster_calls.specs.Calls.Answer.{Answer, Refreshed, Value, Added, Trimmed, Read, Range, Claim, AutoClaim, Pending, Groups, Consumers, Deleted}
-use Rattle.cluster_calls.specs.Calls.Call.{Call, Refresh, Query, Ordered, Pipeline, FanOut, OnStreams, Stream, Claimant, Xadd, Xtrim, Xread, Xrange, Xclaim, Xautoclaim, Xpending, XinfoStream, XinfoGroups, XinfoConsumers, XdelEx}
+use Rattle.cluster_calls.specs.Calls.Call.{Call, Refresh, Query, Ordered, Pipeline, FanOut, At, OnStreams, Stream, Claimant, Xadd, Xtrim, Xread, Xrange, Xclaim, Xautoclaim, Xpending, XinfoStream, XinfoGroups, XinfoConsumers, XdelEx}
 use Rattle.cluster_calls.specs.Links.Typed.{deletion_of}
 use Rattle.cluster_calls.specs.Links.Play.{Shown}
 
@@ -35,6 +35,7 @@ call_in (calls.Query command number) = Query command number
 call_in (calls.Ordered command order number) = Ordered command order.items number
 call_in (calls.Pipeline entries) = Pipeline entries
 call_in (calls.FanOut command) = FanOut command
+call_in (calls.At node command) = At (address node) command
 call_in (calls.Xadd key options id fields) = OnStreams (Xadd key.items options id.items (pairs fields.items))
 call_in (calls.Xtrim key options) = OnStreams (Xtrim key.items options)
 call_in (calls.Xread streams options) = OnStreams (Xread (streams_in streams.items) options)

@@ -26,6 +26,7 @@ ghost use Rattle.cluster_client.specs.Whole.{whole};
 ghost use Rattle.cluster_calls.specs.Links.Run.{with_log};
 ghost use Rattle.cluster_calls.specs.Links.World.{addresses_of, has_repeats, link_at, new_world, nodes, tree_result, tree_results};
 
+mod at;
 mod ordered;
 mod reading;
 mod relink;

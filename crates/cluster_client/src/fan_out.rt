@@ -78,7 +78,7 @@ fn policy_in(info: Option<RoutingInfo>) -> Option<ResponsePolicy>
 ///
 /// # Errors
 /// `NoLink` where no usable link leads to the node; `Memory`.
-fn dispatch_to<L: ConnectionLike>(
+pub(crate) fn dispatch_to<L: ConnectionLike>(
     links: &Links<L>,
     node: &NodeAddress,
     cmd: &Cmd,
@@ -199,7 +199,7 @@ fn questions(alloc: Global, requests: Vec<Ready>) -> Result<Vec<Question>, Alloc
 }
 
 /// Whether a refresh is needed after this reply of a node, if it gave one.
-fn needs_refresh_by(flag: bool, reply: &Result<Value, RedisError>) -> bool
+pub(crate) fn needs_refresh_by(flag: bool, reply: &Result<Value, RedisError>) -> bool
     ensures { result ≡ (flag || is_moved_reply (tree_in (tree_result view reply.now))) }
 {
     match reply {
@@ -227,7 +227,9 @@ fn unless_memory(
 
 /// A node's outcome by its reply, or by why it gave none: a reply that is or holds an error is a
 /// refusal.
-fn outcome_in(reply: Result<Value, RedisError>) -> Result<Result<Value, RedisError>, RedisError>
+pub(crate) fn outcome_in(
+    reply: Result<Value, RedisError>,
+) -> Result<Result<Value, RedisError>, RedisError>
     ensures outcome { IfOk result (λ o. tree_or_refusal o ≡ outcome_in (tree_result view reply)) }
     ensures only { IfErr result (λ e. e ≡ by_cause Memory) }
 {

@@ -4,7 +4,7 @@ mod streams;
 ghost use Rattle.std.specs.Prelude.{Option, is_ok, map, option_map};
 ghost use Rattle.cluster_routing.specs.Choice.{Strategy};
 ghost use Rattle.cluster_routing.specs.Seen.{address};
-ghost use Rattle.cluster_calls.specs.Calls.Call.{FanOut, Ordered, Pipeline, Query, Refresh};
+ghost use Rattle.cluster_calls.specs.Calls.Call.{At, FanOut, Ordered, Pipeline, Query, Refresh};
 ghost use Rattle.cluster_calls.specs.Links.Happened.{CallMade};
 ghost use Rattle.cluster_calls.specs.Links.Play.{Plays, PlaysOne};
 ghost use Rattle.cluster_client.specs.Shown.{answer_result, call_in, shown};
@@ -45,6 +45,11 @@ pub enum Call {
     Pipeline(ClusterPipeline),
     /// `ClusterClient::fan_out`; it answers the one reply that the nodes' replies make.
     FanOut(Cmd),
+    /// `ClusterClient::query_at`; it answers the reply.
+    At {
+        node: NodeAddress,
+        cmd: Cmd,
+    },
     /// `ClusterClient::xadd`.
     Xadd {
         key: Vec<u8>,
@@ -181,6 +186,7 @@ impl<L: ConnectionLike + Drop> ClusterClient<L> {
             ),
             Call::Pipeline(pipeline) => self.answer_to_pipeline(alloc, pipeline),
             Call::FanOut(cmd) => self.answer_to_fan_out(alloc, cmd),
+            Call::At { node, cmd } => self.answer_to_at(alloc, node, cmd),
             Call::Xadd {
                 key,
                 options,
@@ -273,6 +279,20 @@ impl<L: ConnectionLike + Drop> ClusterClient<L> {
             (answer_result result) }
     {
         let reply = self.fan_out(alloc, cmd)?;
+        Ok(Answer::Value(reply))
+    }
+
+    fn answer_to_at(
+        &mut self,
+        alloc: Global,
+        node: &NodeAddress,
+        cmd: &Cmd,
+    ) -> Result<Answer, RedisError>
+        ensures { (strategy : Option Strategy)
+            → CallMade strategy (whole L.seen self.old) (whole L.seen self.new)
+            (At (address node.now) cmd.now) (answer_result result) }
+    {
+        let reply = self.reply_at(alloc, node, cmd)?;
         Ok(Answer::Value(reply))
     }
 }

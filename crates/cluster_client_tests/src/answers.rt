@@ -215,3 +215,38 @@ fn a_refused_fan_out_tells_why(rt: HostRuntime) -> Result<(), Fail> {
     assert_eq!(rt; client.asked().len(), 0);
     Ok(())
 }
+
+/// The answer to a command that goes to a node, as a number.
+fn number_of_node(
+    alloc: Global,
+    client: &mut Client,
+    address: &str,
+    cmd: &Cmd,
+) -> Result<i64, RedisError> {
+    let node = node(alloc, address)?;
+    client.query_at(alloc, &node, cmd)
+}
+
+#[test]
+fn a_node_that_is_named_answers_itself(rt: HostRuntime) -> Result<(), Fail> {
+    let alloc = rt.alloc();
+    let mut client = client(
+        alloc,
+        b":7\r\n$1\r\nx\r\n",
+        b"-MOVED 15495 n1:7001\r\n:3\r\n",
+    )?;
+    let get = get_a(alloc)?;
+    assert_eq!(rt; number_of_node(alloc, &mut client, "n1:7001", &get)?, 7);
+    let text = kind_of(number_of_node(alloc, &mut client, "n1:7001", &get));
+    assert_eq!(rt; text, Some(ErrorKind::UnexpectedReturnType));
+    assert!(rt; !client.needs_refresh());
+    let moved = kind_of(number_of_node(alloc, &mut client, "n2:7002", &get));
+    assert_eq!(rt; moved, Some(ErrorKind::Server(ServerErrorKind::Moved)));
+    assert!(rt; client.needs_refresh());
+    assert!(rt; is_last_asked(alloc, &client, "n2:7002")?);
+    assert_eq!(rt; number_of_node(alloc, &mut client, "n2:7002", &get)?, 3);
+    let silent = number_of_node(alloc, &mut client, "n1:7001", &silent_get(alloc)?);
+    assert_eq!(rt; kind_of(silent), Some(ErrorKind::Client));
+    assert_eq!(rt; client.asked().len(), 0);
+    Ok(())
+}

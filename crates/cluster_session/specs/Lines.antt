@@ -8,7 +8,7 @@ use Rattle.resp_core.specs.Numbers.{number_below}
 use Rattle.resp_args.specs.Command.{Command, new_command}
 use Rattle.resp_args.specs.declared.cmd.Arg.TheVariants.{Simple}
 use Rattle.cluster_routing.specs.Address.{Address, address_read}
-use Rattle.cluster_calls.specs.Calls.Call.{Call, Refresh, Query, Ordered, FanOut, OnStreams, Stream, Xread, Xrange, Entry}
+use Rattle.cluster_calls.specs.Calls.Call.{Call, Refresh, Query, Ordered, FanOut, At, OnStreams, Stream, Xread, Xrange, Entry}
 
 -- what fails of a node
 pub data Access : Type 0 where
@@ -133,6 +133,11 @@ order_line _ = None
 abbrev pub fan_line : Words → Option Meaning
 fan_line args = option_map (λ c. call (FanOut c)) (command_words args)
 
+abbrev pub at_line : Words → Option Meaning
+at_line (at ∷ args) = option_and_then (λ c. option_map (λ a. call (At a c)) (address_read at))
+    (command_words args)
+at_line _ = None
+
 abbrev pub command_line : Bool → Words → Option Meaning
 command_line ignored args = option_map (λ c. command (record { command = c; ignored = ignored }))
     (command_words args)
@@ -172,6 +177,7 @@ said_by word args =
     if bytes_eq word (codes "query") then query_line args else
     if bytes_eq word (codes "order") then order_line args else
     if bytes_eq word (codes "fan") then fan_line args else
+    if bytes_eq word (codes "at") then at_line args else
     if bytes_eq word (codes "pipe") then alone pipe args else
     if bytes_eq word (codes "cmd") then command_line false args else
     if bytes_eq word (codes "skip") then command_line true args else

@@ -4,7 +4,7 @@ ghost use Rattle.std.specs.Result.{result_ok};
 ghost use Rattle.hex.specs.Hex.{decode_of};
 ghost use Rattle.cluster_routing.specs.Info.{texts};
 ghost use Rattle.cluster_client.specs.Shown.{streams_in};
-ghost use Rattle.cluster_session.specs.Lines.{is_skipped, said_by_text, said_by_words, said_by, name_line, node_line, fault_line, budget_line, levels_line, refresh_line, query_line, order_line, fan_line, command_line, xrange_line, xread_line, alone, command_words, each_read, bytes_word, number_word, from_one, piece_size, budget_size, levels_size, access_word, between_commas, pieces, streams_of, streams_word, command_of};
+ghost use Rattle.cluster_session.specs.Lines.{is_skipped, said_by_text, said_by_words, said_by, name_line, node_line, fault_line, budget_line, levels_line, refresh_line, query_line, order_line, fan_line, at_line, command_line, xrange_line, xread_line, alone, command_words, each_read, bytes_word, number_word, from_one, piece_size, budget_size, levels_size, access_word, between_commas, pieces, streams_of, streams_word, command_of};
 ghost use Rattle.cluster_session.specs.LinesRead.{Reads, access_in, meaning_in, words_in};
 ghost use Rattle.cluster_session.specs.Script.{is_run, said_by_line};
 
@@ -121,6 +121,7 @@ fn read_form(alloc: Global, word: &str, args: &[&str]) -> Result<Line, LineError
         "query" => read_query(alloc, args),
         "order" => read_order(alloc, args),
         "fan" => read_fan(alloc, args),
+        "at" => read_at(alloc, args),
         "pipe" => read_alone(Line::Pipe, args),
         "cmd" => read_command(alloc, false, args),
         "skip" => read_command(alloc, true, args),
@@ -218,6 +219,19 @@ fn read_fan(alloc: Global, args: &[&str]) -> Result<Line, LineError>
     ensures { Reads meaning_in (fan_line (words_in args.now)) result }
 {
     Ok(Line::Call(Call::FanOut(command_of(alloc, args)?)))
+}
+
+fn read_at(alloc: Global, args: &[&str]) -> Result<Line, LineError>
+    ensures { Reads meaning_in (at_line (words_in args.now)) result }
+{
+    match args {
+        [at, args @ ..] => {
+            let cmd = command_of(alloc, args)?;
+            let node = calls::address(alloc, at)?;
+            Ok(Line::Call(Call::At { node, cmd }))
+        }
+        _ => Err(LineError::Bad),
+    }
 }
 
 fn read_command(alloc: Global, ignored: bool, args: &[&str]) -> Result<Line, LineError>
