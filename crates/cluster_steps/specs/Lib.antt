@@ -7,4 +7,5 @@ pub mod WholeParts
 pub mod Groups
 pub mod GroupRuns
 pub mod Queues
+pub mod Each
 pub mod Reads

@@ -5,6 +5,7 @@
 pub mod asked;
 pub mod dispatch;
 pub mod drawn;
+pub mod each;
 pub mod exchange;
 pub mod grouped;
 pub mod links;
