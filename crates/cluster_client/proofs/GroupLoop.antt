@@ -23,7 +23,8 @@ use Rattle.cluster_calls.proofs.LinkLaws.EventLists.{log-append, exchanged, exch
 use Rattle.cluster_calls.proofs.LinkLaws.FaultsAgree.{Agrees-last}
 use Rattle.cluster_calls.proofs.LinkLaws.ChainLoop.{or_assoc, or_none}
 use Rattle.cluster_calls.proofs.LinkLaws.PartLoop.{place_same}
-use Rattle.cluster_steps.proofs.GroupCalls.{paired_requests, all_replied, refused_behind, group_more, group_ends, some_groups, group_extends, group_event, GroupMade, exchanged_group, group_replies, group_replied, group_moved, group_opens, failed_no_answer, failed_memory, failed_lost, failed_refusal}
+use Rattle.cluster_calls.proofs.LinkLaws.PipeErrors.{refused_behind}
+use Rattle.cluster_steps.proofs.GroupCalls.{paired_requests, all_replied, group_more, group_ends, some_groups, group_extends, group_event, GroupMade, exchanged_group, group_replies, group_replied, group_moved, group_opens, failed_no_answer, failed_memory, failed_lost, failed_refusal}
 
 abbrev replies_in : List Exchange → List (Option Tree)
 replies_in xs = map (λ (x : Exchange). x.reply) xs
@@ -52,7 +53,7 @@ pub record GroupLoop (old now : World) (gs rest : List Group) (answers : List (�
   pub settings : now.settings ≡ old.settings
   pub picked : now.picked ≡ old.picked
 
-pub groups_start : (old : World) (gs : List Group) → GroupLoop old old gs gs []
+abbrev pub groups_start : (old : World) (gs : List Group) → GroupLoop old old gs gs []
 groups_start old gs = record {
   events = [];
   runs = refl;
@@ -101,7 +102,7 @@ groups_stopped old now new gs rest answers l s = record {
   answered = λ m. absurd (m refl);
 }
 
-pub groups_done : (old now : World) (gs : List Group) (answers : List (ℕ × List Tree)) → GroupLoop old now gs [] answers → GroupsMade old now gs (Ok answers)
+abbrev pub groups_done : (old now : World) (gs : List Group) (answers : List (ℕ × List Tree)) → GroupLoop old now gs [] answers → GroupsMade old now gs (Ok answers)
 groups_done old now gs answers l = record {
   events = l.events;
   runs = l.runs;
@@ -158,84 +159,84 @@ module _ (old now new : World) (gs : List Group) (g : Group) (rest : List Group)
         ∙ ap (λ b. old.needs_refresh || (answered_moved l.events || b)) (sym is) ∙ ap (λ b. old.needs_refresh || b) (sym (moved-append l.events (x ∷ [])))
 
   -- it was answered
+  abbrev pub answered_more : (trees : List Tree) → GroupExchanged now new g.which g.requests (Ok trees) → new.log ≡ now.log ++ g.requests → GroupMade now.nodes new.nodes g (Ok trees) → GroupLoop old new gs rest (answers ++ (g.which, trees) ∷ [])
+  answered_more trees e log m =
+      let x = group_event g m.taken (Ok trees) in
+      let joined = both x m.called log refl in
+      record {
+        events = l.events ++ x ∷ [];
+        runs = Runs-snoc old.nodes now.nodes new.nodes l.events x l.runs m.called;
+        logged = logged_more x m.called log refl;
+        memory = memory-append l.events (x ∷ []) l.memory refl;
+        leads = λ place later h. subst (λ xs. GroupByGroup (request_lists gs) xs) (sym (append_assoc (exchanges_of place l.events) (exchanges_at (at place) x) later) ∙ ap (λ xs. xs ++ later) (sym (joined place)))
+            (l.leads place (exchanges_at (at place) x ++ later)
+            (group_more g.requests (request_lists rest) (exchanges_at (at place) x) later (paired_requests (replies_of m.taken) (at place) g.requests) (group_replied now.nodes new.nodes g trees p m (at place)) h));
+        in_order = order_more x m.called log refl;
+        places = ap (λ ns. ns ++ map (λ (h : Group). h.which) rest) (map-append (λ (a : ℕ × List Tree). a.0) answers ((g.which, trees) ∷ [])) ∙ append_assoc (map (λ (a : ℕ × List Tree). a.0) answers) (g.which ∷ []) (map (λ (h : Group). h.which) rest) ∙ l.places;
+        counts = ap (λ ns. ns ++ map (λ (h : Group). length h.requests) rest) (map-append (λ (a : ℕ × List Tree). length a.1) answers ((g.which, trees) ∷ [])) ∙ append_assoc (map (λ (a : ℕ × List Tree). length a.1) answers) (length trees ∷ []) (map (λ (h : Group). length h.requests) rest)
+            ∙ ap (λ n. map (λ (a : ℕ × List Tree). length a.1) answers ++ n ∷ map (λ (h : Group). length h.requests) rest) m.told.1 ∙ l.counts;
+        sent = ap (λ qs. qs ++ concat (request_lists rest)) (log-append l.events (x ∷ []) ∙ ap (λ qs. log_of l.events ++ qs) (append-nil g.requests)) ∙ append_assoc (log_of l.events) g.requests (concat (request_lists rest)) ∙ l.sent;
+        replied = λ place.
+            ap replies_in (joined place) ∙ map-append (λ (y : Exchange). y.reply) (exchanges_of place l.events) (exchanges_at (at place) x)
+            ∙ ap (λ rs. rs ++ replies_in (exchanges_at (at place) x)) (l.replied place)
+            ∙ ap (λ rs. somes (concat (trees_in answers)) ++ rs) (group_replies now.nodes new.nodes g trees p m (at place))
+            ∙ sym (map-append (λ tree. Some tree) (concat (trees_in answers)) trees) ∙ ap somes (sym (concat_last (trees_in answers) trees))
+            ∙ ap (λ tss. somes (concat tss)) (sym (map-append (λ (a : ℕ × List Tree). a.1) answers ((g.which, trees) ∷ [])));
+        opens = group_opens now.nodes new.nodes g trees p m ∙ l.opens;
+        flag = flag_more x m.called log refl (list_any is_moved_tree trees) e.flag (or_none (list_any is_moved (exchanges_at 0 x)) ∙ group_moved now.nodes new.nodes g trees p m);
+        entries = e.entries ∙ l.entries;
+        settings = e.settings ∙ l.settings;
+        picked = e.picked ∙ l.picked;
+      }
+
   pub groups_more : (trees : List Tree) → GroupExchanged now new g.which g.requests (Ok trees) → GroupLoop old new gs rest (answers ++ (g.which, trees) ∷ [])
   groups_more trees e = elim (exchanged_group now.nodes new.nodes now.log new.log g (Ok trees) p e.exchange) as (λ _. GroupLoop old new gs rest (answers ++ (g.which, trees) ∷ [])) [
     | inl same ↦ cc (same.2)
-    | inr made ↦ more made.0 made.1
+    | inr made ↦ answered_more trees e made.0 made.1
   ]
-    where
-      more : new.log ≡ now.log ++ g.requests → GroupMade now.nodes new.nodes g (Ok trees) → GroupLoop old new gs rest (answers ++ (g.which, trees) ∷ [])
-      more log m =
-          let x = group_event g m.taken (Ok trees) in
-          let joined = both x m.called log refl in
-          record {
-            events = l.events ++ x ∷ [];
-            runs = Runs-snoc old.nodes now.nodes new.nodes l.events x l.runs m.called;
-            logged = logged_more x m.called log refl;
-            memory = memory-append l.events (x ∷ []) l.memory refl;
-            leads = λ place later h. subst (λ xs. GroupByGroup (request_lists gs) xs) (sym (append_assoc (exchanges_of place l.events) (exchanges_at (at place) x) later) ∙ ap (λ xs. xs ++ later) (sym (joined place)))
-                (l.leads place (exchanges_at (at place) x ++ later)
-                (group_more g.requests (request_lists rest) (exchanges_at (at place) x) later (paired_requests (replies_of m.taken) (at place) g.requests) (group_replied now.nodes new.nodes g trees p m (at place)) h));
-            in_order = order_more x m.called log refl;
-            places = ap (λ ns. ns ++ map (λ (h : Group). h.which) rest) (map-append (λ (a : ℕ × List Tree). a.0) answers ((g.which, trees) ∷ [])) ∙ append_assoc (map (λ (a : ℕ × List Tree). a.0) answers) (g.which ∷ []) (map (λ (h : Group). h.which) rest) ∙ l.places;
-            counts = ap (λ ns. ns ++ map (λ (h : Group). length h.requests) rest) (map-append (λ (a : ℕ × List Tree). length a.1) answers ((g.which, trees) ∷ [])) ∙ append_assoc (map (λ (a : ℕ × List Tree). length a.1) answers) (length trees ∷ []) (map (λ (h : Group). length h.requests) rest)
-                ∙ ap (λ n. map (λ (a : ℕ × List Tree). length a.1) answers ++ n ∷ map (λ (h : Group). length h.requests) rest) m.told.1 ∙ l.counts;
-            sent = ap (λ qs. qs ++ concat (request_lists rest)) (log-append l.events (x ∷ []) ∙ ap (λ qs. log_of l.events ++ qs) (append-nil g.requests)) ∙ append_assoc (log_of l.events) g.requests (concat (request_lists rest)) ∙ l.sent;
-            replied = λ place.
-                ap replies_in (joined place) ∙ map-append (λ (y : Exchange). y.reply) (exchanges_of place l.events) (exchanges_at (at place) x)
-                ∙ ap (λ rs. rs ++ replies_in (exchanges_at (at place) x)) (l.replied place)
-                ∙ ap (λ rs. somes (concat (trees_in answers)) ++ rs) (group_replies now.nodes new.nodes g trees p m (at place))
-                ∙ sym (map-append (λ tree. Some tree) (concat (trees_in answers)) trees) ∙ ap somes (sym (concat_last (trees_in answers) trees))
-                ∙ ap (λ tss. somes (concat tss)) (sym (map-append (λ (a : ℕ × List Tree). a.1) answers ((g.which, trees) ∷ [])));
-            opens = group_opens now.nodes new.nodes g trees p m ∙ l.opens;
-            flag = flag_more x m.called log refl (list_any is_moved_tree trees) e.flag (or_none (list_any is_moved (exchanges_at 0 x)) ∙ group_moved now.nodes new.nodes g trees p m);
-            entries = e.entries ∙ l.entries;
-            settings = e.settings ∙ l.settings;
-            picked = e.picked ∙ l.picked;
-          }
 
   -- it was not
+  abbrev pub failed_made : (refusal : Refusal) → GroupExchanged now new g.which g.requests (Err refusal) → new.log ≡ now.log ++ g.requests → GroupMade now.nodes new.nodes g (Err refusal) → GroupsMade old new gs (Err refusal)
+  failed_made refusal e log m =
+      let x = group_event g m.taken (Err refusal) in
+      let joined = both x m.called log refl in
+      let here = λ (place : ℕ). paired_requests (replies_of m.taken) (at place) g.requests in
+      record {
+        events = l.events ++ x ∷ [];
+        runs = Runs-snoc old.nodes now.nodes new.nodes l.events x l.runs m.called;
+        stops = stops-append l.events (x ∷ []) l.memory (stops-one x);
+        logged = logged_more x m.called log refl;
+        unasked = group_nodes rest;
+        in_order = order_more x m.called log refl;
+        begins = λ place.
+            let more = group_extends g.requests (request_lists rest) (exchanges_at (at place) x) (here place) in (
+              more.0,
+              subst (λ xs. GroupByGroup (request_lists gs) xs) (sym (append_assoc (exchanges_of place l.events) (exchanges_at (at place) x) more.0) ∙ ap (λ xs. xs ++ more.0) (sym (joined place)))
+                  (l.leads place (exchanges_at (at place) x ++ more.0) more.1),
+            );
+        flag = flag_more x m.called log refl false e.flag (not_asked (is_answer_ending x.ending) _ (failed_no_answer now.nodes new.nodes g refusal p m));
+        entries = e.entries ∙ l.entries;
+        settings = e.settings ∙ l.settings;
+        picked = e.picked ∙ l.picked;
+        answered = λ had.
+            let some : refusal ≢ by_cause Memory = λ k. had (ap Err k) in
+            record {
+              memory = memory-append l.events (x ∷ []) l.memory (ap (λ b. b || false) (failed_memory now.nodes new.nodes g refusal p m some));
+              whole = λ place. subst (λ xs. GroupByGroup (request_lists gs) xs) (sym (joined place))
+                  (l.leads place (exchanges_at (at place) x) (group_ends g.requests (request_lists rest) (exchanges_at (at place) x) (here place) (failed_lost now.nodes new.nodes g refusal p m some (at place))));
+              tells = λ faults agreed place errors.
+                  ap (λ xs. pipeline_refusal faults xs errors) (joined place)
+                  ∙ refused_behind faults (exchanges_of place l.events) (exchanges_at (at place) x) errors (all_replied (exchanges_of place l.events) (concat (trees_in answers)) (l.replied place))
+                  ∙ failed_refusal now.nodes new.nodes g refusal p m some faults (Agrees-last faults l.events x agreed) (at place) errors;
+            };
+      }
+
   pub groups_failed : (refusal : Refusal) → GroupExchanged now new g.which g.requests (Err refusal) → GroupsMade old new gs (Err refusal)
   groups_failed refusal e = elim (exchanged_group now.nodes new.nodes now.log new.log g (Err refusal) p e.exchange) as (λ _. GroupsMade old new gs (Err refusal)) [
     | inl same ↦ let memory : by_cause Memory ≡ refusal = cc (same.2) in
         subst (λ k. GroupsMade old new gs (Err k)) memory (groups_stopped old now new gs (g ∷ rest) answers l (record { nodes = same.0; log = same.1; flag = e.flag ∙ or_none now.needs_refresh; entries = e.entries; settings = e.settings; picked = e.picked }))
-    | inr made ↦ fails made.0 made.1
+    | inr made ↦ failed_made refusal e made.0 made.1
   ]
-    where
-      fails : new.log ≡ now.log ++ g.requests → GroupMade now.nodes new.nodes g (Err refusal) → GroupsMade old new gs (Err refusal)
-      fails log m =
-          let x = group_event g m.taken (Err refusal) in
-          let joined = both x m.called log refl in
-          let here = λ (place : ℕ). paired_requests (replies_of m.taken) (at place) g.requests in
-          record {
-            events = l.events ++ x ∷ [];
-            runs = Runs-snoc old.nodes now.nodes new.nodes l.events x l.runs m.called;
-            stops = stops-append l.events (x ∷ []) l.memory (stops-one x);
-            logged = logged_more x m.called log refl;
-            unasked = group_nodes rest;
-            in_order = order_more x m.called log refl;
-            begins = λ place.
-                let more = group_extends g.requests (request_lists rest) (exchanges_at (at place) x) (here place) in (
-                  more.0,
-                  subst (λ xs. GroupByGroup (request_lists gs) xs) (sym (append_assoc (exchanges_of place l.events) (exchanges_at (at place) x) more.0) ∙ ap (λ xs. xs ++ more.0) (sym (joined place)))
-                      (l.leads place (exchanges_at (at place) x ++ more.0) more.1),
-                );
-            flag = flag_more x m.called log refl false e.flag (not_asked (is_answer_ending x.ending) _ (failed_no_answer now.nodes new.nodes g refusal p m));
-            entries = e.entries ∙ l.entries;
-            settings = e.settings ∙ l.settings;
-            picked = e.picked ∙ l.picked;
-            answered = λ had.
-                let some : refusal ≢ by_cause Memory = λ k. had (ap Err k) in
-                record {
-                  memory = memory-append l.events (x ∷ []) l.memory (ap (λ b. b || false) (failed_memory now.nodes new.nodes g refusal p m some));
-                  whole = λ place. subst (λ xs. GroupByGroup (request_lists gs) xs) (sym (joined place))
-                      (l.leads place (exchanges_at (at place) x) (group_ends g.requests (request_lists rest) (exchanges_at (at place) x) (here place) (failed_lost now.nodes new.nodes g refusal p m some (at place))));
-                  tells = λ faults agreed place errors.
-                      ap (λ xs. pipeline_refusal faults xs errors) (joined place)
-                      ∙ refused_behind faults (exchanges_of place l.events) (exchanges_at (at place) x) errors (all_replied (exchanges_of place l.events) (concat (trees_in answers)) (l.replied place))
-                      ∙ failed_refusal now.nodes new.nodes g refusal p m some faults (Agrees-last faults l.events x agreed) (at place) errors;
-                };
-          }
 
 -- ---- places stay where they were
 

@@ -1,4 +1,6 @@
 pub mod GroupLoop
+pub mod EachLoop
+pub mod EachPiping
 pub mod Logged
 pub mod PipeParts
 pub mod Piping

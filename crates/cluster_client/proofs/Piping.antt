@@ -42,6 +42,7 @@ use Rattle.cluster_steps.proofs.GroupCalls.{all_replied}
 use Rattle.cluster_calls.proofs.LinkLaws.LinkCalls.{AreLinkCalls, link_calls_made}
 use Rattle.cluster_calls.proofs.LinkLaws.LinkRuns.{or_parts}
 use Rattle.cluster_calls.proofs.LinkLaws.MovedLaws.{answered_plain}
+use Rattle.cluster_calls.proofs.LinkLaws.PipeErrors.{all_answered, same_errors, value_or}
 use Rattle.cluster_steps.proofs.PipeGroups.{all_both, all_mapped, all_unmapped, by_node, groups_are, groups_distinct, map_twice, node_of}
 use Rattle.cluster_steps.proofs.PipeGrouping.{order_within}
 use Rattle.cluster_steps.proofs.PipeOrder.{replies_drawn}
@@ -81,21 +82,7 @@ by_parts client entries picks ds (Ok parts) p e =
 pub are_of_slots : (client : Client) (entries : List Entry) (picks : List Address) (ds : List Dispatch) → plan client picks (Pipeline entries) ≡ Ok ds → AreOfSlots client entries ds
 are_of_slots client entries picks ds e = by_parts client entries picks ds (pipeline_parts 0 entries) refl e
 
--- ---- the errors and the answer
-
-same_errors : (position : ℕ) (xs : List Exchange) → errors_from position xs ≡ errors_in position (map reply_or_nil xs)
-same_errors position [] = refl
-same_errors position (x ∷ xs) = ap (with_error position (first_error (reply_or_nil x))) (same_errors (suc position) xs)
-
-all_answered : (faults : Address → LinkFault) (xs : List Exchange) (errors : List (ℕ × ErrorText)) → list_any is_unanswered xs ≡ false → pipeline_refusal faults xs errors ≡ errors_refusal errors
-all_answered faults [] errors e = refl
-all_answered faults (x ∷ xs) errors e =
-    let parts = or_parts (is_unanswered x) (list_any is_unanswered xs) e in
-    ap (λ b. cond b (Some (refusal_by_fault (faults x.request.node))) (pipeline_refusal faults xs errors)) parts.0 ∙ all_answered faults xs errors parts.1
-
-value_or : (o : Option Refusal) (tree : Tree) → value_answer (unless o (Ok tree)) ≡ unless o (Ok (Value tree))
-value_or None tree = refl
-value_or (Some refusal) tree = refl
+-- ---- the answer
 
 -- the reply is made of what came from each place; a group's refusal refuses the call, and memory may be refused when all were answered
 abbrev pub IsMadeOfGroups : List Entry → List CodeDispatch → Result (List (ℕ × List Tree)) Refusal → Result Tree Refusal → Type 0
@@ -132,7 +119,7 @@ module _ (cds : List CodeDispatch) where
   abbrev pub pipe_groups : List Group
   pipe_groups = map (group_at cds) (firsts nat_eq (map place_in cds))
 
-  whiches : map (λ (g : Group). g.which) pipe_groups ≡ firsts nat_eq (map place_in cds)
+  pub whiches : map (λ (g : Group). g.which) pipe_groups ≡ firsts nat_eq (map place_in cds)
   whiches = map_twice (group_at cds) (λ (g : Group). g.which) (firsts nat_eq (map place_in cds)) ∙ map_self (firsts nat_eq (map place_in cds))
 
   each_count : (answers : List (ℕ × List Tree)) (order : List ℕ) → map (λ (a : ℕ × List Tree). a.0) answers ≡ order → map (λ (a : ℕ × List Tree). length a.1) answers ≡ map (λ k. length (map request_in (filter (λ c. k == place_in c) cds))) order
@@ -190,22 +177,22 @@ module _ (cds : List CodeDispatch) where
       ∙ ap (λ why. unless why (Ok (Value (pipeline_reply entries xs))))
       (sym (ap (pipeline_refusal faults xs) errors ∙ all_answered faults xs (errors_in 0 trees) (all_replied xs (concat (map (λ (a : ℕ × List Tree). a.1) answers)) tells.3)))
 
-module _ (strategy : Option Strategy) (old new : World) (entries : List Entry) (cds : List CodeDispatch) (result : Result (List (ℕ × List Tree)) Refusal) (reply : Result Tree Refusal)
+module _ (strategy : Option Strategy) (old new : World) (entries : List Entry) (cds : List CodeDispatch) (result : Result (List (ℕ × List Tree)) Refusal)
     (planned : plan (client_of old) [] (Pipeline entries) ≡ Ok (map dispatch_of cds)) (picked : ArePicks strategy (client_of old) (Pipeline entries) []) (placed : AllByRecursion (IsPlaced old.nodes) cds)
-    (m : GroupsMade (with_log old [] []) new (pipe_groups cds) result) (made : IsMadeOfGroups entries cds result reply) where
-  plans : plan (client_of old) new.picked (Pipeline entries) ≡ Ok (map dispatch_of cds)
+    (m : GroupsMade (with_log old [] []) new (pipe_groups cds) result) where
+  pub plans : plan (client_of old) new.picked (Pipeline entries) ≡ Ok (map dispatch_of cds)
   plans = subst (λ ps. plan (client_of old) ps (Pipeline entries) ≡ Ok (map dispatch_of cds)) (sym m.picked) planned
 
-  are : ArePicks strategy (client_of old) (Pipeline entries) new.picked
+  pub are : ArePicks strategy (client_of old) (Pipeline entries) new.picked
   are = subst (λ ps. ArePicks strategy (client_of old) (Pipeline entries) ps) (sym m.picked) picked
 
-  legal : (xs : List Exchange) → GroupByGroup (request_lists (pipe_groups cds)) xs → IsLegalCall (client_of old) new.picked (Pipeline entries) xs
+  pub legal : (xs : List Exchange) → GroupByGroup (request_lists (pipe_groups cds)) xs → IsLegalCall (client_of old) new.picked (Pipeline entries) xs
   legal xs parts = rw plans (by_node (node_groups (map dispatch_of cds)) xs (subst (λ qss. GroupByGroup qss xs) (sym (groups_are old.nodes cds placed)) parts))
 
   once : AreLinkCalls (pipeline_of entries) m.events
   once = distinct_front (map (λ (x : Event). x.node) m.events) m.unasked (subst (IsDistinct same_address) (sym m.in_order) (groups_distinct old.nodes cds placed))
 
-  abbrev happened : Happened strategy old new (Pipeline entries)
+  abbrev pub happened : Happened strategy old new (Pipeline entries)
   happened = record {
     events = m.events;
     runs = m.runs;
@@ -220,8 +207,8 @@ module _ (strategy : Option Strategy) (old new : World) (entries : List Entry) (
   }
 
   -- the call was made
-  pub pipeline_made : CallMade strategy old new (Pipeline entries) (value_answer reply)
-  pipeline_made =
+  pub pipeline_made : (reply : Result Tree Refusal) → IsMadeOfGroups entries cds result reply → CallMade strategy old new (Pipeline entries) (value_answer reply)
+  pipeline_made reply made =
       call_made strategy old new (Pipeline entries) (value_answer reply) happened
       (λ had.
       let there : reply ≢ Err (by_cause Memory) = λ e. had (ap value_answer e) in
@@ -238,8 +225,8 @@ pub reply_made : (strategy : Option Strategy) (old mid new : World) (entries : L
     → mid ≡ with_log old [] [] → IsPlanned strategy (client_of old) (Pipeline entries) [] (Ok (map dispatch_of cds)) → AllByRecursion (IsPlaced mid.nodes) cds → gs ≡ pipe_groups cds → GroupsMade mid new gs result → IsMadeOfGroups entries cds result reply
     → CallMade strategy old new (Pipeline entries) (value_answer reply)
 reply_made strategy old mid new entries cds gs result reply stays planned placed grouped m made =
-    pipeline_made strategy old new entries cds result reply planned.planned planned.picked (subst (λ (w : World). AllByRecursion (IsPlaced w.nodes) cds) stays placed)
-    (subst (λ (w : World). GroupsMade w new (pipe_groups cds) result) stays (subst (λ hs. GroupsMade mid new hs result) grouped m)) made
+    pipeline_made strategy old new entries cds result planned.planned planned.picked (subst (λ (w : World). AllByRecursion (IsPlaced w.nodes) cds) stays placed)
+    (subst (λ (w : World). GroupsMade w new (pipe_groups cds) result) stays (subst (λ hs. GroupsMade mid new hs result) grouped m)) reply made
 
 -- ---- places of links
 

@@ -4,3 +4,4 @@ pub mod Shown
 pub mod NodeRuns
 pub mod Ended
 pub mod PreparedReads
+pub mod Outcomes

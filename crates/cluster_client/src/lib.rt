@@ -4,6 +4,7 @@
 mod client;
 mod fan_out;
 mod pipeline;
+mod pipeline_each;
 mod pipeline_parts;
 mod pipeline_query;
 mod pipeline_reply;

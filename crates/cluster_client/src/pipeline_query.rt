@@ -32,7 +32,7 @@ use std::alloc::Global;
 impl<L: ConnectionLike + Drop> ClusterClient<L> {
     /// What is done for a pipeline before its first byte: where each command goes, and room for all of
     /// them in the log.
-    fn pipeline_dispatches(
+    pub(crate) fn pipeline_dispatches(
         &mut self,
         alloc: Global,
         commands: &[PipelineCommand],
@@ -55,7 +55,11 @@ impl<L: ConnectionLike + Drop> ClusterClient<L> {
     }
 
     /// The replies to requests that go out over one link in one write. The log has room for them.
-    fn exchange_group(&mut self, alloc: Global, group: Group) -> Result<Vec<Value>, RedisError>
+    pub(crate) fn exchange_group(
+        &mut self,
+        alloc: Global,
+        group: Group,
+    ) -> Result<Vec<Value>, RedisError>
         requires within { group.which < vec_len self.old.links.nodes }
         requires room { vec_len self.old.asked + vec_len group.requests ≤ vec_capacity self.old.asked }
         ensures len { vec_len self.new.links.nodes ≡ vec_len self.old.links.nodes }

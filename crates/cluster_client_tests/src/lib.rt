@@ -6,6 +6,8 @@ mod answers;
 #[cfg(test)]
 mod clients;
 #[cfg(test)]
+mod each_position;
+#[cfg(test)]
 mod failing;
 #[cfg(test)]
 mod limits;

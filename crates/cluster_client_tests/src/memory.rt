@@ -336,6 +336,90 @@ fn fan_out(rt: HostRuntime) -> Result<(), Fail> {
     )
 }
 
+/// A pipeline over both nodes that tells of each position: refused in the refresh, before its first byte,
+/// by a writer without room, and in the link call of a node. What is told is written as digits behind a
+/// 1, two for each position: 0 of a number, else the number of its refusal.
+const EACH: [(&str, &str); 9] = [
+    ("-17, -7, false 0 0 0 0 0", "-7, -7, 0, 0"),
+    ("-17, -7, false 0 0 0 28! 0", "-7, -7, 8, 0"),
+    ("-17, -7, false 0 0 0 28 0", "-7, -7, 0, 0"),
+    ("-14, -7, false 0 0 0 0! 0", "-7, -7, 8, 0"),
+    ("0, -17, false 0 0 0 28 0", "4, 3, 0, 0"),
+    ("0, -11420, false 0 0 0 28! 0, n1 GET b", "4, -8, 8, 0"),
+    ("0, -11720, false 0 0 0 48! 0, n1 GET b", "4, -8, 8, 0"),
+    (
+        "0, -10014, false 0 0 0 48 0!, n1 GET b, n2 GET a",
+        "-8, 6, 0, 8",
+    ),
+    (
+        "0, -10017, false 0 0 0 48 20!, n1 GET b, n2 GET a",
+        "-8, 6, 0, 8",
+    ),
+];
+
+/// `GET b`, `GET a`.
+fn two_reads(alloc: Global) -> Result<ClusterPipeline, AllocError> {
+    let mut pipeline = cluster_pipe(alloc);
+    pipeline.cmd(alloc, "GET")?;
+    pipeline.arg("b")?;
+    pipeline.add_command(get_a(alloc)?)?;
+    Ok(pipeline)
+}
+
+fn two_reads_again<R: Print>(rt: &R, alloc: Global) -> Result<ClusterPipeline, Fail> {
+    match two_reads(alloc) {
+        Ok(pipeline) => Ok(pipeline),
+        Err(_) => {
+            println!(rt; "refused pipeline")?;
+            Ok(two_reads(alloc)?)
+        }
+    }
+}
+
+/// Of outcomes that are numbers these two digits behind one another, and 1 where they are 3 and 4; else
+/// what is told, below zero.
+fn digits_in(outcomes: &[Result<Value, RedisError>]) -> i64 {
+    match outcomes {
+        [Ok(Value::Int(3)), Ok(Value::Int(4))] => 1,
+        [first, second] => 0 - 10000 - number_told(first) * 100 - number_told(second),
+        _ => 0,
+    }
+}
+
+fn number_told(outcome: &Result<Value, RedisError>) -> i64 {
+    match outcome {
+        Ok(_) => 0,
+        Err(e) => i64::from(e.number()),
+    }
+}
+
+fn each_told(outcome: Result<Vec<Result<Value, RedisError>>, RedisError>) -> i64 {
+    match outcome {
+        Ok(outcomes) => digits_in(&outcomes),
+        Err(e) => 0 - i64::from(e.number()),
+    }
+}
+
+#[test]
+fn each_position(rt: HostRuntime) -> Result<(), Fail> {
+    let alloc = rt.alloc();
+    let mut client = client_again(&rt, alloc, &counted())?;
+    let words = make_words_again(&rt, alloc)?;
+    let pipeline = two_reads_again(&rt, alloc)?;
+    let first = refresh(alloc, &mut client, &words);
+    let second = each_told(pipeline.query_each(alloc, &mut client));
+    let wanted = "0, 1, false 0 0 0 48 20, n1 GET b, n2 GET a";
+    sees(
+        &rt,
+        alloc,
+        &mut client,
+        "query_each",
+        (first, second),
+        wanted,
+        &EACH,
+    )
+}
+
 /// A read that goes to the replica n3:7003, which a strategy picks. No pick is shown where the request was
 /// not written down.
 const PICKED: [(&str, &str); 8] = [

@@ -20,7 +20,7 @@ use Rattle.cluster_steps.specs.Groups.{Group}
 use Rattle.cluster_steps.specs.GroupRuns.{is_moved_tree, moved_by, group_node, IsGroupPlaced, GroupByGroup}
 use Rattle.cluster_calls.specs.Calls.Refusals.{pipeline_refusal}
 use Rattle.cluster_calls.proofs.LinkLaws.Pairing.{some_lost}
-use Rattle.cluster_calls.proofs.LinkLaws.LinkRuns.{or_parts}
+use Rattle.cluster_calls.proofs.LinkLaws.PipeErrors.{lost_unanswered}
 use Rattle.cluster_calls.proofs.LinkLaws.LinkEnds.{ending_of, ending_refusal, ended_refusal, had_memory_by, refusal_agrees, link_called_at}
 use Rattle.cluster_calls.proofs.LinkLaws.EndLaws.{whole_answered, ends_pairs, ends_usable, ends_was_open}
 use Rattle.cluster_calls.proofs.LinkLaws.LinkPlaces.{found, linked, set_open}
@@ -71,16 +71,6 @@ moved_replies (x ∷ xs) (t ∷ ts) e =
     let later : map (λ (x : Exchange). x.reply) xs ≡ map (λ tree. Some tree) ts = cc in
     rw first (ap (λ b. is_moved_tree t || b) (moved_replies xs ts later))
 
-lost_by : (s u l v : Bool) → ((s && u) || l) ≡ true → (l ≡ true → v ≡ true) → (u || v) ≡ true
-lost_by true true l v e f = refl
-lost_by true false l v e f = f e
-lost_by false true l v e f = refl
-lost_by false false l v e f = f e
-
-pub lost_unanswered : (a : Address) (xs : List Exchange) → has_lost a xs ≡ true → list_any is_unanswered xs ≡ true
-lost_unanswered a [] e = e
-lost_unanswered a (x ∷ xs) e = lost_by (same_address x.request.node a) (is_unanswered x) (has_lost a xs) (list_any is_unanswered xs) e (λ f. lost_unanswered a xs f)
-
 -- the first unanswered request of one node refuses by that node's fault
 pub refused_in : (faults : Address → LinkFault) (node : Address) (qs : List Request) (trees : List Tree) (place : ℕ) (errors : List (ℕ × ErrorText)) → AllTo node qs → list_any is_unanswered (pair_up trees place qs) ≡ true
     → pipeline_refusal faults (pair_up trees place qs) errors ≡ Some (refusal_by_fault (faults node))
@@ -95,13 +85,6 @@ refused_in faults node (q ∷ qs) trees place errors all e =
         → cond b (Some (refusal_by_fault (faults q.node))) (pipeline_refusal faults later errors) ≡ Some (refusal_by_fault (faults node))
     by true f h = ap (λ a. Some (refusal_by_fault (faults a))) all.0
     by false f h = h f
-
--- replied requests refuse nothing
-pub refused_behind : (faults : Address → LinkFault) (xs ys : List Exchange) (errors : List (ℕ × ErrorText)) → list_any is_unanswered xs ≡ false → pipeline_refusal faults (xs ++ ys) errors ≡ pipeline_refusal faults ys errors
-refused_behind faults [] ys errors e = refl
-refused_behind faults (x ∷ xs) ys errors e =
-    let parts = or_parts (is_unanswered x) (list_any is_unanswered xs) e in
-    ap (λ b. cond b (Some (refusal_by_fault (faults x.request.node))) (pipeline_refusal faults (xs ++ ys) errors)) parts.0 ∙ refused_behind faults xs ys errors parts.1
 
 -- ---- the exchanges of one group, and those behind it
 

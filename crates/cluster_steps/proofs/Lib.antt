@@ -1,5 +1,6 @@
 pub mod GroupCalls
 pub mod Queueing
+pub mod Telling
 pub mod PipeGroups
 pub mod PipeOrder
 pub mod PipeGrouping

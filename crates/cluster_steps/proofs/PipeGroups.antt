@@ -153,7 +153,7 @@ module _ (ns : List Node) (cds : List CodeDispatch) (placed : AllByRecursion (Is
   abbrev pub first_ones : List CodeDispatch
   first_ones = firsts of_place cds
 
-  agree : (c d : CodeDispatch) → IsPlaced ns c → IsPlaced ns d → of_place c d ≡ of_node c d
+  pub agree : (c d : CodeDispatch) → IsPlaced ns c → IsPlaced ns d → of_place c d ≡ of_node c d
   agree c d p q = same_place ns (node_of c) (node_of d) (place_in c) (place_in d) p.place.place q.place.place
 
   pub first_places : map place_in first_ones ≡ firsts nat_eq (map place_in cds)
@@ -228,7 +228,7 @@ module _ (ns : List Node) (cds : List CodeDispatch) (placed : AllByRecursion (Is
   some_requests [] some e = some refl
   some_requests (x ∷ es) some e = cc
 
-  group_node_is : (c : CodeDispatch) → IsPlaced ns c → alike cds c ≢ [] → group_node (map request_in (alike cds c)) ≡ node_of c
+  pub group_node_is : (c : CodeDispatch) → IsPlaced ns c → alike cds c ≢ [] → group_node (map request_in (alike cds c)) ≡ node_of c
   group_node_is c p some = first_of_group (node_of c) (alike cds c) some (one_node c p cds placed)
 
   group_placed : (c : CodeDispatch) → IsPlaced ns c → alike cds c ≢ [] → IsGroupPlaced ns (group_at cds (place_in c))

@@ -16,7 +16,7 @@ use Rattle.cluster_calls.specs.Calls.Call.{Entry}
 use Rattle.cluster_calls.specs.Calls.Replies.{args_slot, exchange_slot, in_pipeline_order, reply_or_nil, with_slot}
 use Rattle.cluster_steps.proofs.PipeGroups.{map_twice, all_both}
 use Rattle.cluster_calls.proofs.ServerLaws.Distinct.{firsts_distinct, among-firsts}
-use Rattle.cluster_calls.proofs.ServerLaws.Draw.{draw_each, drawn_same, draw-map}
+use Rattle.cluster_calls.proofs.ServerLaws.Draw.{draw_each, drawn_same, draw-map, draw_self}
 use Rattle.cluster_calls.proofs.ServerLaws.Grouping.{filter-map, filter-same}
 use Rattle.cluster_calls.proofs.ServerLaws.Regroup.{filter-grouped_all}
 
@@ -107,19 +107,7 @@ pub replies_are : {V : Type 0} (view : V → Tree) (places ks : List ℕ) (answe
     → map view replies ≡ draw ks (queued no_queues (map (answered_at view) answers))
 replies_are view places ks answers replies e same = ap (map view) e ∙ drawn_view view places answers ∙ ap (λ ns. draw ns (queued no_queues (map (answered_at view) answers))) same
 
--- ---- drawing what is there
-
-pub draw_self : {X : Type 0} (key : X → ℕ) (ws : List X) (queues : ℕ → List X) → ((s : ℕ) → queues s ≡ filter (λ w. s == key w) ws) → draw (map key ws) queues ≡ ws
-draw_self key [] queues h = refl
-draw_self {X} key (w ∷ ws) queues h =
-    ap (λ q. front q ++ draw (map key ws) (without_front_of (key w) queues)) own ∙ ap (λ r. w ∷ r) (draw_self key ws (without_front_of (key w) queues) (λ s. left s (s == key w) refl (h s)))
-  where
-    own : queues (key w) ≡ w ∷ filter (λ v. key w == key v) ws
-    own = h (key w) ∙ ap (λ b. cond b (w ∷ filter (λ v. key w == key v) ws) (filter (λ v. key w == key v) ws)) (eq-eqb (key w) (key w) refl)
-
-    left : (s : ℕ) (b : Bool) → (s == key w) ≡ b → queues s ≡ cond b (w ∷ filter (λ v. s == key v) ws) (filter (λ v. s == key v) ws) → cond b (rest (queues s)) (queues s) ≡ filter (λ v. s == key v) ws
-    left s true e k = ap rest k
-    left s false e k = k
+-- ---- each command with its reply
 
 pairwise_first : {A B : Type 0} (xs : List A) (zs : List (A × B)) → Pairwise (λ (x : A) (z : A × B). z.0 ≡ x) xs zs → map (λ (z : A × B). z.0) zs ≡ xs
 pairwise_first [] [] h = refl

@@ -8,4 +8,5 @@ pub mod Attempts
 pub mod Groups
 pub mod GroupRuns
 pub mod Queues
+pub mod Each
 pub mod Reads

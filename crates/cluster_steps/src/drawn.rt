@@ -15,7 +15,7 @@ pub struct Answered<T> {
 }
 
 /// An empty queue for each of so many places.
-fn empty_queues<T: Drop>(alloc: Global, count: usize) -> Result<Vec<VecDeque<T>>, AllocError>
+pub fn empty_queues<T: Drop>(alloc: Global, count: usize) -> Result<Vec<VecDeque<T>>, AllocError>
     ensures len { IfOk result (λ v. vec_len v ≡ count) }
     ensures empty { IfOk result (λ v. (k : ℕ) → queue_in (map (λ q. q.items) v.items) k ≡ []) }
 {
@@ -26,8 +26,8 @@ fn empty_queues<T: Drop>(alloc: Global, count: usize) -> Result<Vec<VecDeque<T>>
     Ok(queues)
 }
 
-/// Puts a queue at its place.
-fn put<T: Drop>(queues: &mut Vec<VecDeque<T>>, which: usize, items: Vec<T>)
+/// Puts a queue at its place. It takes no memory.
+pub fn put<T: Drop>(queues: &mut Vec<VecDeque<T>>, which: usize, items: Vec<T>)
     requires { which < vec_len queues.old }
     ensures len { vec_len queues.new ≡ vec_len queues.old }
     ensures put { (k : ℕ)
@@ -56,8 +56,8 @@ fn queues_of<T: Drop>(
     Ok(queues)
 }
 
-/// The next item of a place's queue.
-fn next<T: Drop>(queues: &mut Vec<VecDeque<T>>, place: usize) -> Option<T>
+/// The next item of a place's queue. It takes no memory.
+pub fn next<T: Drop>(queues: &mut Vec<VecDeque<T>>, place: usize) -> Option<T>
     requires { place < vec_len queues.old }
     ensures len { vec_len queues.new ≡ vec_len queues.old }
     ensures front { option_to_list result ≡ front (queue_in (map (λ q. q.items) queues.old.items) place) }

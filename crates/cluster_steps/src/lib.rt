@@ -7,6 +7,7 @@ pub mod attempt;
 pub mod attempt_turn;
 pub mod dispatch;
 pub mod drawn;
+pub mod each;
 pub mod exchange;
 pub mod grouped;
 pub mod links;

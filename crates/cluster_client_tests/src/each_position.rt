@@ -1,0 +1,224 @@
+//! Pipelines that tell of each position.
+use crate::clients::*;
+use cluster_client::*;
+use std::alloc::{AllocError, Global};
+use std::process::Abort;
+use std::test::Fail;
+
+/// The slots in three parts: that of `b` at n1:7001, that of `c` at n2:7002, that of `a` at n3:7003.
+const THIRDS: &[u8] =
+    b"*3\r\n*3\r\n:0\r\n:5000\r\n*2\r\n$2\r\nn1\r\n:7001\r\n*3\r\n:5001\r\n:10000\r\n*2\r\n$2\r\nn2\r\n:7002\r\n*3\r\n:10001\r\n:16383\r\n*2\r\n$2\r\nn3\r\n:7003\r\n";
+
+/// What comes from each node behind the map, a `GET` of each of these keys, what has to be told of each
+/// (a number, or the number of its refusal behind a sign), which nodes are asked, whose links stay
+/// open, and whether a refresh is needed.
+#[derive(Drop)]
+struct Row {
+    n1: &'static [u8],
+    n2: &'static [u8],
+    n3: &'static [u8],
+    keys: &'static [&'static str],
+    told: &'static str,
+    asked: &'static str,
+    open: &'static str,
+    needs_refresh: bool,
+}
+
+/// Two nodes: numbers and an error; one reply holds an error deeper inside, and one is MOVED.
+const TWO_NODES: Row = Row {
+    n1: b":1\r\n-ERR x\r\n",
+    n2: b"",
+    n3: b":5\r\n*2\r\n:6\r\n-ERR y\r\n-MOVED 15495 n1:7001\r\n-ASK 15495 n1:7001\r\n",
+    keys: &["a", "b", "a", "a", "b", "a"],
+    told: "5, 1, [6, ERR y], 13 MOVED, 13 ERR, 13 ASK",
+    asked: "n3 n3 n3 n3 n1 n1",
+    open: "n1 n2 n3",
+    needs_refresh: true,
+};
+
+/// The link of the second node fails behind its first reply: the first one's replies stand, and the third
+/// one is not asked. A MOVED of the failed link does not count.
+const SECOND_FAILS: Row = Row {
+    n1: b":1\r\n:2\r\n",
+    n2: b"-MOVED 7365 n1:7001\r\n",
+    n3: b":5\r\n",
+    keys: &["b", "c", "a", "c", "b", "a"],
+    told: "1, 14, 20, 14, 2, 20",
+    asked: "n1 n1 n2 n2",
+    open: "n1 n3",
+    needs_refresh: false,
+};
+
+/// The same where the bytes of the first node are no RESP.
+const FIRST_FAILS: Row = Row {
+    n1: b":1\r\n?\r\n",
+    n2: b":7\r\n",
+    n3: b":5\r\n",
+    keys: &["b", "a", "b", "c"],
+    told: "15, 20, 15, 20",
+    asked: "n1 n1",
+    open: "n2 n3",
+    needs_refresh: false,
+};
+
+/// The last node fails: all others are told.
+const LAST_FAILS: Row = Row {
+    n1: b":1\r\n",
+    n2: b":7\r\n",
+    n3: b"",
+    keys: &["c", "b", "a"],
+    told: "7, 1, 14",
+    asked: "n2 n1 n3",
+    open: "n1 n2",
+    needs_refresh: false,
+};
+
+/// No command, and no outcome.
+const NOTHING: Row = Row {
+    n1: b"",
+    n2: b"",
+    n3: b"",
+    keys: &[],
+    told: "",
+    asked: "",
+    open: "n1 n2 n3",
+    needs_refresh: false,
+};
+
+fn client(alloc: Global, row: &Row) -> Result<Client, RedisError> {
+    let mut first = Vec::from_slice(alloc, THIRDS)?;
+    first.extend_from_slice(row.n1)?;
+    let mut links = Vec::new(alloc);
+    add_link(alloc, &mut links, "n1:7001", &first)?;
+    add_link(alloc, &mut links, "n2:7002", row.n2)?;
+    add_link(alloc, &mut links, "n3:7003", row.n3)?;
+    let mut client = ClusterClient::new(alloc, links, Vec::new(alloc), 3)?;
+    client.refresh(alloc, &node(alloc, "n1:7001")?)?;
+    Ok(client)
+}
+
+fn gets(alloc: Global, keys: &[&str]) -> Result<ClusterPipeline, AllocError> {
+    let mut pipeline = cluster_pipe(alloc);
+    for key in keys {
+        pipeline.cmd(alloc, "GET")?;
+        pipeline.arg(*key)?;
+    }
+    Ok(pipeline)
+}
+
+/// Puts a text behind others, with this between them.
+fn push_word(text: &mut String, between: &str, word: &str) -> Result<(), AllocError> {
+    if !text.is_empty() {
+        text.push_str(between)?;
+    }
+    text.push_str(word)?;
+    Ok(())
+}
+
+fn value_text(alloc: Global, value: &Value) -> Result<String, RedisError> {
+    Ok(match value {
+        Value::Int(number) => format!(in alloc; "{number}")?,
+        Value::ServerError(error) => format!(in alloc; "{error}")?,
+        _ => format!(in alloc; "another")?,
+    })
+}
+
+fn values_text(alloc: Global, values: &[Value]) -> Result<String, RedisError> {
+    let mut text = String::new(alloc);
+    for value in values {
+        push_word(&mut text, ", ", value_text(alloc, value)?.as_str())?;
+    }
+    Ok(format!(in alloc; "[{text}]")?)
+}
+
+fn outcome_text(alloc: Global, outcome: &Result<Value, RedisError>) -> Result<String, RedisError> {
+    match outcome {
+        Ok(Value::Array(values)) => values_text(alloc, values),
+        Ok(value) => value_text(alloc, value),
+        Err(e) => {
+            let number = e.number();
+            Ok(match e.code() {
+                Some(code) => format!(in alloc; "{number} {code}")?,
+                None => format!(in alloc; "{number}")?,
+            })
+        }
+    }
+}
+
+/// What is told of each position.
+fn told(
+    alloc: Global,
+    client: &mut Client,
+    pipeline: &ClusterPipeline,
+) -> Result<String, RedisError> {
+    let mut text = String::new(alloc);
+    for outcome in pipeline.query_each(alloc, client)? {
+        push_word(&mut text, ", ", outcome_text(alloc, &outcome)?.as_str())?;
+    }
+    Ok(text)
+}
+
+fn asked(alloc: Global, client: &Client) -> Result<String, AllocError> {
+    let mut text = String::new(alloc);
+    for request in client.asked() {
+        push_word(&mut text, " ", request.node.host())?;
+    }
+    Ok(text)
+}
+
+fn open_links(alloc: Global, client: &Client) -> Result<String, AllocError> {
+    let mut text = String::new(alloc);
+    for (node, link) in client.links() {
+        if link.is_open() {
+            push_word(&mut text, " ", node.host())?;
+        }
+    }
+    Ok(text)
+}
+
+fn plays<R: Abort>(rt: &R, alloc: Global, row: &Row) -> Result<(), Fail> {
+    let mut client = client(alloc, row)?;
+    let pipeline = gets(alloc, row.keys)?;
+    assert_eq!(rt; told(alloc, &mut client, &pipeline)?.as_str(), row.told);
+    assert_eq!(rt; asked(alloc, &client)?.as_str(), row.asked);
+    assert_eq!(rt; open_links(alloc, &client)?.as_str(), row.open);
+    assert_eq!(rt; client.needs_refresh(), row.needs_refresh);
+    Ok(())
+}
+
+#[test]
+fn each_position_is_told(rt: HostRuntime) -> Result<(), Fail> {
+    let alloc = rt.alloc();
+    plays(&rt, alloc, &TWO_NODES)?;
+    plays(&rt, alloc, &SECOND_FAILS)?;
+    plays(&rt, alloc, &FIRST_FAILS)?;
+    plays(&rt, alloc, &LAST_FAILS)?;
+    plays(&rt, alloc, &NOTHING)?;
+    Ok(())
+}
+
+/// The position that a refused call tells.
+fn refused_position(
+    alloc: Global,
+    client: &mut Client,
+    pipeline: &ClusterPipeline,
+) -> Option<usize> {
+    match pipeline.query_each(alloc, client) {
+        Ok(_) => None,
+        Err(e) => e.position(),
+    }
+}
+
+#[test]
+fn a_position_is_refused_before_the_first_byte(rt: HostRuntime) -> Result<(), Fail> {
+    let alloc = rt.alloc();
+    let mut client = client(alloc, &TWO_NODES)?;
+    let mut pipeline = gets(alloc, &["a", "b"])?;
+    pipeline.cmd(alloc, "DEL")?;
+    pipeline.arg("a")?;
+    pipeline.arg("b")?;
+    assert_eq!(rt; refused_position(alloc, &mut client, &pipeline), Some(2));
+    assert_eq!(rt; client.asked().len(), 0);
+    assert!(rt; has_sent(alloc, &client, "n3:7003", b"")?);
+    Ok(())
+}
