@@ -1,5 +1,6 @@
 pub mod GroupLoop
 pub mod Logged
+mod WholeRun
 pub mod PipeParts
 pub mod Piping
 pub mod NodeLoop

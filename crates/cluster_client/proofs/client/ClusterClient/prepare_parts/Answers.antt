@@ -9,7 +9,7 @@ use Rattle.cluster_client.specs.Whole.{whole}
 use Rattle.cluster_calls.specs.Links.World.{nodes}
 use Rattle.cluster_calls.proofs.LinkLaws.Ordering.{holds_in_order}
 use Rattle.cluster_client.proofs.Prepared.{prepared_dispatches, prepared_planned, prepared_routes, prepared_unfit, prepared_unplaced}
-use Rattle.cluster_client.proofs.client.ClusterClient.prepare.Goals as goal
+use Rattle.cluster_client.proofs.client.ClusterClient.prepare_parts.Goals as goal
 
 pub returns-then-not-branch-clause-planned : goal.returns-then-not-branch-clause-planned
 returns-then-not-branch-clause-planned g c m =
