@@ -2,6 +2,7 @@ pub mod GroupLoop
 pub mod EachLoop
 pub mod EachPiping
 pub mod Logged
+mod WholeRun
 pub mod PipeParts
 pub mod Piping
 pub mod NodeLoop

@@ -1,6 +1,6 @@
 //! The client: it refreshes its slot map, and sends commands to the nodes that serve them.
 ghost use Rattle.std.specs.List.{AllByRecursion};
-ghost use Rattle.std.specs.Prelude.{◌≡◌, ◌≢◌, ◌↔◌, ◌<◌, ◌≤◌, ◌+◌, ◌||◌, Err, None, [], true, false, vec_capacity, vec_len, map, IfOk, IfErr, OnErr, OnOk, if◌then◌else◌, option_map};
+ghost use Rattle.std.specs.Prelude.{◌≡◌, ◌≢◌, ◌↔◌, ◌<◌, ◌≤◌, ◌+◌, ◌||◌, Err, None, [], ◌∷◌, true, false, vec_capacity, vec_len, map, IfOk, IfErr, OnErr, OnOk, if◌then◌else◌, option_map};
 ghost use Rattle.resp_core.specs.Errors.{by_cause};
 ghost use Rattle.resp_core.specs.View.{push_view, view};
 ghost use Rattle.resp_core.specs.declared.errors.redis_error.Cause.TheVariants.{Memory, RepeatedAddress};
@@ -16,7 +16,7 @@ ghost use Rattle.cluster_calls.specs.Calls.Call.{Query, Refresh};
 ghost use Rattle.cluster_calls.specs.Links.Chains.{ChainMade};
 ghost use Rattle.cluster_calls.specs.Links.Converted.{ValueMade, refresh_answer, value_answer};
 ghost use Rattle.cluster_calls.specs.Links.Happened.{CallMade, Happened, client_of};
-ghost use Rattle.cluster_steps.specs.Dispatches.{IsPlaced, IsPlanned, dispatch_of, prepared_by};
+ghost use Rattle.cluster_steps.specs.Dispatches.{IsPlaced, IsPlanned, dispatch_of, dispatches_in, prepared_by, set_out_by, split_in};
 ghost use Rattle.cluster_calls.specs.Links.Orders.{command_call, routes_in_order};
 ghost use Rattle.cluster_calls.specs.Links.PartRuns.{PartsMade};
 ghost use Rattle.cluster_calls.specs.Links.Places.{IsOpenAt};
@@ -24,7 +24,7 @@ ghost use Rattle.cluster_steps.specs.Turns.{hop_to};
 ghost use Rattle.cluster_client.specs.Ended.{CommandEnded};
 ghost use Rattle.cluster_client.specs.Whole.{whole};
 ghost use Rattle.cluster_calls.specs.Links.Run.{with_log};
-ghost use Rattle.cluster_calls.specs.Links.World.{addresses_of, has_repeats, link_at, new_world, nodes, tree_result, tree_results};
+ghost use Rattle.cluster_calls.specs.Links.World.{addresses_of, has_repeats, link_at, new_world, nodes, one_reply, tree_result, tree_results};
 
 mod at;
 mod ordered;
@@ -33,13 +33,13 @@ mod relink;
 
 use cluster_routing::{ClusterTopology, NodeAddress, ReadRoutingStrategy, SlotMap};
 use cluster_steps::asked::{Asked, sent_again};
-use cluster_steps::dispatch::{Dispatch, Prepared, dispatches};
+use cluster_steps::dispatch::{Dispatch, Outset, Prepared, dispatches, one_dispatch};
 use cluster_steps::exchange::exchange_one;
 use cluster_steps::links::Links;
 use cluster_steps::order::{fits_order, prepared_in_order};
 use cluster_steps::ready::{Ready, make_all_ready, make_ready};
 use cluster_steps::reply::{needs_refresh, reply_of_parts};
-use cluster_steps::route::{Parts, parts_of};
+use cluster_steps::route::{Parts, parts_of, whole_part};
 use cluster_steps::slots::{slot_map_in, slots_dispatch};
 use cluster_steps::turn::{Turn, turn_by};
 use resp_args::{Cmd, FromRedisValue, from_redis_value};
@@ -240,9 +240,13 @@ impl<L: ConnectionLike + Drop> ClusterClient<L> {
             (command_call cmd.now (option_map (λ o. o.now) order.entry) number)
             (value_answer (tree_result view result)) }
     {
-        let Prepared { dispatches, split } = self.prepare(alloc, cmd, order, number, strategy)?;
-        let replies = self.follow_all(alloc, dispatches)?;
-        reply_of_parts(alloc, split, replies)
+        match self.prepare(alloc, cmd, order, number, strategy)? {
+            Outset::Whole(dispatch) => self.follow_whole(alloc, dispatch),
+            Outset::InParts(Prepared { dispatches, split }) => {
+                let replies = self.follow_all(alloc, dispatches)?;
+                reply_of_parts(alloc, split, replies)
+            }
+        }
     }
 
     /// Forgets the picks where memory was refused before a request was written down.
@@ -259,9 +263,51 @@ impl<L: ConnectionLike + Drop> ClusterClient<L> {
         }
     }
 
-    /// What is done for a command before its first byte: its parts, where each of them goes first, and
-    /// the order in which they are sent.
+    /// What is done for a command before its first byte: where it goes first, or its parts, where each of them
+    /// goes first, and the order in which they are sent.
     fn prepare(
+        &mut self,
+        alloc: Global,
+        cmd: &Cmd,
+        order: Option<&[usize]>,
+        number: u64,
+        strategy: Option<&dyn ReadRoutingStrategy>,
+    ) -> Result<Outset, RedisError>
+        ensures stays { whole L.seen self.new
+            ≡ with_log (whole L.seen self.old) [] (addresses self.new.picked.items) }
+        ensures planned { result ≢ Err (by_cause Memory)
+            → IsPlanned (option_map (λ s. admits s.now) strategy.entry) (client_of (whole L.seen self.old))
+            (command_call cmd.now (option_map (λ o. o.now) order.entry) number)
+            (addresses self.new.picked.items) (set_out_by result) }
+        ensures placed { IfOk result
+            (λ o. AllByRecursion (IsPlaced (nodes L.seen self.new.links.nodes.items)) (dispatches_in o)) }
+        ensures split { IfOk result
+            (λ o. option_map shown_split (split_in o)
+            ≡ option_map (routes_in_order (option_map (λ o. o.now) order.entry))
+            (parts_by_place cmd.now.args (texts self.new.read_only.items))) }
+    {
+        self.asked = Vec::new(alloc);
+        self.picked = Vec::new(alloc);
+        let Some(part) = whole_part(alloc, cmd, &self.read_only, number)? else {
+            let prepared = self.prepare_parts(alloc, cmd, order, number, strategy)?;
+            return Ok(Outset::InParts(prepared));
+        };
+        if !fits_order(alloc, order, 1)? {
+            return Err(RedisError::from(Cause::BadOrder));
+        }
+        let dispatch = one_dispatch(
+            &self.links,
+            alloc,
+            &self.slots,
+            part,
+            strategy,
+            &mut self.picked,
+        )?;
+        Ok(Outset::Whole(dispatch))
+    }
+
+    /// The same of a command in parts.
+    fn prepare_parts(
         &mut self,
         alloc: Global,
         cmd: &Cmd,
@@ -297,6 +343,16 @@ impl<L: ConnectionLike + Drop> ClusterClient<L> {
             &mut self.picked,
         )?;
         Ok(prepared_in_order(alloc, Prepared { dispatches, split }, order)?)
+    }
+
+    /// The reply to a command that goes out whole, behind its redirects.
+    fn follow_whole(&mut self, alloc: Global, dispatch: Dispatch) -> Result<Value, RedisError>
+        requires { IsPlaced (nodes L.seen self.old.links.nodes.items) dispatch }
+        ensures { PartsMade (whole L.seen self.old) (whole L.seen self.new) (dispatch_of dispatch ∷ [])
+            (one_reply (tree_result view result)) }
+    {
+        let request = make_ready(alloc, &mut self.asked, dispatch, 1)?;
+        self.follow(alloc, request, 1)
     }
 
     /// The replies to parts that are sent one after another, each behind its redirects, up to the first

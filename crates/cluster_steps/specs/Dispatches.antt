@@ -1,5 +1,5 @@
 -- Where all parts of a call go first, as the code finds it.
-use Rattle.std.specs.Prelude.{◌≡◌, ◌<◌, false, List, [], map, length, Option, Some, None, Result, Ok, Err, Vec}
+use Rattle.std.specs.Prelude.{◌≡◌, ◌<◌, false, List, [], ◌∷◌, map, length, Option, Some, None, Result, Ok, Err, Vec}
 use Rattle.std.specs.declared.alloc.Global.{Global}
 use Rattle.resp_core.specs.Errors.{Refusal}
 use Rattle.cluster_routing.specs.Address.{Address}
@@ -9,6 +9,9 @@ use Rattle.cluster_routing.specs.Choice.{Strategy}
 use Rattle.cluster_routing.specs.SlotMap.{SlotEntries}
 use Rattle.cluster_steps.specs.declared.dispatch.Dispatch.{Dispatch as CodeDispatch}
 use Rattle.cluster_steps.specs.declared.dispatch.Prepared.{Prepared}
+use Rattle.cluster_steps.specs.declared.dispatch.Outset.{Outset}
+use Rattle.cluster_steps.specs.declared.dispatch.Outset.TheVariants.{Whole, InParts}
+use Rattle.cluster_routing.specs.declared.split.SplitParts.{SplitParts}
 use Rattle.cluster_calls.specs.Links.World.{Settings, Node, open_links}
 use Rattle.cluster_calls.specs.Links.Places.{IsOpenAt}
 use Rattle.cluster_calls.specs.Calls.Parts.{Part}
@@ -26,6 +29,10 @@ dispatch_of d = record { node = address d.place.node; args = texts d.args.items 
 abbrev pub dispatches_of : Result (Vec CodeDispatch Global) Refusal → Result (List Dispatch) Refusal
 dispatches_of (Ok ds) = Ok (map dispatch_of ds.items)
 dispatches_of (Err refusal) = Err refusal
+
+abbrev pub one_dispatch : Result CodeDispatch Refusal → Result (List Dispatch) Refusal
+one_dispatch (Ok d) = Ok (dispatch_of d ∷ [])
+one_dispatch (Err refusal) = Err refusal
 
 -- the picks for the parts; without a strategy there are none
 abbrev pub ArePicksFor : Option Strategy → Client → List Part → List Address → Type 0
@@ -46,10 +53,22 @@ pub record IsPlaced (all : List Node) (d : CodeDispatch) : Type 0 where
 
 -- ---- a call before its first byte
 
--- what the code prepares, as the dispatches of the call
+-- what there is of it, as its dispatches
+abbrev pub dispatches_in : Outset → List CodeDispatch
+dispatches_in (Whole d) = d ∷ []
+dispatches_in (InParts p) = p.dispatches.items
+
+abbrev pub split_in : Outset → Option SplitParts
+split_in (Whole d) = None
+split_in (InParts p) = p.split
+
 abbrev pub prepared_by : Result Prepared Refusal → Result (List Dispatch) Refusal
 prepared_by (Ok p) = Ok (map dispatch_of p.dispatches.items)
 prepared_by (Err refusal) = Err refusal
+
+abbrev pub set_out_by : Result Outset Refusal → Result (List Dispatch) Refusal
+set_out_by (Ok outset) = Ok (map dispatch_of (dispatches_in outset))
+set_out_by (Err refusal) = Err refusal
 
 -- this is the plan of the call by these picks, and they are picks of the call
 pub record IsPlanned (strategy : Option Strategy) (client : Client) (call : Call) (picks : List Address)

@@ -1,11 +1,11 @@
 //! Where all parts of a call go first, found before the first byte is sent.
-ghost use Rattle.std.specs.Prelude.{◌≡◌, ◌≢◌, [], map, IfOk, Err, option_map};
+ghost use Rattle.std.specs.Prelude.{◌≡◌, ◌≢◌, [], ◌∷◌, map, IfOk, Err, option_map};
 ghost use Rattle.std.specs.List.{AllByRecursion};
 ghost use Rattle.resp_core.specs.Errors.{by_cause};
 ghost use Rattle.resp_core.specs.declared.errors.redis_error.Cause.TheVariants.{Memory};
 ghost use Rattle.cluster_routing.specs.Seen.{addresses};
 ghost use Rattle.cluster_calls.specs.Links.World.{Settings, nodes};
-ghost use Rattle.cluster_steps.specs.Dispatches.{AreDispatched, IsPlaced, client_with, dispatches_of};
+ghost use Rattle.cluster_steps.specs.Dispatches.{AreDispatched, IsPlaced, client_with, dispatches_of, one_dispatch};
 ghost use Rattle.cluster_steps.specs.FirstPlaces.{part_of};
 ghost use Rattle.cluster_steps.specs.Groups.{request_in};
 
@@ -43,6 +43,40 @@ pub(crate) fn request_of(dispatch: Dispatch) -> Asked
 pub struct Prepared {
     pub dispatches: Vec<Dispatch>,
     pub split: Option<SplitParts>,
+}
+
+/// What there is of a command before its first byte: where it goes first as a whole, or what is prepared of its
+/// parts.
+#[derive(Drop)]
+pub enum Outset {
+    Whole(Dispatch),
+    InParts(Prepared),
+}
+
+/// A part with the place that it goes to first. `picked` then has what the strategy answered.
+///
+/// # Errors
+/// `NoNode` and `NoLink` where no node serves it, or no usable link leads to its node; `Memory`.
+pub fn one_dispatch<L: ConnectionLike>(
+    links: &Links<L>,
+    alloc: Global,
+    slots: &SlotMap,
+    part: Part,
+    strategy: Option<&dyn ReadRoutingStrategy>,
+    picked: &mut Vec<NodeAddress>,
+) -> Result<Dispatch, RedisError>
+    requires { picked.old.items ≡ [] }
+    ensures dispatched { result ≢ Err (by_cause Memory) → (settings : Settings)
+        → AreDispatched (option_map (λ s. admits s.now) strategy.entry)
+        (client_with settings slots.now (nodes L.seen links.now.nodes.items)) (part_of part ∷ [])
+        (addresses picked.new.items) (one_dispatch result) }
+    ensures placed { IfOk result (λ d. IsPlaced (nodes L.seen links.now.nodes.items) d) }
+{
+    let place = first_place(links, alloc, slots, &part.target, strategy, picked)?;
+    Ok(Dispatch {
+        place,
+        args: part.args,
+    })
 }
 
 /// The parts with the places that they go to first, in the order given. `picked` then has what the

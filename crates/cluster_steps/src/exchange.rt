@@ -3,7 +3,7 @@
 ghost use Rattle.std.specs.Prelude.{◌≡◌, ◌<◌, ◌≤◌, ◌+◌, ◌∷◌, [], vec_capacity, vec_len};
 ghost use Rattle.resp_core.specs.View.{view};
 ghost use Rattle.cluster_calls.specs.Links.Request.{skipped};
-ghost use Rattle.cluster_calls.specs.Links.World.{nodes, one_reply, tree_result, tree_results};
+ghost use Rattle.cluster_calls.specs.Links.World.{Called, Calls, nodes, one_reply, tree_result, tree_results};
 ghost use Rattle.cluster_calls.specs.Links.Exchanges.{Exchanges};
 ghost use Rattle.cluster_steps.specs.Groups.{request_in};
 
@@ -63,8 +63,27 @@ pub fn exchange_one<L: ConnectionLike>(
 {
     let Ready { dispatch, bytes } = ready;
     let which = dispatch.place.which;
-    let offset = if dispatch.place.asking { 1 } else { 0 };
+    let asking = dispatch.place.asking;
     log.push(request_of(dispatch)).unwrap();
-    let mut replies = links.call(alloc, which, &bytes, offset, 1)?;
+    reply_to_one(links, alloc, which, &bytes, asking)
+}
+
+/// The reply to one request, which is the one behind that to ASKING where that was sent before it.
+fn reply_to_one<L: ConnectionLike>(
+    links: &mut Links<L>,
+    alloc: Global,
+    which: usize,
+    bytes: &[u8],
+    asking: bool,
+) -> Result<Value, RedisError>
+    requires { which < vec_len links.old.nodes }
+    ensures call { Calls (nodes L.seen links.old.nodes.items) (nodes L.seen links.new.nodes.items) which
+        (λ before after. Called before after bytes.now (skipped asking) 1 (one_reply (tree_result view result))) }
+    ensures len { vec_len links.new.nodes ≡ vec_len links.old.nodes }
+{
+    if !asking {
+        return links.call_one(alloc, which, bytes);
+    }
+    let mut replies = links.call(alloc, which, bytes, 1, 1)?;
     Ok(replies.remove(0))
 }

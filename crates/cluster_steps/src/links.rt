@@ -4,7 +4,7 @@ ghost use Rattle.std.specs.Prelude.{◌≡◌, ◌<◌, length, map, position, v
 ghost use Rattle.resp_core.specs.View.{view};
 ghost use Rattle.cluster_routing.specs.Address.{same_address};
 ghost use Rattle.cluster_routing.specs.Seen.{address};
-ghost use Rattle.cluster_calls.specs.Links.World.{nodes, open_links, place_at, is_linked, has_repeats, addresses_of, Calls, Called, tree_results};
+ghost use Rattle.cluster_calls.specs.Links.World.{nodes, open_links, place_at, is_linked, has_repeats, addresses_of, Calls, Called, one_reply, tree_result, tree_results};
 ghost use Rattle.cluster_calls.specs.Links.Places.{IsOpenAt};
 
 use cluster_routing::NodeAddress;
@@ -69,6 +69,22 @@ impl<L: ConnectionLike> Links<L> {
         let link = &mut self.nodes[which].1;
         called(link, alloc, bytes, offset, count)
     }
+
+    /// One link call of the node at this place for one reply: it sends the bytes, and answers their reply.
+    pub fn call_one(
+        &mut self,
+        alloc: Global,
+        which: usize,
+        bytes: &[u8],
+    ) -> Result<Value, RedisError>
+        requires { which < vec_len self.old.nodes }
+        ensures call { Calls (nodes L.seen self.old.nodes.items) (nodes L.seen self.new.nodes.items) which
+            (λ before after. Called before after bytes.now 0 1 (one_reply (tree_result view result))) }
+        ensures len { vec_len self.new.nodes ≡ vec_len self.old.nodes }
+    {
+        let link = &mut self.nodes[which].1;
+        called_one(link, alloc, bytes)
+    }
 }
 
 fn called<L: ConnectionLike>(
@@ -81,6 +97,16 @@ fn called<L: ConnectionLike>(
     ensures { Called (L.seen link.old) (L.seen link.new) bytes.now offset count (tree_results view result) }
 {
     link.req_packed_commands(alloc, bytes, offset, count)
+}
+
+fn called_one<L: ConnectionLike>(
+    link: &mut L,
+    alloc: Global,
+    bytes: &[u8],
+) -> Result<Value, RedisError>
+    ensures { Called (L.seen link.old) (L.seen link.new) bytes.now 0 1 (one_reply (tree_result view result)) }
+{
+    link.req_packed_command(alloc, bytes)
 }
 
 fn is_same(one: &NodeAddress, other: &NodeAddress) -> bool

@@ -8,7 +8,7 @@ ghost use Rattle.resp_args.specs.Packed.{sent};
 ghost use Rattle.cluster_routing.specs.Info.{shown_parts, shown_split, texts};
 ghost use Rattle.cluster_routing.specs.Split.{has_split_word, parts_by_place};
 ghost use Rattle.cluster_calls.specs.Calls.Parts.{is_gap, parts_of};
-ghost use Rattle.cluster_steps.specs.CodeParts.{part_at, parts_by};
+ghost use Rattle.cluster_steps.specs.CodeParts.{IsWholePart, part_at, parts_by};
 ghost use Rattle.cluster_steps.specs.FirstPlaces.{is_split, one_part, part_by, part_of, target_by, target_of};
 
 use cluster_routing::{Direction, Route, SplitParts};
@@ -57,17 +57,35 @@ pub fn parts_of(
     ensures split { IfOk result
         (λ p. option_map shown_split p.split ≡ parts_by_place cmd.now.args (texts read_only.now)) }
 {
+    let Some(part) = whole_part(alloc, cmd, read_only, number)? else {
+        return split_parts(alloc, cmd, read_only);
+    };
+    let mut list = Vec::new(alloc);
+    list.push(part)?;
+    Ok(Parts { list, split: None })
+}
+
+/// The one part of a command that is not split by its keys: the command whole. `None` for a command that is.
+///
+/// # Errors
+/// As `parts_of` for a command of a word that is not split: `NoResponse`, `NoRoute`; `Memory`.
+pub fn whole_part(
+    alloc: Global,
+    cmd: &Cmd,
+    read_only: &[Vec<u8>],
+    number: u64,
+) -> Result<Option<Part>, RedisError>
+    ensures { result ≢ Err (by_cause Memory)
+        → IsWholePart (texts read_only.now) cmd.now number result }
+{
     if cmd.is_no_response() {
         return Err(RedisError::from(Cause::NoResponse));
     }
     let direction = Direction::for_routable(alloc, cmd, read_only)?;
     if is_split(direction) {
-        return split_parts(alloc, cmd, read_only);
+        return Ok(None);
     }
-    let part = only_part(alloc, cmd, direction, number)?;
-    let mut list = Vec::new(alloc);
-    list.push(part)?;
-    Ok(Parts { list, split: None })
+    Ok(Some(only_part(alloc, cmd, direction, number)?))
 }
 
 fn is_split(direction: Direction) -> bool

@@ -1,0 +1,10 @@
+use Rattle.std.proofs.Common.{◌<◌, length}
+use Rattle.resp_core.specs.View.{view}
+use Rattle.cluster_calls.specs.Links.World.{Called, one_reply, tree_result}
+use Rattle.cluster_calls.proofs.LinkLaws.Nodes.{calls_one}
+use Rattle.cluster_steps.proofs.links.Links.call_one.Goals as goal
+
+pub returns-clause-call : goal.returns-clause-call
+returns-clause-call g c =
+    let within : c.args.which < length c.args.self.now.nodes.items = rw (← c.args.self.now.nodes.ok.0) c.requires in
+    calls_one g.L.ConnectionLike.seen _ _ _ _ (λ before after. Called before after c.args.bytes.now 0 1 (one_reply (tree_result view c.called_one.result))) within c.index_mut.ensures.value c.called_one.ensures
