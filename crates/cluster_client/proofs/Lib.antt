@@ -14,3 +14,4 @@ pub mod TypedCalls
 pub mod Deletions
 pub mod Relinking
 pub mod Reading
+pub mod Transacting

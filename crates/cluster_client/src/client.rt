@@ -68,7 +68,7 @@ fn lacks_memory<T>(reply: &Result<T, RedisError>) -> bool
 pub struct ClusterClient<L> {
     pub(crate) links: Links<L>,
     pub(crate) read_only: Vec<Vec<u8>>,
-    budget: u16,
+    pub(crate) budget: u16,
     pub(crate) slots: SlotMap,
     pub(crate) needs_refresh: bool,
     pub(crate) asked: Vec<Asked>,

@@ -10,6 +10,8 @@ mod pipeline_query;
 mod pipeline_reply;
 mod run;
 mod streams;
+mod transaction;
+mod transaction_slot;
 
 pub use client::ClusterClient;
 pub use cluster_routing::AggregateOp;

@@ -50,7 +50,7 @@ fn whole_route(alloc: Global, command: &Cmd) -> Result<Option<Route>, RedisError
 
 /// The part that a command is whole; none for one that does not go whole to one slot, or reads streams of
 /// several.
-fn whole_part(alloc: Global, command: &Cmd) -> Result<Option<Part>, RedisError>
+pub(crate) fn whole_part(alloc: Global, command: &Cmd) -> Result<Option<Part>, RedisError>
     ensures part { IfOk result
         (λ o. option_map part_of o
         ≡ if_one_slot (reads_several_slots command.now.args)

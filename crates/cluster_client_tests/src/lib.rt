@@ -23,3 +23,5 @@ mod reads;
 mod rows;
 #[cfg(test)]
 mod streams;
+#[cfg(test)]
+mod transactions;

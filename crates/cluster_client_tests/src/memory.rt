@@ -6,7 +6,7 @@ use crate::clients::*;
 use crate::failing::{bytes_from, delete, get, number_in, push_asked, pushes_at, refreshed};
 use crate::links;
 use crate::reads::{Nth, WITH_REPLICAS, client_of_replicas};
-use crate::rows::{COUNTED, Row, row_at};
+use crate::rows::{COUNTED, Row, TRANSACTION, row_at};
 use crate::streams::{shown, xadd};
 use cluster_client::*;
 use std::alloc::{AllocError, Global};
@@ -417,6 +417,91 @@ fn each_position(rt: HostRuntime) -> Result<(), Fail> {
         (first, second),
         wanted,
         &EACH,
+    )
+}
+
+/// A transaction that is moved. Behind the replies of n1:7001 the second attempt is made ready, and memory may
+/// lack for it; the flag is raised then.
+const TRANSACTED: [(&str, &str); 11] = [
+    ("-17, -7, false 0 0 0 0 0", "-7, -7, 0, 0"),
+    ("-17, -7, false 0 0 0 28! 0", "-7, -7, 8, 0"),
+    ("-17, -7, false 0 0 0 28 0", "-7, -7, 0, 0"),
+    ("-14, -7, false 0 0 0 0! 0", "-7, -7, 8, 0"),
+    ("0, -17, false 0 0 0 28 0", "-16, -16, 13, 0"),
+    (
+        "0, -14, false 0 0 0 28! 0, n1 MULTI, n1 GET a, n1 EXEC",
+        "-8, -8, 8, 0",
+    ),
+    (
+        "0, -17, false 0 0 0 77! 0, n1 MULTI, n1 GET a, n1 EXEC",
+        "-8, -8, 8, 0",
+    ),
+    (
+        "0, -17, true 0 0 0 77 0, n1 MULTI, n1 GET a, n1 EXEC",
+        "6, 7, 0, 0",
+    ),
+    (
+        "0, -14, true 0 0 0 77 0!, n1 MULTI, n1 GET a, n1 EXEC, n2 MULTI, n2 GET a, n2 EXEC",
+        "6, 7, 0, 8",
+    ),
+    (
+        "0, -17, true 0 0 0 77 49!, n1 MULTI, n1 GET a, n1 EXEC, n2 MULTI, n2 GET a, n2 EXEC",
+        "6, 7, 0, 8",
+    ),
+    (
+        "0, -17, true 0 0 0 77 49, n1 MULTI, n1 GET a, n1 EXEC, n2 MULTI, n2 GET a, n2 EXEC",
+        "6, 7, 0, 0",
+    ),
+];
+
+fn transacted() -> Row {
+    let mut row = row_at(3);
+    row.phases = &TRANSACTION;
+    row
+}
+
+fn transaction_of(alloc: Global) -> Result<Vec<Cmd>, AllocError> {
+    let mut commands = Vec::new(alloc);
+    commands.push(get_a(alloc)?)?;
+    Ok(commands)
+}
+
+fn transaction_again<R: Print>(rt: &R, alloc: Global) -> Result<Vec<Cmd>, Fail> {
+    match transaction_of(alloc) {
+        Ok(commands) => Ok(commands),
+        Err(_) => {
+            println!(rt; "refused commands")?;
+            Ok(transaction_of(alloc)?)
+        }
+    }
+}
+
+/// 1 for the one reply 4, or the number of a refusal below zero.
+fn is_four(outcome: Result<Vec<i64>, RedisError>) -> i64 {
+    match outcome {
+        Ok(numbers) => i64::from(numbers.as_slice() == [4].as_slice()),
+        Err(e) => 0 - i64::from(e.number()),
+    }
+}
+
+#[test]
+fn transaction(rt: HostRuntime) -> Result<(), Fail> {
+    let alloc = rt.alloc();
+    let mut client = client_again(&rt, alloc, &transacted())?;
+    let words = make_words_again(&rt, alloc)?;
+    let commands = transaction_again(&rt, alloc)?;
+    let first = refresh(alloc, &mut client, &words);
+    let second = is_four(client.transaction(alloc, &commands));
+    let wanted =
+        "0, 1, true 0 0 0 77 49, n1 MULTI, n1 GET a, n1 EXEC, n2 MULTI, n2 GET a, n2 EXEC";
+    sees(
+        &rt,
+        alloc,
+        &mut client,
+        "transaction",
+        (first, second),
+        wanted,
+        &TRANSACTED,
     )
 }
 

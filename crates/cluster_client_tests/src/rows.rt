@@ -72,6 +72,25 @@ pub(crate) const COUNTED: [Phase; 3] = [
     },
 ];
 
+/// `GET a` as a transaction, which is moved: nothing of it was done, and it is sent again, whole.
+pub(crate) const TRANSACTION: [Phase; 3] = [
+    REFRESH_OF_ALL,
+    Phase {
+        is_n1: true,
+        sends: b"*1\r\n$5\r\nMULTI\r\n*2\r\n$3\r\nGET\r\n$1\r\na\r\n*1\r\n$4\r\nEXEC\r\n",
+        gives: b"+OK\r\n-MOVED 15495 n2:7002\r\n-EXECABORT Transaction discarded because of previous errors.\r\n",
+        told: "",
+        later: "",
+    },
+    Phase {
+        is_n1: false,
+        sends: b"*1\r\n$5\r\nMULTI\r\n*2\r\n$3\r\nGET\r\n$1\r\na\r\n*1\r\n$4\r\nEXEC\r\n",
+        gives: b"+OK\r\n+QUEUED\r\n*1\r\n:4\r\n",
+        told: "",
+        later: "",
+    },
+];
+
 /// An addition, a push before its reply.
 const ADDITION: [Phase; 3] = [
     REFRESH_OF_HALVES,

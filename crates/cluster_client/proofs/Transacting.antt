@@ -1,0 +1,137 @@
+-- A transaction from what the code says of its attempts, and before them of its node.
+use Rattle.std.specs.Prelude.{◌&&◌, ◌||◌, bytes_eq, option_map}
+use Rattle.std.specs.Char.{to_ascii_lowercase}
+use Rattle.std.specs.List.{list_any}
+use Rattle.std.specs.Str.{str_to_ascii_lowercase, str_to_ascii_uppercase}
+use Rattle.std.proofs.Common.{◌≡◌, ◌≢◌, ℕ, suc, ◌-◌, Bool, true, false, if◌then◌else◌, List, [], ◌∷◌, length, Option, Some, None, Result, Ok, Err, refl, sym, ap, ◌∙◌, subst}
+use Rattle.std.proofs.lemmas.Str.Ascii.{lowercase-uppercase}
+use Rattle.resp_core.specs.Trees.{Tree}
+use Rattle.resp_core.specs.Errors.{Refusal, at_position, by_cause}
+use Rattle.resp_core.specs.declared.errors.redis_error.Cause.TheVariants.{Memory, NoLink}
+use Rattle.resp_args.specs.Command.{Command}
+use Rattle.cluster_routing.specs.Address.{Address}
+use Rattle.cluster_routing.specs.Command.{Args, is_one_of}
+use Rattle.cluster_routing.specs.Routing.{route_to}
+use Rattle.cluster_routing.specs.SlotMap.{Nodes, nodes_at}
+use Rattle.cluster_routing.specs.declared.route.SlotAddr.TheVariants.{Master}
+use Rattle.cluster_calls.specs.Calls.Parts.{at_slot, result_then}
+use Rattle.cluster_calls.specs.Calls.Plan.{Client, first_by, first_of, read_candidates}
+use Rattle.cluster_calls.specs.Calls.Redirects.{Hop, Goes, is_going}
+use Rattle.cluster_calls.specs.Calls.Transactions.{agrees, attempt, attempt_answer, common_slot, if_linked, is_outside, names_block, next_attempt, outside_names, own_slot, read_names, size, slot_node, transaction_plan, unless_lost, with_own}
+use Rattle.cluster_calls.specs.Links.AttemptRuns.{AttemptsMade}
+use Rattle.cluster_calls.specs.Links.Exchanges.{Exchanges}
+use Rattle.cluster_calls.specs.Links.Places.{IsOpenAt}
+use Rattle.cluster_calls.specs.Links.Request.{Request, skipped}
+use Rattle.cluster_calls.specs.Links.World.{World, is_linked, open_links}
+use Rattle.cluster_calls.proofs.LinkLaws.AttemptLoop.{Loop, loop_answered, loop_ended, loop_err, loop_more, loop_ok}
+use Rattle.cluster_calls.proofs.LinkLaws.ChainLoop.{or_none}
+use Rattle.cluster_calls.proofs.LogLaws.Attempts.{size_of}
+use Rattle.cluster_steps.specs.Attempts.{AttemptExchanged, heard}
+use Rattle.cluster_steps.specs.FirstPlaces.{node_with_link}
+use Rattle.cluster_steps.specs.Turns.{hop_to}
+use Rattle.cluster_steps.specs.declared.place.Place.{Place}
+
+-- ---- names, whatever their case
+
+lower_upper : (text : List ℕ) → str_to_ascii_lowercase (str_to_ascii_uppercase text) ≡ str_to_ascii_lowercase text
+lower_upper [] = refl
+lower_upper (c ∷ text) = ap (λ d. d ∷ str_to_ascii_lowercase (str_to_ascii_uppercase text)) (lowercase-uppercase c) ∙ ap (λ q. to_ascii_lowercase c ∷ q) (lower_upper text)
+
+any_case : (words : List (List ℕ)) (n : List ℕ) → is_one_of words (str_to_ascii_uppercase n) ≡ is_one_of words n
+any_case words n = ap (λ text. list_any (λ word. bytes_eq (str_to_ascii_lowercase word) text) words) (lower_upper n)
+
+pub outside_named : (o : Option (List ℕ)) (name : List ℕ) (args : Args) → Some name ≡ option_map str_to_ascii_uppercase o
+    → (is_one_of outside_names name || (is_one_of read_names name && names_block args)) ≡ is_outside o args
+outside_named None name args e = cc
+outside_named (Some n) name args e =
+    let same : name ≡ str_to_ascii_uppercase n = cc in
+    ap (λ k. is_one_of outside_names k || (is_one_of read_names k && names_block args)) same
+    ∙ ap (λ b. b || (is_one_of read_names (str_to_ascii_uppercase n) && names_block args)) (any_case outside_names n)
+    ∙ ap (λ b. is_one_of outside_names n || (b && names_block args)) (any_case read_names n)
+
+-- ---- one command after another
+
+module _ (all : List Command) (position : ℕ) (known : Option ℕ) (c : Command) (rest : List Command) where
+  abbrev later : Option ℕ → Result (Option ℕ) Refusal
+  later slot = common_slot (suc position) slot rest
+
+  -- the next command has no slot of its own
+  pub slots_stop : common_slot position known (c ∷ rest) ≡ common_slot 0 None all → own_slot c ≡ None → Err (at_position position) ≡ common_slot 0 None all
+  slots_stop h is = sym (ap (λ o. with_own position known o later) is) ∙ h
+
+  module _ (slot : ℕ) (h : common_slot position known (c ∷ rest) ≡ common_slot 0 None all) (is : own_slot c ≡ Some slot) where
+    chosen : (if agrees known slot then later (Some slot) else Err (at_position position)) ≡ common_slot 0 None all
+    chosen = sym (ap (λ o. with_own position known o later) is) ∙ h
+
+    -- it has another than those before
+    pub slots_differ : agrees known slot ≡ false → Err (at_position position) ≡ common_slot 0 None all
+    slots_differ other = sym (ap (λ b. if b then later (Some slot) else Err (at_position position)) other) ∙ chosen
+
+    pub slots_more : agrees known slot ≡ true → common_slot (suc position) (Some slot) rest ≡ common_slot 0 None all
+    slots_more same = sym (ap (λ b. if b then later (Some slot) else Err (at_position position)) same) ∙ chosen
+
+-- ---- the node
+
+-- a node that was found, or why there is none
+abbrev pub found_node : Result Address Refusal → Result (Option Address) Refusal
+found_node (Ok node) = Ok (Some node)
+found_node (Err refusal) = Err refusal
+
+linked_by : (node : Address) (b : Bool) → found_node (if b then Ok node else Err (by_cause NoLink)) ≡ (if b then Ok (Some node) else Err (by_cause NoLink))
+linked_by node true = refl
+linked_by node false = refl
+
+primary_by : (links own : List Address) (slot : ℕ) (ns : Option Nodes) → found_node (node_with_link links (option_map (λ (nodes : Nodes). first_by (read_candidates (route_to Master slot) nodes) nodes.primary own) ns)) ≡ if_linked links ns
+primary_by links own slot None = refl
+primary_by links own slot (Some nodes) = linked_by nodes.primary (is_linked links nodes.primary)
+
+-- the commands go to the primary of their slot
+pub slot_planned : (client : Client) (commands : List Command) (slot : ℕ) (own : List Address) (made : Result Address Refusal) → common_slot 0 None commands ≡ Ok (Some slot) → made ≡ node_with_link client.links (first_of client.entries own (at_slot (route_to Master slot)))
+    → transaction_plan client commands ≡ found_node made
+slot_planned client commands slot own made is finds =
+    ap (λ r. result_then r (slot_node client)) is ∙ sym (ap found_node finds ∙ primary_by client.links own slot (nodes_at slot client.entries))
+
+pub slot_refused : (client : Client) (commands : List Command) (refusal : Refusal) → common_slot 0 None commands ≡ Err refusal → transaction_plan client commands ≡ Err refusal
+slot_refused client commands refusal is = ap (λ r. result_then r (slot_node client)) is
+
+pub without_slot : (client : Client) (commands : List Command) → common_slot 0 None commands ≡ Ok None → transaction_plan client commands ≡ Ok None
+without_slot client commands is = ap (λ r. result_then r (slot_node client)) is
+
+-- ---- the attempts
+
+module _ (old now new : World) (commands : List (List (List ℕ))) (first : Hop) (left : ℕ) (hop : Hop) (which : ℕ) (l : Loop old now commands first left hop which) (qs : List Request) (same : qs ≡ attempt hop commands) where
+  whole_attempt : (result : Result (List Tree) Refusal) → AttemptExchanged now new which qs (skipped hop.asking) result → Exchanges now.nodes new.nodes which now.log new.log (attempt hop commands) (skipped hop.asking) (size commands) result
+  whole_attempt result x =
+      subst (λ n. Exchanges now.nodes new.nodes which now.log new.log (attempt hop commands) (skipped hop.asking) n result) (size_of hop commands)
+      (subst (λ rs. Exchanges now.nodes new.nodes which now.log new.log rs (skipped hop.asking) (length rs) result) same x.exchange)
+
+  -- the link call was refused
+  pub attempt_failed : (e : Refusal) → AttemptExchanged now new which qs (skipped hop.asking) (Err e) → AttemptsMade old new first commands (Err e)
+  attempt_failed e x = loop_err old now new commands first left hop which l (record { entries = x.entries; settings = x.settings; picked = x.picked }) e (whole_attempt (Err e) x) (x.flag ∙ or_none now.needs_refresh)
+
+  module _ (trees : List Tree) (x : AttemptExchanged now new which qs (skipped hop.asking) (Ok trees)) where
+    -- the replies make the answer, or refuse it; or memory was refused behind them
+    pub attempt_answered : (outcome : Result Tree Refusal) → (outcome ≢ Err (by_cause Memory) → (is_going (next_attempt (open_links new.nodes) left (heard trees)) ≡ false)
+        × (unless_lost (next_attempt (open_links new.nodes) left (heard trees)) (attempt_answer (heard trees)) ≡ outcome)) → AttemptsMade old new first commands outcome
+    attempt_answered outcome why =
+        let made = loop_ok l new.nodes new.log trees (whole_attempt (Ok trees) x) in
+        loop_answered old now new commands first left hop which l (record { entries = x.entries; settings = x.settings; picked = x.picked }) trees made.1 made.0 x.flag outcome (λ m. let told = why m in (told.0, sym told.1))
+
+    -- the transaction goes on
+    pub attempt_more : (next : Hop) (place : ℕ) → next_attempt (open_links new.nodes) left (heard trees) ≡ Goes next → left ≢ 0 → IsOpenAt new.nodes next.node place → Loop old new commands first (left - 1) next place
+    attempt_more next place go some at =
+        let made = loop_ok l new.nodes new.log trees (whole_attempt (Ok trees) x) in
+        loop_more old now new commands first left hop which l (record { entries = x.entries; settings = x.settings; picked = x.picked }) trees made.1 made.0 x.flag next place go some at
+
+-- the log was only given room
+pub attempt_with_room : (old now : World) (commands : List (List (List ℕ))) (first : Hop) (left : ℕ) (hop : Hop) (which : ℕ) (log : List Request) → log ≡ now.log → Loop old now commands first left hop which
+    → Loop old (record now { log = log }) commands first left hop which
+attempt_with_room old now commands first left hop which log same l = subst (λ k. Loop old (record now { log = k }) commands first left hop which) (sym same) l
+
+pub attempt_to_place : (old now : World) (commands : List (List (List ℕ))) (first : Hop) (left : ℕ) (p q : Place) → p ≡ q → Loop old now commands first left (hop_to q) q.which → Loop old now commands first left (hop_to p) p.which
+attempt_to_place old now commands first left p q same l = subst (λ r. Loop old now commands first left (hop_to r) r.which) (sym same) l
+
+-- and then memory was refused
+pub attempt_stopped : (old now : World) (commands : List (List (List ℕ))) (first : Hop) (left : ℕ) (hop : Hop) (which : ℕ) (log : List Request) → log ≡ now.log → Loop old now commands first left hop which
+    → AttemptsMade old (record now { log = log }) first commands (Err (by_cause Memory))
+attempt_stopped old now commands first left hop which log same l = loop_ended old now (record now { log = log }) commands first left hop which l (record { entries = refl; settings = refl; picked = refl }) refl same refl

@@ -1,0 +1,16 @@
+use Rattle.std.proofs.Common.{◌∙◌, sym, ap, Ok, Err}
+use Rattle.std.proofs.lemmas.Result.{err_from_is_err_and}
+use Rattle.cluster_calls.specs.Links.Happened.{client_of}
+use Rattle.cluster_client.specs.Whole.{whole}
+use Rattle.cluster_client.proofs.Transacting.{slot_planned}
+use Rattle.cluster_client.proofs.client.ClusterClient.first_attempt.Goals as goal
+
+pub returns-in_err-place-clause-planned : goal.returns-in_err-place-clause-planned
+returns-in_err-place-clause-planned g c =
+    let world = whole g.L.ConnectionLike.seen c.args.self.now in
+    let p = err_from_is_err_and c.from_residual-in_err-place.result c.from_residual-in_err-place.ensures.1 in
+    let own = sym (c.in_ok-slot.ensures (λ k. cc k)) ∙ ap (λ o. Ok o) c.in-Some.is in
+    rw (p.1, p.2) (λ m.
+    let found = c.in_err-place.ensures.found (λ k. m (cc k)) in
+    let leads = rw c.new-3.ensures at found.leads in
+    slot_planned (client_of world) c.args.commands.now c.in-Some.slot found.own (Err c.in_err-place.field-0.0) own leads)
