@@ -492,8 +492,7 @@ fn transaction(rt: HostRuntime) -> Result<(), Fail> {
     let commands = transaction_again(&rt, alloc)?;
     let first = refresh(alloc, &mut client, &words);
     let second = is_four(client.transaction(alloc, &commands));
-    let wanted =
-        "0, 1, true 0 0 0 77 49, n1 MULTI, n1 GET a, n1 EXEC, n2 MULTI, n2 GET a, n2 EXEC";
+    let wanted = "0, 1, true 0 0 0 77 49, n1 MULTI, n1 GET a, n1 EXEC, n2 MULTI, n2 GET a, n2 EXEC";
     sees(
         &rt,
         alloc,

@@ -166,7 +166,10 @@ const ROWS: [Row; 20] = [
         told: "at 0, false",
     },
     Row {
-        commands: &["XREAD COUNT 1 STREAMS {x}s 0", "XREAD block 5 STREAMS {x}s 0"],
+        commands: &[
+            "XREAD COUNT 1 STREAMS {x}s 0",
+            "XREAD block 5 STREAMS {x}s 0",
+        ],
         budget: 1,
         n1: b"",
         n2: b"",

@@ -64,8 +64,8 @@ module _ {C V : Type 0} where
         (λ g. renew_length (h == g) h g true old new refl m.2 w, λ g o. renew_number (h == g) h g true old new refl m.2 (λ t. m.1) w o)
     step_within (NotJoined why) old s new s' m w = kept old new m.1 w
     step_within (Put h e) old s new s' m w = (
-      λ g. let a = put_length (h == g) h g old.limits.share.entries e old.queues new.queues refl m.1 m.2 (w.0 g) in let l = ap (λ (x : Limits). x.share.entries) m.3.1 in omega arith,
-      λ g o. let b = w.1 g (sym (ap (λ bs. is_open_at bs g) m.3.0) ∙ o) in let l = ap (λ (x : Limits). x.guests) m.3.1 in omega arith,
+      λ g. let a = put_length (h == g) h g old.limits.share.entries e old.queues new.queues refl m.1 m.2 (w.0 g) in let l = ap (λ (x : Limits). x.share.entries) m.4.1 in omega arith,
+      λ g o. let b = w.1 g (sym (ap (λ bs. is_open_at bs g) m.4.0) ∙ o) in let l = ap (λ (x : Limits). x.guests) m.4.1 in omega arith,
     )
     step_within (NotPut h e why) old s new s' m w = kept old new m.1 w
     step_within (Took h v) old s new s' m w = shorter old new m.1 (λ g. take_length (h == g) h g v old.queues new.queues refl m.0) w

@@ -68,6 +68,7 @@ Makes overlaps command reply asks (NotJoined why) old s new s' =
     IsJoinDue why old.openings old.limits.guests × Keeps old new × (s' ≡ s)
 Makes overlaps command reply asks (Put g e) old s new s' = (is_open_at old.openings g ≡ true)
     × Puts old.queues new.queues g e × (length (queue_at new.queues g) ≤ old.limits.share.entries)
+    × (queue_bytes command reply (queue_at new.queues g) ≤ old.limits.share.bytes)
     × SameGuests old new × (s' ≡ s)
 Makes overlaps command reply asks (NotPut g e why) old s new s' =
     IsDue why (is_open_at old.openings g) old.limits.share (length (queue_at old.queues g))

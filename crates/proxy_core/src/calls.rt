@@ -94,6 +94,8 @@ impl<C: Command, V: Bytes> Proxy<C, V> {
             (queues self.old.guests.items) (queues self.new.guests.items) guest entry) }
         ensures bounded { OnOk result
             (length (queue_at (queues self.new.guests.items) guest) ≤ self.old.limits.share.entries) }
+        ensures bytes_bounded { OnOk result (queue_bytes C.bytes V.bytes
+            (queue_at (queues self.new.guests.items) guest) ≤ self.old.limits.share.bytes) }
         ensures entry { IfErr result (λ refused. refused.value ≡ entry) }
         ensures err { OnErr result (queues self.new.guests.items ≡ queues self.old.guests.items) }
         ensures why { let q = queue_at (queues self.old.guests.items) guest in

@@ -42,6 +42,7 @@ impl<C: Bytes, V: Bytes> Guest<C, V> {
         ensures bytes { self.new.bytes
             ≡ (if is_ok result then self.old.bytes + entry_bytes C.bytes V.bytes entry else self.old.bytes) }
         ensures bounded { OnOk result (length self.new.entries.items ≤ share.entries) }
+        ensures bytes_bounded { OnOk result (self.new.bytes ≤ share.bytes) }
         ensures value { IfErr result (λ refused. refused.value ≡ entry) }
         ensures why { IfErr result (λ refused. IsDue refused.why true share
             (length self.old.entries.items) self.old.bytes (entry_bytes C.bytes V.bytes entry)) }

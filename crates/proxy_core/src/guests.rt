@@ -71,6 +71,8 @@ pub(crate) fn put_in<C: Bytes, V: Bytes>(
     ensures ok { OnOk result (queues guests.new
         ≡ slice_set (queues guests.old) guest (queue_at (queues guests.old) guest ++ entry ∷ [])) }
     ensures bounded { OnOk result (length (queue_at (queues guests.new) guest) ≤ share.entries) }
+    ensures bytes_bounded { OnOk result
+        (queue_bytes C.bytes V.bytes (queue_at (queues guests.new) guest) ≤ share.bytes) }
     ensures err { OnErr result (queues guests.new ≡ queues guests.old) }
     ensures value { IfErr result (λ refused. refused.value ≡ entry) }
     ensures why { IfErr result (λ refused. IsDue refused.why true share

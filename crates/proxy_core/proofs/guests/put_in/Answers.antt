@@ -2,7 +2,7 @@ use Rattle.std.proofs.Common.{get_or}
 use Rattle.std.proofs.ByRecursion.{All-get_or, All-set}
 use Rattle.proxy_core.specs.Guests.{IsCounted, entry_bytes}
 use Rattle.proxy_core.proofs.BatchLemmas.{openings_set}
-use Rattle.proxy_core.proofs.GuestLemmas.{put_ok, put_err, put_bounded, put_counted, why_read}
+use Rattle.proxy_core.proofs.GuestLemmas.{put_ok, put_err, put_bounded, put_bytes, put_counted, why_read}
 use Rattle.proxy_core.proofs.guests.put_in.Goals as goal
 
 pub returns-clause-ok : goal.returns-clause-ok
@@ -12,6 +12,13 @@ returns-clause-ok g c =
 pub returns-clause-bounded : goal.returns-clause-bounded
 returns-clause-bounded g c =
     put_bounded c.put.result c.args.guests.now c.args.guest c.args.share.entries c.put.new.self c.requires.there c.put.ensures.bounded
+
+pub returns-clause-bytes_bounded : goal.returns-clause-bytes_bounded
+returns-clause-bytes_bounded g c =
+    let x = get_or c.args.guests.now c.args.guest c.index-guests-guest.result in
+    let counted = All-get_or (IsCounted g.C.Bytes.bytes g.V.Bytes.bytes) c.args.guests.now c.args.guest c.index-guests-guest.result c.requires.there c.requires.counted in
+    put_bytes g.C.Bytes.bytes g.V.Bytes.bytes c.put.result c.args.guests.now c.args.guest c.args.share.bytes c.put.new.self c.requires.there
+    (put_counted g.C.Bytes.bytes g.V.Bytes.bytes c.put.result x c.put.new.self c.args.entry counted c.put.ensures.entries c.put.ensures.bytes) c.put.ensures.bytes_bounded
 
 pub returns-clause-err : goal.returns-clause-err
 returns-clause-err g c =

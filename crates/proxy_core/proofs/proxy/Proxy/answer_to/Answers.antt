@@ -17,7 +17,7 @@ returns-in-Err g c =
 pub returns-in-Ok-put : goal.returns-in-Ok-put
 returns-in-Ok-put g c =
     let e = c.in-Ok-put.ensures in
-    (Put c.in-Put.guest c.in-Put.entry, c.in-Put.is, refl, (e.is_open, e.ok, e.bounded, (e.openings, e.limits), refl))
+    (Put c.in-Put.guest c.in-Put.entry, c.in-Put.is, refl, (e.is_open, e.ok, e.bounded, e.bytes_bounded, (e.openings, e.limits), refl))
 
 pub returns-in-Err-put : goal.returns-in-Err-put
 returns-in-Err-put g c =
