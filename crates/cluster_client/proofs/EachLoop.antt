@@ -35,8 +35,8 @@ AreAsNow rest now queues causes = (k : ℕ) → among nat_eq k (places_of rest) 
 
 -- what the loop over groups keeps: whatever is queued for those of `rest` completes what is queued for all
 pub record EachLoop (old now : World) (gs rest : List Group) (queues : ℕ → List Tree) : Type 0 where
-  pub answers : List (ℕ × List Tree)
-  pub loop : GroupLoop old now gs rest answers
+  pub came : List (ℕ × List Tree)
+  pub loop : GroupLoop old now gs rest came
   pub serves : (later : List Event) (others : ℕ → List Tree) (causes : ℕ → Cause) → AreAsNow rest queues others causes → AreQueued rest later others causes → AreQueued gs (loop.events ++ later) others causes
   pub empty : AllByRecursion (λ (g : Group). queues g.which ≡ []) rest
   pub distinct : IsDistinct nat_eq (places_of rest)
@@ -46,13 +46,13 @@ all_empty queues [] h = tt
 all_empty queues (g ∷ gs) h = (h g.which, all_empty queues gs h)
 
 pub each_start : (old : World) (gs : List Group) (queues : ℕ → List Tree) → ((k : ℕ) → queues k ≡ []) → IsDistinct nat_eq (places_of gs) → EachLoop old old gs gs queues
-each_start old gs queues none d = record { answers = []; loop = groups_start old gs; serves = λ later others causes same h. h; empty = all_empty queues gs none; distinct = d }
+each_start old gs queues none d = record { came = []; loop = groups_start old gs; serves = λ later others causes same h. h; empty = all_empty queues gs none; distinct = d }
 
 -- all were served
 pub each_done : (old now : World) (gs : List Group) (queues : ℕ → List Tree) → EachLoop old now gs [] queues → EachExchanged old now gs queues None
 each_done old now gs queues l = record {
-  answers = l.answers;
-  made = groups_done old now gs l.answers l.loop;
+  came = l.came;
+  made = groups_done old now gs l.came l.loop;
   whole = λ place. subst (λ xs. GroupByGroup (request_lists gs) xs) (append-nil (exchanges_of place l.loop.events) ∙ sym (told_had l.loop.events place l.loop.memory)) (l.loop.leads place [] refl);
   queued = subst (λ xs. AreQueued gs xs queues (λ k. NotAsked)) (append-nil l.loop.events) (l.serves [] queues (λ k. NotAsked) (λ k n. (refl, refl)) tt);
 }
@@ -116,8 +116,8 @@ module _ (old now new : World) (gs : List Group) (g : Group) (rest : List Group)
       let x = group_event g m.taken (Ok trees) in
       let here : (more g.which ≡ trees) = put g.which ∙ ap (λ b. cond b trees (queues g.which)) (eq-eqb g.which g.which refl) in
       record {
-        answers = l.answers ++ (g.which, trees) ∷ [];
-        loop = answered_more old now new gs g rest l.answers l.loop p trees e log m;
+        came = l.came ++ (g.which, trees) ∷ [];
+        loop = answered_more old now new gs g rest l.came l.loop p trees e log m;
         serves = λ later others causes same h.
             subst (λ xs. AreQueued gs xs others causes) (sym (append_assoc l.loop.events (x ∷ []) later))
             (l.serves (x ∷ later) others causes (λ k n. let parts = or_parts (nat_eq k g.which) (among nat_eq k (places_of rest)) n in let s = same k parts.1 in (s.0 ∙ put k ∙ ap (λ b. cond b trees (queues k)) parts.0, s.1))
@@ -144,8 +144,8 @@ module _ (old now new : World) (gs : List Group) (g : Group) (rest : List Group)
       λ n d. ap (λ k. cond (k == n) lost.cause NotAsked) which ∙ ap (λ b. cond b lost.cause NotAsked) (eq_swap g.which n ∙ d) in
       let at = λ (place : ℕ). place + length (log_of l.loop.events) in
       record {
-        answers = l.answers;
-        made = failed_made old now new gs g rest l.answers l.loop p (by_cause lost.cause) e log m;
+        came = l.came;
+        made = failed_made old now new gs g rest l.came l.loop p (by_cause lost.cause) e log m;
         whole = λ place. subst (λ xs. GroupByGroup (request_lists gs) xs)
             (ap (λ xs. xs ++ told_at (at place) x) (sym (told_had l.loop.events place l.loop.memory)) ∙ ap (λ ys. told_of place l.loop.events ++ ys) (sym (append-nil (told_at (at place) x))) ∙ sym (told-append l.loop.events (x ∷ []) place))
             (l.loop.leads place (told_at (at place) x)

@@ -208,7 +208,7 @@ drawable ns cds placed xs refusals queues causes fits =
 rest_fits : (t b : Bool) (es : List Exchange) (refusal : Refusal) (queue : List Tree) (cause : Cause) (d : CodeDispatch) (left : List CodeDispatch) → FitsAs b es refusal queue cause (length (cond t (d ∷ left) left))
     → FitsAs b (cond t (rest es) es) refusal (cond t (rest queue) queue) cause (length left)
 rest_fits false b es refusal queue cause d left f = f
-rest_fits true true [] refusal queue cause d left f = absurd (let k : length [] ≡ suc (length left) = f.2 in let g : ⊥ = omega (arith, k) in g)
+rest_fits true true [] refusal queue cause d left f = absurd (let k : length {A = Exchange} [] ≡ suc (length left) = f.2 in let g : ⊥ = omega (arith, k) in g)
 rest_fits true true (e ∷ es) refusal queue cause d left f = (ap rest f.0, f.1, let k = f.2 in omega (arith, k))
 rest_fits true false [] refusal [] cause d left f = f
 rest_fits true false [] refusal (t ∷ ts) cause d left f = cc (f.0)
@@ -223,7 +223,7 @@ rest_to true a (e ∷ es) h = h.1
 module _ (xs : List Exchange) (refusals : Address → Refusal) (causes : ℕ → Cause) where
   first_by : (a : Address) (b : Bool) → has_lost a xs ≡ b → (es : List Exchange) (queue : List Tree) (cause : Cause) (n m : ℕ) → n ≡ suc m → FitsAs b es (refusals a) queue cause n → AllByRecursion (λ (x : Exchange). x.request.node ≡ a) es
       → next_outcome queue cause ≡ outcome_of refusals xs (first_exchange es)
-  first_by a true l [] queue cause n m e f to = absurd (let k : length [] ≡ n = f.2 in let g : ⊥ = omega (arith, k, e) in g)
+  first_by a true l [] queue cause n m e f to = absurd (let k : length {A = Exchange} [] ≡ n = f.2 in let g : ⊥ = omega (arith, k, e) in g)
   first_by a true l (x ∷ es) queue cause n m e f to =
       ap (λ q. next_outcome q cause) f.0 ∙ ap (λ r. Err r) f.1
       ∙ sym (ap (λ k. cond (has_lost k xs) (Err (refusals k)) (reply_outcome (unwrap_or x.reply nil))) to.0 ∙ ap (λ b. cond b (Err (refusals a)) (reply_outcome (unwrap_or x.reply nil))) l)
@@ -267,7 +267,7 @@ made_each : (strategy : Option Strategy) (old new : World) (entries : List Entry
     → AllByRecursion (IsPlaced old.nodes) cds → EachExchanged (with_log old [] []) new (pipe_groups cds) queues lost → outcomes ≡ told_each (map place_in cds) queues (cause_at lost) → EachMade strategy old new entries (Ok outcomes)
 made_each strategy old new entries cds queues lost outcomes planned placed e told =
     let m = e.made in
-    let result = result_by e.answers lost in
+    let result = result_by e.came lost in
     record {
       happened = happened strategy old new entries cds result planned.planned planned.picked placed m;
       told = record {

@@ -124,11 +124,11 @@ groups_done old now gs answers l = record {
 
 -- ---- one more group
 
-concat_last : (xss : List (List Tree)) (xs : List Tree) → concat (xss ++ xs ∷ []) ≡ concat xss ++ xs
+pub concat_last : (xss : List (List Tree)) (xs : List Tree) → concat (xss ++ xs ∷ []) ≡ concat xss ++ xs
 concat_last [] xs = append-nil xs
 concat_last (ys ∷ xss) xs = ap (λ r. ys ++ r) (concat_last xss xs) ∙ sym (append_assoc ys (concat xss) xs)
 
-not_asked : (b c : Bool) → b ≡ false → ((b && c) || false) ≡ false
+pub not_asked : (b c : Bool) → b ≡ false → ((b && c) || false) ≡ false
 not_asked b c e = rw e refl
 
 module _ (old now new : World) (gs : List Group) (g : Group) (rest : List Group) (answers : List (ℕ × List Tree)) (l : GroupLoop old now gs (g ∷ rest) answers) (p : IsGroupPlaced now.nodes g) where
@@ -139,21 +139,21 @@ module _ (old now new : World) (gs : List Group) (g : Group) (rest : List Group)
     abbrev more_events : List Event
     more_events = l.events ++ x ∷ []
 
-    both : (place : ℕ) → exchanges_of place more_events ≡ exchanges_of place l.events ++ exchanges_at (at place) x
+    pub both : (place : ℕ) → exchanges_of place more_events ≡ exchanges_of place l.events ++ exchanges_at (at place) x
     both place = exchanges-append l.events (x ∷ []) place ∙ ap (λ xs. exchanges_of place l.events ++ xs) (append-nil (exchanges_at (at place) x))
 
-    logged_more : new.log ≡ old.log ++ log_of more_events
+    pub logged_more : new.log ≡ old.log ++ log_of more_events
     logged_more =
         log ∙ ap (λ qs. qs ++ x.requests) l.logged ∙ append_assoc old.log (log_of l.events) x.requests
         ∙ ap (λ qs. old.log ++ (log_of l.events ++ qs)) (sym (append-nil x.requests)) ∙ ap (λ qs. old.log ++ qs) (sym (log-append l.events (x ∷ [])))
 
-    order_more : map (λ (y : Event). y.node) more_events ++ group_nodes rest ≡ group_nodes gs
+    pub order_more : map (λ (y : Event). y.node) more_events ++ group_nodes rest ≡ group_nodes gs
     order_more =
         ap (λ ns. ns ++ group_nodes rest) (map-append (λ (y : Event). y.node) l.events (x ∷ []))
         ∙ append_assoc (map (λ (y : Event). y.node) l.events) (x.node ∷ []) (group_nodes rest)
         ∙ ap (λ n. map (λ (y : Event). y.node) l.events ++ n ∷ group_nodes rest) node ∙ l.in_order
 
-    flag_more : (moved : Bool) → new.needs_refresh ≡ (now.needs_refresh || moved) → answered_moved (x ∷ []) ≡ moved → new.needs_refresh ≡ (old.needs_refresh || answered_moved more_events)
+    pub flag_more : (moved : Bool) → new.needs_refresh ≡ (now.needs_refresh || moved) → answered_moved (x ∷ []) ≡ moved → new.needs_refresh ≡ (old.needs_refresh || answered_moved more_events)
     flag_more moved e is =
         e ∙ ap (λ b. b || moved) l.flag ∙ sym (or_assoc old.needs_refresh (answered_moved l.events) moved)
         ∙ ap (λ b. old.needs_refresh || (answered_moved l.events || b)) (sym is) ∙ ap (λ b. old.needs_refresh || b) (sym (moved-append l.events (x ∷ [])))

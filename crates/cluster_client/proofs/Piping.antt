@@ -189,7 +189,7 @@ module _ (strategy : Option Strategy) (old new : World) (entries : List Entry) (
   pub legal : (xs : List Exchange) → GroupByGroup (request_lists (pipe_groups cds)) xs → IsLegalCall (client_of old) new.picked (Pipeline entries) xs
   legal xs parts = rw plans (by_node (node_groups (map dispatch_of cds)) xs (subst (λ qss. GroupByGroup qss xs) (sym (groups_are old.nodes cds placed)) parts))
 
-  once : AreLinkCalls (pipeline_of entries) m.events
+  pub once : AreLinkCalls (pipeline_of entries) m.events
   once = distinct_front (map (λ (x : Event). x.node) m.events) m.unasked (subst (IsDistinct same_address) (sym m.in_order) (groups_distinct old.nodes cds placed))
 
   abbrev pub happened : Happened strategy old new (Pipeline entries)

@@ -39,15 +39,15 @@ AreQueued (g ∷ gs) (x ∷ xs) queues causes = (x.node ≡ group_node g.request
 
 -- what the run of the groups comes to
 abbrev pub result_by : List (ℕ × List Tree) → Option Lost → Result (List (ℕ × List Tree)) Refusal
-result_by answers None = Ok answers
-result_by answers (Some lost) = Err (by_cause lost.cause)
+result_by came None = Ok came
+result_by came (Some lost) = Err (by_cause lost.cause)
 
 -- The link calls of the groups were made, up to the first that was refused, and told; also where memory was
 -- refused its group's exchanges count as lost.
 pub record EachExchanged (old new : World) (gs : List Group) (queues : ℕ → List Tree)
     (lost : Option Lost) : Type 0 where
-  pub answers : List (ℕ × List Tree)
-  pub made : GroupsMade old new gs (result_by answers lost)
+  pub came : List (ℕ × List Tree)
+  pub made : GroupsMade old new gs (result_by came lost)
   pub whole : (place : ℕ) → GroupByGroup (request_lists gs) (told_of place made.events)
   pub queued : AreQueued gs made.events queues (cause_at lost)
 

@@ -69,7 +69,7 @@ tell_each-requires-clause-places g c =
     let all : List Node = nodes g.L.ConnectionLike.seen c.pipeline_dispatches.new.self.links.nodes.items in
     let len : length all ≡ c.len-count.result = length-map _ _ ∙ sym c.pipeline_dispatches.new.self.links.nodes.ok.0 ∙ sym c.len-count.ensures in
     let same = c.deref-2.ensures.value ∙ c.in_ok-places.ensures ∙ ap (map place_in) c.deref.ensures.value in
-    subst (λ m. AllByRecursion (λ n. n < m) _) (sym (c.exchange_each-lost.ensures.len ∙ c.in_ok-queues.ensures.len))
+    subst (λ m. AllByRecursion (λ n. n < m) c.deref-2.result.now) (sym (c.exchange_each-lost.ensures.len ∙ c.in_ok-queues.ensures.len))
     (subst (AllByRecursion (λ n. n < c.len-count.result)) (sym same) (places_within all c.len-count.result _ len c.in_ok-dispatches.ensures.placed))
 
 pub returns : goal.returns
