@@ -263,8 +263,8 @@ impl<L: ConnectionLike + Drop> ClusterClient<L> {
         }
     }
 
-    /// What is done for a command before its first byte: where it goes first, or its parts, where each of them
-    /// goes first, and the order in which they are sent.
+    /// What is done for a command before its first byte: where it goes first, or its parts, where each of
+    /// them goes first, and the order in which they are sent.
     fn prepare(
         &mut self,
         alloc: Global,
