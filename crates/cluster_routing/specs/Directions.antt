@@ -16,8 +16,7 @@ one_direction (Some to_any_node) = AnyNode
 one_direction _ = Elsewhere
 
 abbrev pub direction : Args → List (List ℕ) → Direction
-direction args read_only = if has_split_word args then SplitByKeys
-    else one_direction (destination args read_only)
+direction args read_only = if has_split_word args then SplitByKeys else one_direction (destination args read_only)
 
 -- the same by a rule of the table
 abbrev pub direction_by : SlotAddr → Args → Rule → Direction

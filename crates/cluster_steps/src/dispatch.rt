@@ -45,8 +45,8 @@ pub struct Prepared {
     pub split: Option<SplitParts>,
 }
 
-/// What there is of a command before its first byte: where it goes first as a whole, or what is prepared
-/// of its parts.
+/// What there is of a command before its first byte: where it goes first as a whole, or what is prepared of its
+/// parts.
 #[derive(Drop)]
 pub enum Outset {
     Whole(Dispatch),

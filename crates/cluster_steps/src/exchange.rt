@@ -78,8 +78,7 @@ fn reply_to_one<L: ConnectionLike>(
 ) -> Result<Value, RedisError>
     requires { which < vec_len links.old.nodes }
     ensures call { Calls (nodes L.seen links.old.nodes.items) (nodes L.seen links.new.nodes.items) which
-        (λ before after. Called before after bytes.now (skipped asking) 1
-        (one_reply (tree_result view result))) }
+        (λ before after. Called before after bytes.now (skipped asking) 1 (one_reply (tree_result view result))) }
     ensures len { vec_len links.new.nodes ≡ vec_len links.old.nodes }
 {
     if !asking {

@@ -8,7 +8,7 @@ use crate::cmd::Arg;
 use itoa::Buffer;
 use std::alloc::{AllocError, Global};
 
-// What a packed argument takes beside its bytes, or the line of a count, as long as no number is above 10^11.
+// What a packed argument takes beside its bytes, and the line of a count, where neither number is above 10^11.
 const LINES: usize = 16;
 
 /// The bytes that a list of arguments is sent as. It is refused only for want of memory.
