@@ -285,6 +285,10 @@ made_each strategy old new entries cds queues lost outcomes planned placed e tol
       };
     }
 
+-- what was told stands behind no other outcomes, and the places are those of the dispatches
+pub told_for : (outcomes none : List (Result Tree Refusal)) (ks places : List ℕ) (queues : ℕ → List Tree) (causes : ℕ → Cause) → outcomes ≡ none ++ told_each ks queues causes → none ≡ [] → ks ≡ places → outcomes ≡ told_each places queues causes
+told_for outcomes none ks places queues causes told empty same = told ∙ ap (λ os. os ++ told_each ks queues causes) empty ∙ ap (λ ns. told_each ns queues causes) same
+
 -- the same from what the code says of its steps
 pub each_made : (strategy : Option Strategy) (old mid new : World) (entries : List Entry) (cds : List CodeDispatch) (gs : List Group) (queues : ℕ → List Tree) (lost : Option Lost) (outcomes : List (Result Tree Refusal))
     → mid ≡ with_log old [] [] → IsPlanned strategy (client_of old) (Pipeline entries) [] (Ok (map dispatch_of cds)) → AllByRecursion (IsPlaced mid.nodes) cds → gs ≡ pipe_groups cds → EachExchanged mid new gs queues lost

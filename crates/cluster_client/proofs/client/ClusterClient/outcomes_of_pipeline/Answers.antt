@@ -4,14 +4,13 @@ use Rattle.std.proofs.Common.{◌≡◌, ◌<◌, ◌∙◌, List, map, length, 
 use Rattle.std.proofs.lemmas.List.{length-map}
 use Rattle.std.proofs.lemmas.Result.{err_from_is_err_and}
 use Rattle.cluster_routing.specs.Lists.{IsDistinct}
-use Rattle.cluster_steps.specs.Each.{told_each}
 use Rattle.cluster_steps.specs.Groups.{group_of, place_in, request_count}
 use Rattle.cluster_steps.specs.GroupRuns.{IsGroupPlaced}
 use Rattle.cluster_calls.specs.Links.World.{Node, nodes}
 use Rattle.cluster_calls.proofs.ServerLaws.Distinct.{firsts_distinct}
 use Rattle.cluster_steps.proofs.PipeGroups.{all_unmapped, groups_placed}
 use Rattle.cluster_steps.proofs.RequestCounts.{requests_within}
-use Rattle.cluster_client.proofs.EachPiping.{each_made, each_unsent}
+use Rattle.cluster_client.proofs.EachPiping.{each_made, each_unsent, told_for}
 use Rattle.cluster_client.proofs.Logged.{room_for_fewer}
 use Rattle.cluster_client.proofs.Piping.{dispatches_within, places_within, whiches}
 use Rattle.cluster_client.proofs.client.ClusterClient.outcomes_of_pipeline.Goals as goal
@@ -78,4 +77,4 @@ returns g c strategy =
     let places = c.deref-2.ensures.value ∙ c.in_ok-places.ensures ∙ ap (map place_in) c.deref.ensures.value in
     let outcomes = rw c.in_ok-outcomes.ensures.items at c.tell_each.ensures in
     each_made strategy _ _ _ _ _ _ _ _ _ told.stays (told.planned (λ k. cc k) strategy) told.placed c.in_ok-groups.ensures c.exchange_each-lost.ensures.exchanged
-    (outcomes ∙ ap (λ ks. told_each ks _ _) places)
+    (told_for _ _ _ _ _ _ outcomes refl places)
