@@ -144,13 +144,14 @@ impl<L: ConnectionLike + Drop> ClusterClient<L> {
     ///
     /// Behind the first byte: `NoLink` where none leads to the node that a redirect names, and nothing was
     /// done; the first reply that is itself an error, a redirect out of budget or without a readable node
-    /// among them: that to `MULTI`, then those to the commands, then that to `EXEC`. Nothing was done, but
-    /// where that to `MULTI` is the error: then the commands may have been done, each by itself. `Io` and
-    /// `Parse` where the link failed, which is closed then: the transaction may have been done.
-    /// `UnexpectedReturnType` where `EXEC` replied neither an array nor nil, or what it replied is no `T`:
-    /// the transaction may have been done, or was. `Memory`: what the first attempt takes is there before the
-    /// first byte; behind it memory can lack in a link call, for an attempt that a redirect sends on, and
-    /// for the answer, so the transaction may have been done.
+    /// among them: that to `MULTI`, then those to the commands, then that to `EXEC`. Nothing was done then
+    /// where `MULTI` was answered OK and `EXEC` by an error or nil; else, as where `MULTI` was refused, the
+    /// commands may have been done, each by itself. `Io` and `Parse` where the link failed, which is closed
+    /// then: the transaction may have been done. `UnexpectedReturnType` where no reply is itself an error,
+    /// and that to `EXEC` is neither an array nor, behind an OK to `MULTI`, nil: it may have been done; or
+    /// where what `EXEC` replied is no `T`: if that is an array, it was done. `Memory`: what the first
+    /// attempt takes is there before the first byte; behind it memory can lack in a link call, for an
+    /// attempt that a redirect sends on, and for the answer, so the transaction may have been done.
     ///
     /// Source: the Redis documentation, "Transactions"; the Redis Cluster specification, "MOVED redirection"
     /// and "ASK redirection".
