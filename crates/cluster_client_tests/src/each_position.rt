@@ -214,9 +214,10 @@ fn a_position_is_refused_before_the_first_byte(rt: HostRuntime) -> Result<(), Fa
     let alloc = rt.alloc();
     let mut client = client(alloc, &TWO_NODES)?;
     let mut pipeline = gets(alloc, &["a", "b"])?;
-    pipeline.cmd(alloc, "DEL")?;
-    pipeline.arg("a")?;
-    pipeline.arg("b")?;
+    let mut delete = command::cmd(alloc, "DEL")?;
+    delete.arg("a")?;
+    delete.arg("b")?;
+    pipeline.add_command(delete)?;
     assert_eq!(rt; refused_position(alloc, &mut client, &pipeline), Some(2));
     assert_eq!(rt; client.asked().len(), 0);
     assert!(rt; has_sent(alloc, &client, "n3:7003", b"")?);

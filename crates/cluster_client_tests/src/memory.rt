@@ -381,15 +381,17 @@ fn two_reads_again<R: Print>(rt: &R, alloc: Global) -> Result<ClusterPipeline, F
 fn digits_in(outcomes: &[Result<Value, RedisError>]) -> i64 {
     match outcomes {
         [Ok(Value::Int(3)), Ok(Value::Int(4))] => 1,
-        [first, second] => 0 - 10000 - number_told(first) * 100 - number_told(second),
+        [first, second] => {
+            0 - 10000 - i64::from(number_told(first)) * 100 - i64::from(number_told(second))
+        }
         _ => 0,
     }
 }
 
-fn number_told(outcome: &Result<Value, RedisError>) -> i64 {
+fn number_told(outcome: &Result<Value, RedisError>) -> u8 {
     match outcome {
         Ok(_) => 0,
-        Err(e) => i64::from(e.number()),
+        Err(e) => e.number(),
     }
 }
 
