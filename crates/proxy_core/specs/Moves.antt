@@ -24,10 +24,11 @@ IsDue NoGuest is_there share entries held size = is_there ≡ false
 IsDue Full is_there share entries held size = IsFull share entries held size
 IsDue NoMemory is_there share entries held size = Unit {0}
 
--- when a guest is refused so: all numbers below the limit are taken
+-- when a guest is refused so: all numbers below the limit are taken, or one of them is free, but no guest that
+-- left had it, so that a place has to be made for it
 abbrev pub IsJoinDue : JoinRefusal → List Bool → ℕ → Type 0
 IsJoinDue joins.Full openings most = most ≤ free_from 0 openings
-IsJoinDue joins.NoMemory openings most = Unit {0}
+IsJoinDue joins.NoMemory openings most = (free_from 0 openings < most) × (length openings ≤ free_from 0 openings)
 
 -- of guest g nothing is held now, and it is there or not; nothing changes of other guests
 abbrev pub Renews : {C V : Type 0} → State C V → State C V → ℕ → Bool → Type 0
