@@ -31,7 +31,7 @@ impl<C: Command, V: Bytes> Proxy<C, V> {
     }
 
     /// Lets a guest in, and answers its number: the first one that no guest has. Where it is refused
-    /// nothing has changed.
+    /// nothing has changed. The place of a guest that left takes no memory.
     pub fn join(&mut self, alloc: Global) -> Result<usize, JoinRefusal>
         ensures number { IfOk result (λ g. g ≡ free_from 0 (openings self.old.guests.items)) }
         ensures within { IfOk result (λ g. g < self.old.limits.guests) }
