@@ -3,6 +3,8 @@
 pub mod Call
 pub mod Task
 pub mod Parts
+pub mod OneSlot
+pub mod TaskParts
 pub mod Plan
 pub mod Picks
 pub mod Redirects

@@ -24,4 +24,3 @@ pub mod Building
 pub mod PipeReplies
 pub mod EachMade
 pub mod AttemptRuns
-pub mod TransactionMade

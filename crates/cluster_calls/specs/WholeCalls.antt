@@ -25,3 +25,4 @@ pub mod SentAgain
 pub mod MixedPlay
 pub mod ClosedLinks
 pub mod Transactions
+pub mod AsOneRuns

@@ -1,6 +1,6 @@
 -- An attempt at a transaction as the code has it: where it goes, what its exchange did, and what becomes of
 -- its replies.
-use Rattle.std.specs.Prelude.{◌≡◌, ◌<◌, ℕ, ◌||◌, Bool, true, false, List, map, length, Option, Some, None, option_map, Result, Ok, Err, ⊤}
+use Rattle.std.specs.Prelude.{◌≡◌, ◌<◌, ℕ, ◌||◌, Bool, true, false, List, [], map, length, Option, Some, None, option_map, Result, Ok, Err, ⊤}
 use Rattle.std.specs.Borrow.{Bor}
 use Rattle.resp_core.specs.Errors.{Refusal}
 use Rattle.resp_core.specs.Trees.{Tree}
@@ -9,8 +9,10 @@ use Rattle.resp_core.specs.declared.value.Value.{Value}
 use Rattle.resp_args.specs.Command.{Command}
 use Rattle.cluster_routing.specs.Address.{Address}
 use Rattle.cluster_routing.specs.Seen.{address}
+use Rattle.cluster_calls.specs.Calls.OneSlot.{args_of}
+use Rattle.cluster_calls.specs.Calls.Plan.{Dispatch}
 use Rattle.cluster_calls.specs.Calls.Redirects.{Next, Goes, is_going}
-use Rattle.cluster_calls.specs.Calls.Transactions.{Fate, not_done, args_of, attempt, attempt_answer, first_to, unless_lost}
+use Rattle.cluster_calls.specs.Calls.Transactions.{Fate, not_done, attempt, attempt_answer, dispatches_to, first_to, unless_lost}
 use Rattle.cluster_calls.specs.Links.Exchanges.{Exchanges}
 use Rattle.cluster_calls.specs.Links.Places.{IsOpenAt}
 use Rattle.cluster_calls.specs.Links.Request.{Request}
@@ -56,10 +58,14 @@ IsFirstAttempt all commands None = ⊤
 IsFirstAttempt all commands (Some a) = IsPlacedAttempt all commands a
     × (hop_to a.place ≡ first_to (address a.place.node))
 
--- the node that it goes to
-abbrev pub attempt_node : Result (Option Attempt) Refusal → Result (Option Address) Refusal
-attempt_node (Ok found) = Ok (option_map (λ (a : Attempt). address a.place.node) found)
-attempt_node (Err refusal) = Err refusal
+-- what it sends, or nothing where there is none
+abbrev pub found_dispatches : List Command → Option Attempt → List Dispatch
+found_dispatches commands None = []
+found_dispatches commands (Some a) = dispatches_to (address a.place.node) (args_of commands)
+
+abbrev pub attempt_plan : List Command → Result (Option Attempt) Refusal → Result (List Dispatch) Refusal
+attempt_plan commands (Ok found) = Ok (found_dispatches commands found)
+attempt_plan commands (Err refusal) = Err refusal
 
 -- ---- its exchange
 

@@ -5,9 +5,11 @@ use Rattle.resp_core.specs.Trees.{Tree}
 use Rattle.cluster_routing.specs.Address.{Address}
 use Rattle.cluster_routing.specs.SlotMap.{SlotEntries, put_all}
 use Rattle.cluster_routing.specs.SlotsReply.{ranges}
-use Rattle.cluster_calls.specs.Links.Log.{Exchange, is_answered, is_moved, has_lost}
-use Rattle.cluster_calls.specs.Calls.Call.{Call, Refresh, Pipeline}
+use Rattle.cluster_calls.specs.Links.Log.{Exchange, is_answered, is_unanswered, is_moved, has_lost}
+use Rattle.cluster_calls.specs.Calls.Call.{Call, Refresh, Pipeline, Transaction}
+use Rattle.cluster_calls.specs.Calls.OneSlot.{args_of}
 use Rattle.cluster_calls.specs.Calls.Plan.{Client}
+use Rattle.cluster_calls.specs.Calls.Transactions.{in_sizes, size}
 
 abbrev pub entries_by : SlotEntries → List ℕ → Option Tree → SlotEntries
 entries_by entries host None = entries
@@ -23,12 +25,18 @@ map_after entries _ xs = entries
 abbrev pub some_moved : List Exchange → Bool
 some_moved xs = list_any (λ (x : Exchange). is_moved x && not (has_lost x.request.node xs)) xs
 
+-- whether an attempt at a transaction was answered whole, and with MOVED among its replies
+abbrev pub is_moved_whole : List Exchange → Bool
+is_moved_whole xs = list_any is_moved xs && not (list_any is_unanswered xs)
+
 -- whether a refresh is needed after a call: a request was answered by MOVED, and no refresh was accepted
 -- since
 abbrev pub flag_after : Bool → Call → List Exchange → Bool
 flag_after flag (Refresh node) (x ∷ []) = if is_answered x then false else flag
 flag_after flag (Refresh node) _ = flag
 flag_after flag (Pipeline entries) xs = flag || some_moved xs
+flag_after flag (Transaction commands) xs = flag
+    || list_any is_moved_whole (in_sizes (size (args_of commands)) xs)
 flag_after flag _ xs = flag || list_any is_moved xs
 
 -- a node with an unanswered request is closed

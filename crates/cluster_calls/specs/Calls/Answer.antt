@@ -5,6 +5,7 @@ use Rattle.resp_core.specs.Parts.{or_else}
 use Rattle.resp_core.specs.Errors.{Refusal}
 use Rattle.resp_args.specs.Packed.{sent}
 use Rattle.cluster_routing.specs.Address.{Address}
+use Rattle.cluster_routing.specs.Policies.{or_bad_reply}
 use Rattle.stream_commands.specs.Shapes.{a_text, a_count, perhaps, list_of}
 use Rattle.stream_commands.specs.Entries.{Entry}
 use Rattle.stream_commands.specs.EntryReplies.{range_reply, claim_reply}
@@ -15,14 +16,13 @@ use Rattle.stream_commands.specs.StreamInfo.{StreamInfo, info_stream_reply}
 use Rattle.stream_commands.specs.Groups.{Group, groups_reply}
 use Rattle.stream_commands.specs.Consumers.{Consumer, consumers_reply}
 use Rattle.stream_commands.specs.StatusCodes.{status}
-use Rattle.cluster_routing.specs.Policies.{or_bad_reply}
 use Rattle.cluster_calls.specs.Links.Log.{Exchange, is_answered}
 use Rattle.cluster_calls.specs.Calls.Call.{StreamCall, Xadd, Xtrim, Xread, Xrange, Xclaim, Xautoclaim, Xpending, XinfoStream, XinfoGroups, XinfoConsumers, XdelEx, Call, Refresh, OnStreams}
-use Rattle.cluster_calls.specs.Calls.Task.{Task, slot_map_of, one_command, pipeline_of, several_nodes, one_node, read_of, task_of}
+use Rattle.cluster_calls.specs.Calls.Task.{Task, slot_map_of, one_command, pipeline_of, several_nodes, one_node, read_of, transaction_of, task_of}
 use Rattle.cluster_calls.specs.Calls.Parts.{result_then}
-use Rattle.cluster_calls.specs.Calls.Plan.{Client, plan}
+use Rattle.cluster_calls.specs.Calls.Plan.{Client, plan, unless}
 use Rattle.cluster_calls.specs.Links.Faults.{LinkFault}
-use Rattle.cluster_calls.specs.Calls.Replies.{part_replies, reply_of_parts, only_reply, pipeline_reply, several_reply}
+use Rattle.cluster_calls.specs.Calls.Replies.{part_replies, reply_of_parts, only_reply, pipeline_reply, several_reply, transaction_reply}
 use Rattle.cluster_calls.specs.Calls.Reads.{read_rows}
 use Rattle.cluster_calls.specs.Calls.Refusals.{refusal_in, sent_refusal}
 
@@ -85,6 +85,7 @@ reply_of faults (pipeline_of entries) xs = Some (pipeline_reply entries xs)
 reply_of faults (several_nodes command) xs = tree_in (several_reply faults command xs)
 reply_of faults (one_node node command) xs = only_reply xs
 reply_of faults (read_of options streams) xs = None
+reply_of faults (transaction_of commands) xs = transaction_reply commands xs
 
 abbrev pub task_answer : (Address → LinkFault) → Call → Task → List Exchange → Option Answer
 task_answer faults call (read_of options streams) xs = option_map Read
@@ -93,10 +94,6 @@ task_answer faults call task xs = option_and_then (answer_in call) (reply_of fau
 
 abbrev pub call_answer : (Address → LinkFault) → Call → List Exchange → Option Answer
 call_answer faults call xs = task_answer faults call (task_of call) xs
-
-abbrev pub unless : {A : Type 0} → Option Refusal → Result A Refusal → Result A Refusal
-unless None result = result
-unless (Some refusal) result = Err refusal
 
 -- the first check before sending that is not met, then why a part or a node refused, then a reply of another
 -- shape; else the answer

@@ -1,7 +1,7 @@
 -- What a pipeline tells of each of its positions: its reply, or the error that it is; by what the link call of
 -- its node was refused; or that its node was not asked.
 -- Source: the Redis protocol specification (a server answers the requests of a connection in their order).
-use Rattle.std.specs.Prelude.{ℕ, if◌then◌else◌, List, [], ◌∷◌, map, filter, Option, Some, None, Result, Ok, Err}
+use Rattle.std.specs.Prelude.{if◌then◌else◌, List, [], ◌∷◌, map, filter, Option, Some, None, Result, Ok, Err}
 use Rattle.resp_core.specs.Trees.{Tree, nil, server_error}
 use Rattle.resp_core.specs.Errors.{Refusal, by_cause, by_server, server_kind}
 use Rattle.resp_core.specs.declared.errors.redis_error.Cause.{Cause}
@@ -12,9 +12,8 @@ use Rattle.cluster_routing.specs.Address.{Address, same_address}
 use Rattle.cluster_routing.specs.Lists.{rest}
 use Rattle.cluster_calls.specs.Links.Log.{Exchange, has_lost}
 use Rattle.cluster_calls.specs.Links.PipeReplies.{pipeline_result}
-use Rattle.cluster_calls.specs.Calls.Answer.{unless}
 use Rattle.cluster_calls.specs.Calls.Call.{Entry}
-use Rattle.cluster_calls.specs.Calls.Plan.{Dispatch}
+use Rattle.cluster_calls.specs.Calls.Plan.{Dispatch, unless}
 use Rattle.cluster_calls.specs.Calls.Replies.{reply_or_nil}
 use Rattle.cluster_calls.specs.Calls.Task.{first_refusal}
 

@@ -1,15 +1,17 @@
 -- Which logs a call makes, from its plan and the replies.
 -- Source: the Redis Cluster specification; documentation of the crate `redis`, `ClusterPipeline`.
-use Rattle.std.specs.Prelude.{◌≡◌, false, List, [], ◌∷◌, map, filter, length, take, drop, MatchBool, MatchResult}
+use Rattle.std.specs.Prelude.{◌≡◌, ℕ, false, List, [], ◌∷◌, map, filter, length, take, drop, MatchBool, MatchResult}
 use Rattle.std.specs.List.{list_any}
 use Rattle.cluster_routing.specs.Address.{Address, same_address}
 use Rattle.cluster_routing.specs.Lists.{firsts}
 use Rattle.cluster_calls.specs.Links.Request.{Request}
 use Rattle.cluster_calls.specs.Links.Log.{Exchange, requests, is_answered, is_unanswered}
 use Rattle.cluster_calls.specs.Calls.Call.{Call}
-use Rattle.cluster_calls.specs.Calls.Task.{Task, slot_map_of, one_command, pipeline_of, several_nodes, one_node, read_of, task_of}
+use Rattle.cluster_calls.specs.Calls.Task.{Task, slot_map_of, one_command, pipeline_of, several_nodes, one_node, read_of, transaction_of, task_of}
 use Rattle.cluster_calls.specs.Calls.Plan.{Client, Dispatch, plan}
+use Rattle.cluster_calls.specs.Calls.OneSlot.{args_of}
 use Rattle.cluster_calls.specs.Calls.Redirects.{Hop, FollowsRedirects}
+use Rattle.cluster_calls.specs.Calls.Transactions.{FollowsAttempts}
 
 abbrev pub first_hop : Dispatch → Hop
 first_hop d = record { node = d.node; asking = false }
@@ -39,6 +41,12 @@ NodeByNode (group ∷ groups) xs =
     × MatchBool (list_any is_unanswered (take (length group) xs)) (drop (length group) xs ≡ [])
     (NodeByNode groups (drop (length group) xs))
 
+-- the attempts at a transaction, from the node of its dispatches on; without dispatches there is none
+abbrev pub AttemptAfterAttempt : Client → List (List (List ℕ)) → List Dispatch → List Exchange → Type 0
+AttemptAfterAttempt client commands [] xs = xs ≡ []
+AttemptAfterAttempt client commands (d ∷ ds) xs =
+    FollowsAttempts client.links client.settings.budget (first_hop d) commands xs
+
 -- the exchanges are those that a task makes, from its dispatches on; a refresh, a command to several nodes
 -- and one to a node that is named follow no redirect
 abbrev pub AreMade : Client → Task → List Dispatch → List Exchange → Type 0
@@ -48,6 +56,7 @@ AreMade client (pipeline_of entries) ds xs = NodeByNode (node_groups ds) xs
 AreMade client (several_nodes command) ds xs = requests xs ≡ map direct ds
 AreMade client (one_node node command) ds xs = requests xs ≡ map direct ds
 AreMade client (read_of options streams) ds xs = PartByPart client ds xs
+AreMade client (transaction_of commands) ds xs = AttemptAfterAttempt client (args_of commands) ds xs
 
 -- a call that is refused before sending makes no request
 abbrev pub IsLegalCall : Client → List Address → Call → List Exchange → Type 0

@@ -20,10 +20,9 @@ use Rattle.cluster_routing.specs.Lists.{is_permutation}
 use Rattle.cluster_routing.specs.Split.{Split, split_of, has_split_word, part_slots, sub}
 use Rattle.stream_commands.specs.Commands as commands
 use Rattle.stream_commands.specs.Settings.{ReadSettings}
-use Rattle.cluster_calls.specs.Links.Request.{slots_command}
 use Rattle.cluster_calls.specs.Calls.Call.{Entry, Stream}
 use Rattle.cluster_calls.specs.Calls.Reads.{stream_slots, streams_at}
-use Rattle.cluster_calls.specs.Calls.Task.{Task, slot_map_of, one_command, pipeline_of, several_nodes, one_node, read_of, stream_keys, stream_ids, are_of_one_slot}
+use Rattle.cluster_calls.specs.Calls.Task.{stream_keys, stream_ids, are_of_one_slot}
 
 -- where a part goes first: to its slot, to the node with this number among all, or to a node
 pub data Target : Type 0 where
@@ -154,16 +153,3 @@ read_part role options streams slot =
 abbrev pub read_parts : List (List ℕ) → ReadSettings → List Stream → List Part
 read_parts read_only options streams = map (read_part (role_of (codes "XREAD") read_only) options streams)
     (stream_slots streams)
-
--- ---- tasks
-
-abbrev pub task_parts : List (List ℕ) → SlotEntries → Task → Result (List Part) Refusal
-task_parts read_only entries (slot_map_of node) = Ok (part_to slots_command (at_node node) ∷ [])
-task_parts read_only entries (one_command command number order) = result_then
-    (parts_of read_only command number) (if_ordered order)
-task_parts read_only entries (pipeline_of es) = pipeline_parts 0 es
-task_parts read_only entries (read_of options streams) = Ok (read_parts read_only options streams)
-task_parts read_only entries (several_nodes command) =
-    if command.no_response then Err (by_cause NoResponse)
-    else node_parts entries (sent command) (destination command.args read_only)
-task_parts read_only entries (one_node node command) = node_part node command

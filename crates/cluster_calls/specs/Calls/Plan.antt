@@ -12,7 +12,8 @@ use Rattle.cluster_routing.specs.declared.route.SlotAddr.TheVariants.{Master}
 use Rattle.cluster_calls.specs.Links.World.{Settings, is_linked}
 use Rattle.cluster_calls.specs.Calls.Call.{Call}
 use Rattle.cluster_calls.specs.Calls.Task.{Task, one_command, early_refusal, task_of}
-use Rattle.cluster_calls.specs.Calls.Parts.{Target, at_slot, at_number, at_node, Part, result_then, task_parts}
+use Rattle.cluster_calls.specs.Calls.Parts.{Target, at_slot, at_number, at_node, Part, result_then}
+use Rattle.cluster_calls.specs.Calls.TaskParts.{task_parts}
 
 -- what a client goes by: its settings, its slot map and its open links
 pub record Client : Type 0 where
@@ -92,13 +93,14 @@ dispatches client picks (part ∷ parts) =
 
 -- ---- plans
 
--- the parts of a call, or the first check that is not met before any node is looked for
-abbrev pub unless_refused : {A : Type 0} → Option Refusal → Result A Refusal → Result A Refusal
-unless_refused None parts = parts
-unless_refused (Some refusal) parts = Err refusal
+-- a result, unless something was refused before
+abbrev pub unless : {A : Type 0} → Option Refusal → Result A Refusal → Result A Refusal
+unless None result = result
+unless (Some refusal) result = Err refusal
 
+-- the parts of a call, or the first check that is not met before any node is looked for
 abbrev pub call_parts : Client → Call → Result (List Part) Refusal
-call_parts client call = unless_refused (early_refusal call)
+call_parts client call = unless (early_refusal call)
     (task_parts client.settings.read_only client.entries (task_of call))
 
 abbrev pub order_of : Task → Option (List ℕ)

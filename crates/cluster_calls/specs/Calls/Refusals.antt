@@ -6,9 +6,10 @@ use Rattle.resp_core.specs.Parts.{first_error}
 use Rattle.resp_core.specs.declared.errors.redis_error.Cause.TheVariants.{NoLink}
 use Rattle.cluster_routing.specs.Address.{Address}
 use Rattle.cluster_calls.specs.Links.Log.{Exchange, is_unanswered, last_of, behind_answers}
-use Rattle.cluster_calls.specs.Calls.Task.{Task, slot_map_of, one_command, pipeline_of, several_nodes, one_node, read_of}
+use Rattle.cluster_calls.specs.Calls.Task.{Task, slot_map_of, one_command, pipeline_of, several_nodes, one_node, read_of, transaction_of}
 use Rattle.cluster_calls.specs.Calls.Plan.{Client}
 use Rattle.cluster_calls.specs.Calls.Redirects.{Next, Lost, next_of}
+use Rattle.cluster_calls.specs.Calls.Transactions.{commands_answer}
 use Rattle.cluster_calls.specs.Links.Faults.{LinkFault, refusal_by_fault}
 use Rattle.cluster_calls.specs.Calls.Replies.{reply_or_nil, reply_error, in_pipeline_order, several_reply}
 
@@ -76,3 +77,5 @@ sent_refusal client faults (pipeline_of entries) xs = pipeline_refusal faults xs
 sent_refusal client faults (several_nodes command) xs = refusal_in (several_reply faults command xs)
 sent_refusal client faults (one_node node command) xs = only_refusal faults xs
 sent_refusal client faults (read_of options streams) xs = part_refusal client faults (behind_answers xs)
+sent_refusal client faults (transaction_of commands) xs = refusal_in
+    (commands_answer client faults commands xs)

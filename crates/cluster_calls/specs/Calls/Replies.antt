@@ -1,6 +1,6 @@
 -- One reply from those of a call's requests.
 use Rattle.std.specs.Prelude.{ℕ, if◌then◌else◌, List, [], ◌∷◌, map, filter, ◌==◌, Option, Some, None, option_and_then, unwrap_or, Result, Ok, Err}
-use Rattle.resp_core.specs.Trees.{Tree, nil}
+use Rattle.resp_core.specs.Trees.{Tree, array, nil, no_trees}
 use Rattle.resp_core.specs.Errors.{Refusal, by_server}
 use Rattle.resp_core.specs.Parts.{first_error}
 use Rattle.resp_args.specs.Packed.{sent}
@@ -60,6 +60,13 @@ reply_of_parts args replies = reply_by_split (split_of args) replies
 -- the reply to the only request
 abbrev pub only_reply : List Exchange → Option Tree
 only_reply xs = option_and_then (λ (x : Exchange). x.reply) (last_of xs)
+
+-- ---- transactions
+
+-- the reply to the last request, which is EXEC; no commands are answered by an empty array
+abbrev pub transaction_reply : List Command → List Exchange → Option Tree
+transaction_reply [] xs = Some (array no_trees)
+transaction_reply (c ∷ cs) xs = only_reply xs
 
 -- ---- pipelines
 

@@ -1,5 +1,5 @@
--- What a call comes down to: a command or a read of streams part by part, a pipeline, a command to several
--- nodes or to one, or a request for the slot map.
+-- What a call comes down to: a command or a read of streams part by part, a pipeline, a transaction, a
+-- command to several nodes or to one, or a request for the slot map.
 use Rattle.std.specs.Prelude.{ℕ, Bool, false, not, ◌&&◌, ◌||◌, ◌==◌, nat_eq, nat_lt, bytes_eq, if◌then◌else◌, List, [], ◌∷◌, map, length, Option, Some, None, is_none, codes}
 use Rattle.resp_core.specs.Errors.{Refusal, by_cause}
 use Rattle.resp_core.specs.declared.errors.redis_error.Cause.{Cause}
@@ -12,7 +12,7 @@ use Rattle.cluster_routing.specs.Lists.{firsts, is_distinct}
 use Rattle.stream_commands.specs.Settings.{GroupNames, ReadSettings}
 use Rattle.stream_commands.specs.Commands as commands
 use Rattle.stream_commands.specs.Commands.{plain_command}
-use Rattle.cluster_calls.specs.Calls.Call.{Entry, Stream, StreamCall, Xadd, Xtrim, Xread, Xrange, Xclaim, Xautoclaim, Xpending, XinfoStream, XinfoGroups, XinfoConsumers, XdelEx, Call, Refresh, Query, Ordered, Pipeline, FanOut, At, OnStreams}
+use Rattle.cluster_calls.specs.Calls.Call.{Entry, Stream, StreamCall, Xadd, Xtrim, Xread, Xrange, Xclaim, Xautoclaim, Xpending, XinfoStream, XinfoGroups, XinfoConsumers, XdelEx, Call, Refresh, Query, Ordered, Pipeline, FanOut, At, Transaction, OnStreams}
 
 -- ---- sentences of calls on streams
 
@@ -88,6 +88,8 @@ pub data Task : Type 0 where
   several_nodes : (command : Command) → Task
   -- as it is, to a node that the caller names
   one_node : (node : Address) → (command : Command) → Task
+  -- commands of one slot, done as one
+  transaction_of : (commands : List Command) → Task
   -- streams, one part for each slot of their keys, as they first appear
   read_of : (options : ReadSettings) → (streams : List Stream) → Task
 
@@ -107,4 +109,5 @@ task_of (Ordered command order number) = one_command command number (Some order)
 task_of (Pipeline entries) = pipeline_of entries
 task_of (FanOut command) = several_nodes command
 task_of (At node command) = one_node node command
+task_of (Transaction commands) = transaction_of commands
 task_of (OnStreams call) = stream_task call

@@ -2,107 +2,23 @@
 -- in one write.
 -- Sources: the Redis documentation, "Transactions"; the Redis Cluster specification, "MOVED redirection" and
 -- "ASK redirection"; what Redis 7.0.15 was seen to answer (docs/DECISIONS.md, "Transactions").
-use Rattle.std.specs.Prelude.{◌≡◌, ℕ, zero, suc, ◌+◌, ◌-◌, ◌/◌, ◌==◌, Bool, true, false, ◌&&◌, ◌||◌, nat_lt, is_none, is_some, if◌then◌else◌, List, [], ◌∷◌, ◌++◌, map, length, take, drop, Option, Some, None, Result, Ok, Err, MatchOption, MatchResult, codes}
+use Rattle.std.specs.Prelude.{◌≡◌, ℕ, zero, suc, ◌+◌, ◌-◌, ◌/◌, Bool, true, false, ◌&&◌, ◌||◌, is_none, is_some, if◌then◌else◌, List, [], ◌∷◌, ◌++◌, map, length, take, drop, Option, Some, None, Result, Ok, Err}
 use Rattle.resp_core.specs.Trees.{Tree, ErrorText, array, nil, okay, server_error, no_trees}
-use Rattle.resp_core.specs.Errors.{Refusal, by_cause, by_server, at_position}
+use Rattle.resp_core.specs.Errors.{Refusal, by_cause, by_server}
 use Rattle.resp_core.specs.Parts.{or_else}
-use Rattle.resp_core.specs.declared.errors.redis_error.Cause.TheVariants.{NoNode, NoLink}
+use Rattle.resp_core.specs.declared.errors.redis_error.Cause.TheVariants.{NoLink}
 use Rattle.resp_args.specs.Command.{Command}
-use Rattle.resp_args.specs.Packed.{sent}
 use Rattle.cluster_routing.specs.Address.{Address}
-use Rattle.cluster_routing.specs.Command.{Args, is_one_of, place_of}
 use Rattle.cluster_routing.specs.Policies.{bad_reply, or_bad_reply}
-use Rattle.cluster_routing.specs.Routing.{name_of}
-use Rattle.cluster_routing.specs.SlotMap.{Nodes, nodes_at}
 use Rattle.cluster_calls.specs.Links.Faults.{LinkFault, refusal_by_fault}
 use Rattle.cluster_calls.specs.Links.Log.{Exchange, requests, is_unanswered, last_of}
 use Rattle.cluster_calls.specs.Links.Reply.{Sort, Moved, Ask, sort_of}
-use Rattle.cluster_calls.specs.Links.Request.{Request}
-use Rattle.cluster_calls.specs.Links.World.{is_linked}
-use Rattle.cluster_calls.specs.Calls.Answer.{unless}
-use Rattle.cluster_calls.specs.Calls.Parts.{Target, at_slot, Part, if_one_slot, parts_of, reads_several_slots, result_then, whole_part}
-use Rattle.cluster_calls.specs.Calls.Plan.{Client}
+use Rattle.cluster_calls.specs.Links.Request.{Request, multi, exec}
+use Rattle.cluster_calls.specs.Calls.OneSlot.{args_of}
+use Rattle.cluster_calls.specs.Calls.Plan.{Client, Dispatch, unless}
 use Rattle.cluster_calls.specs.Calls.Redirects.{Hop, Next, Stays, Lost, MatchNext, next_of, request_of}
 
--- ---- which commands may stand in a transaction
-
--- these begin, end or guard one, or wait for what others write
-abbrev pub outside_names : List (List ℕ)
-outside_names = codes "MULTI" ∷ codes "EXEC" ∷ codes "DISCARD" ∷ codes "WATCH"
-    ∷ codes "BLPOP" ∷ codes "BRPOP" ∷ codes "BLMOVE" ∷ codes "BLMPOP" ∷ codes "BRPOPLPUSH"
-    ∷ codes "BZPOPMIN" ∷ codes "BZPOPMAX" ∷ codes "BZMPOP" ∷ []
-
-abbrev pub read_names : List (List ℕ)
-read_names = codes "XREAD" ∷ codes "XREADGROUP" ∷ []
-
-abbrev pub is_before : Option ℕ → Option ℕ → Bool
-is_before (Some one) (Some other) = nat_lt one other
-is_before _ _ = false
-
--- BLOCK stands before STREAMS
-abbrev pub names_block : Args → Bool
-names_block args = is_before (place_of (codes "BLOCK") args) (place_of (codes "STREAMS") args)
-
-abbrev pub is_outside : Option (List ℕ) → Args → Bool
-is_outside None args = false
-is_outside (Some name) args = is_one_of outside_names name || (is_one_of read_names name && names_block args)
-
--- ---- the checks before the first byte
-
-abbrev pub target_slot : Target → Option ℕ
-target_slot (at_slot route) = Some route.slot
-target_slot _ = None
-
-abbrev pub part_slot : Option Part → Option ℕ
-part_slot None = None
-part_slot (Some part) = target_slot part.target
-
--- the slot to which a command goes whole, as in pipelines
-abbrev pub whole_slot : Command → Option ℕ
-whole_slot command = part_slot (if_one_slot (reads_several_slots command.args)
-    (whole_part (sent command) (parts_of [] command 0)))
-
--- none also where it has no place in a transaction
-abbrev pub own_slot : Command → Option ℕ
-own_slot command = if is_outside (name_of command.args) command.args then None else whole_slot command
-
--- whether a slot is that of the commands before, of which the first has none before it
-abbrev pub agrees : Option ℕ → ℕ → Bool
-agrees None slot = true
-agrees (Some known) slot = known == slot
-
-abbrev pub with_own : ℕ → Option ℕ → Option ℕ → (Option ℕ → Result (Option ℕ) Refusal)
-    → Result (Option ℕ) Refusal
-with_own position known None later = Err (at_position position)
-with_own position known (Some slot) later = if agrees known slot then later (Some slot)
-    else Err (at_position position)
-
--- the one slot of all commands, or the position of the first that has none or another
-abbrev pub common_slot : ℕ → Option ℕ → List Command → Result (Option ℕ) Refusal
-common_slot position known [] = Ok known
-common_slot position known (c ∷ cs) = with_own position known (own_slot c)
-    (λ slot. common_slot (suc position) slot cs)
-
-abbrev pub if_linked : List Address → Option Nodes → Result (Option Address) Refusal
-if_linked links None = Err (by_cause NoNode)
-if_linked links (Some nodes) = if is_linked links nodes.primary then Ok (Some nodes.primary)
-    else Err (by_cause NoLink)
-
-abbrev pub slot_node : Client → Option ℕ → Result (Option Address) Refusal
-slot_node client None = Ok None
-slot_node client (Some slot) = if_linked client.links (nodes_at slot client.entries)
-
--- the node that the commands go to, or the first check that is not met; without commands there is no node
-abbrev pub transaction_plan : Client → List Command → Result (Option Address) Refusal
-transaction_plan client commands = result_then (common_slot 0 None commands) (slot_node client)
-
 -- ---- one attempt
-
-abbrev pub multi : List (List ℕ)
-multi = codes "MULTI" ∷ []
-
-abbrev pub exec : List (List ℕ)
-exec = codes "EXEC" ∷ []
 
 abbrev pub without_asking : Address → List (List ℕ) → Request
 without_asking node args = record { node = node; args = args; asking = false }
@@ -111,8 +27,21 @@ without_asking node args = record { node = node; args = args; asking = false }
 abbrev pub attempt : Hop → List (List (List ℕ)) → List Request
 attempt hop commands = request_of hop multi ∷ map (without_asking hop.node) (commands ++ exec ∷ [])
 
+-- what a transaction's plan sends to a node, in order
+abbrev pub dispatches_to : Address → List (List (List ℕ)) → List Dispatch
+dispatches_to node commands = map (λ args. record { node = node; args = args })
+    (multi ∷ commands ++ exec ∷ [])
+
 abbrev pub size : List (List (List ℕ)) → ℕ
 size commands = length commands + 2
+
+-- a list parted into lists of this size, as a log into attempts
+abbrev pub so_many : {X : Type 0} → ℕ → ℕ → List X → List (List X)
+so_many zero size xs = []
+so_many (suc n) size xs = take size xs ∷ so_many n size (drop size xs)
+
+abbrev pub in_sizes : {X : Type 0} → ℕ → List X → List (List X)
+in_sizes size xs = so_many (length xs / size) size xs
 
 -- ---- what became of an attempt, by its replies in order
 
@@ -206,16 +135,6 @@ FollowsAttempts links (suc left) hop commands xs =
 abbrev pub first_to : Address → Hop
 first_to node = record { node = node; asking = false }
 
-abbrev pub args_of : List Command → List (List (List ℕ))
-args_of commands = map sent commands
-
--- a transaction that is refused before sending, or has no commands, makes no request
-abbrev pub IsLegalTransaction : Client → List Command → List Exchange → Type 0
-IsLegalTransaction client commands xs = MatchResult (transaction_plan client commands)
-    (λ found. MatchOption found (xs ≡ []) (λ node. FollowsAttempts client.links client.settings.budget
-    (first_to node) (args_of commands) xs))
-    (λ refusal. xs ≡ [])
-
 -- ---- what is answered
 
 -- the first of the replies that are themselves errors: it says why
@@ -262,13 +181,19 @@ abbrev pub sent_answer : Client → (Address → LinkFault) → List (List (List
 sent_answer client faults commands xs = last_answer client.links faults
     (suc client.settings.budget - attempt_count commands xs) (last_attempt commands xs)
 
--- no commands are answered by an empty array
-abbrev pub found_answer : Option Address → Result Tree Refusal → Result Tree Refusal
-found_answer None answer = Ok (array no_trees)
-found_answer (Some node) answer = answer
-
--- the first check before sending that is not met, else what the last attempt's replies make
-abbrev pub transaction_answer : Client → (Address → LinkFault) → List Command → List Exchange
+-- of no commands there is no attempt, and an empty array
+abbrev pub commands_answer : Client → (Address → LinkFault) → List Command → List Exchange
     → Result Tree Refusal
-transaction_answer client faults commands xs = result_then (transaction_plan client commands)
-    (λ found. found_answer found (sent_answer client faults (args_of commands) xs))
+commands_answer client faults [] xs = Ok (array no_trees)
+commands_answer client faults (c ∷ cs) xs = sent_answer client faults (args_of (c ∷ cs)) xs
+
+-- ---- what may have done something
+
+-- Of an attempt's exchanges those that may have done something: behind MULTI the commands are queued, and EXEC
+-- does them all; where MULTI began nothing each command is done by itself, and EXEC nothing, unless it was
+-- answered by an array.
+abbrev pub is_as_one : List (Option Tree) → Bool
+is_as_one replies = is_okay (multi_reply replies) || is_array (exec_reply replies)
+
+abbrev pub attempt_log : List Exchange → List Exchange
+attempt_log xs = if is_as_one (replies_in xs) then drop (length xs - 1) xs else drop 1 xs

@@ -12,19 +12,23 @@ use Rattle.cluster_routing.specs.Lists.{concat}
 use Rattle.cluster_calls.specs.Links.Request.{Request, bytes_of}
 use Rattle.cluster_calls.specs.Links.Log.{Exchange, has_lost}
 use Rattle.cluster_calls.specs.Links.World.{Node, link_at}
-use Rattle.cluster_calls.specs.Calls.Task.{Task, pipeline_of}
+use Rattle.cluster_calls.specs.Calls.OneSlot.{args_of}
+use Rattle.cluster_calls.specs.Calls.Task.{Task, pipeline_of, transaction_of}
+use Rattle.cluster_calls.specs.Calls.Transactions.{in_sizes, size}
 use Rattle.cluster_calls.specs.Links.Faults.{LinkFault, refusal_by_fault}
 use Rattle.cluster_calls.specs.Links.Events.{reply_count, FailsFrom, in_sending, in_receiving}
 
 -- ---- requests by link calls
 
--- a task's requests to one node by link calls: a pipeline's all in one, others each in its own
+-- a task's requests to one node by link calls: a pipeline's all in one, a transaction's attempt by attempt,
+-- others each in its own
 abbrev pub in_one : List Request → List (List Request)
 in_one [] = []
 in_one (q ∷ qs) = (q ∷ qs) ∷ []
 
 abbrev pub link_calls : Task → List Request → List (List Request)
 link_calls (pipeline_of entries) qs = in_one qs
+link_calls (transaction_of commands) qs = in_sizes (size (args_of commands)) qs
 link_calls _ qs = map (λ q. q ∷ []) qs
 
 -- ---- bytes

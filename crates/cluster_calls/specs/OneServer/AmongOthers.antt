@@ -18,7 +18,7 @@ use Rattle.cluster_routing.specs.Lists.{concat, front, rest, Pairwise}
 use Rattle.cluster_routing.specs.Split.{split_of}
 use Rattle.cluster_calls.specs.Links.Faults.{LinkFault}
 use Rattle.cluster_calls.specs.Calls.Call.{Call}
-use Rattle.cluster_calls.specs.Calls.Task.{Task, slot_map_of, one_command, pipeline_of, several_nodes, one_node, read_of, task_of, stream_keys, are_of_one_slot}
+use Rattle.cluster_calls.specs.Calls.Task.{Task, slot_map_of, one_command, pipeline_of, several_nodes, one_node, read_of, transaction_of, task_of, stream_keys, are_of_one_slot}
 use Rattle.cluster_calls.specs.Calls.Plan.{Client}
 use Rattle.cluster_calls.specs.OneServer.Commands.{counting, IsAnswerBy}
 use Rattle.cluster_calls.specs.OneServer.Headline.{RepliedCall, task_log, IsPlayedFrom, AreOnSlots}
@@ -155,6 +155,7 @@ is_unsplit_task (one_command command number order) = is_none (split_of (sent com
 is_unsplit_task (pipeline_of entries) = false
 is_unsplit_task (several_nodes command) = false
 is_unsplit_task (one_node node command) = false
+is_unsplit_task (transaction_of commands) = false
 is_unsplit_task (read_of options streams) = are_of_one_slot (stream_keys streams)
 
 abbrev pub is_unsplit : Call → Bool

@@ -2,6 +2,7 @@
 use Rattle.std.specs.Prelude.{◌≡◌, ℕ, nat_eq, ⊤, Bool, true, false, not, List, [], ◌∷◌, map, filter, Option, Some, None, Result, Ok, Err}
 use Rattle.resp_core.specs.Trees.{Tree}
 use Rattle.resp_core.specs.Errors.{Refusal}
+use Rattle.resp_args.specs.Command.{Command}
 use Rattle.resp_args.specs.Packed.{sent}
 use Rattle.cluster_routing.specs.HashSlot.{hash_slot}
 use Rattle.cluster_routing.specs.Lists.{among}
@@ -13,12 +14,14 @@ use Rattle.stream_commands.specs.ReadReply.{Row}
 use Rattle.stream_commands.specs.Settings.{ReadSettings}
 use Rattle.cluster_calls.specs.Links.Log.{Exchange}
 use Rattle.cluster_calls.specs.Calls.Call.{Entry, Stream, Call}
-use Rattle.cluster_calls.specs.Calls.Task.{Task, slot_map_of, one_command, pipeline_of, several_nodes, one_node, read_of, task_of}
+use Rattle.cluster_calls.specs.Calls.Task.{Task, slot_map_of, one_command, pipeline_of, several_nodes, one_node, read_of, transaction_of, task_of}
 use Rattle.cluster_calls.specs.Calls.Reads.{read_slot}
 use Rattle.cluster_calls.specs.Calls.Replies.{exchange_slot, in_pipeline_order, not_ignored}
 use Rattle.cluster_calls.specs.Calls.Answer.{Answer, Value, Refreshed, Read, answer_in}
-use Rattle.cluster_calls.specs.OneServer.Honest.{is_counted}
-use Rattle.cluster_calls.specs.OneServer.Operations.{Operation, ReadKeys, Response, Reply, Rows, run_each}
+use Rattle.cluster_calls.specs.Calls.OneSlot.{args_of}
+use Rattle.cluster_calls.specs.Calls.Transactions.{attempt_log, last_attempt}
+use Rattle.cluster_calls.specs.OneServer.Honest.{counts, is_counted}
+use Rattle.cluster_calls.specs.OneServer.Operations.{Operation, ReadKeys, RunAsOne, task_operation, Response, Reply, Rows, run_each}
 
 -- the calls whose keyspace is spoken of: not those to several nodes or to one that is named, nor commands
 -- that any node may serve
@@ -33,6 +36,7 @@ is_task_on_slots (one_node node command) = false
 is_task_on_slots (pipeline_of entries) = true
 is_task_on_slots (slot_map_of node) = true
 is_task_on_slots (read_of options streams) = true
+is_task_on_slots (transaction_of commands) = true
 
 abbrev pub is_on_slots : Call → Bool
 is_on_slots call = is_task_on_slots (task_of call)
@@ -43,6 +47,7 @@ abbrev pub task_operations : Task → List Operation
 task_operations (one_command command number order) = run_each (sent command ∷ [])
 task_operations (pipeline_of entries) = run_each (map (λ (e : Entry). sent e.command) entries)
 task_operations (read_of options streams) = ReadKeys options streams ∷ []
+task_operations (transaction_of commands) = RunAsOne (args_of commands) ∷ []
 task_operations _ = []
 
 abbrev pub operations : Call → List Operation
@@ -78,6 +83,11 @@ abbrev pub read_kept : ReadSettings → List Stream → List Exchange → List O
 read_kept options streams counted = read_with options
     (streams_with (map (λ (x : Exchange). read_slot options x.request.args) counted) streams)
 
+-- of a transaction what its counted requests ask for: all of it, or commands by themselves
+abbrev pub as_one_kept : (ℕ → Bool) → List Command → List Exchange → List Operation
+as_one_kept done commands xs = map (λ (x : Exchange). task_operation (transaction_of commands) x.request.args)
+    (filter (λ (x : Exchange). counts done (task_operation (transaction_of commands) x.request.args) x) xs)
+
 -- what counts of a refused call
 abbrev pub task_kept : (ℕ → Bool) → Task → List Exchange → List Operation
 task_kept done (one_command command number order) xs = run_each
@@ -85,6 +95,8 @@ task_kept done (one_command command number order) xs = run_each
 task_kept done (pipeline_of entries) xs = run_each
     (map (λ (x : Exchange). x.request.args) (filter (is_counted done) (in_pipeline_order entries xs)))
 task_kept done (read_of options streams) xs = read_kept options streams (filter (is_counted done) xs)
+task_kept done (transaction_of commands) xs = as_one_kept done commands
+    (attempt_log (last_attempt (args_of commands) xs))
 task_kept done _ xs = []
 
 abbrev pub kept : (ℕ → Bool) → Call → List Exchange → List Operation
@@ -106,6 +118,8 @@ IsTaskAnswer call (pipeline_of entries) answer responses = (trees : List Tree) �
     × (answer ≡ Value (array_of (not_ignored entries trees)))
 IsTaskAnswer call (several_nodes command) answer responses = ⊥
 IsTaskAnswer call (one_node node command) answer responses = ⊥
+IsTaskAnswer call (transaction_of commands) answer responses = (tree : Tree)
+    × (responses ≡ Reply tree ∷ []) × (answer ≡ Value tree)
 IsTaskAnswer call (read_of options streams) answer responses = (rows : List Row)
     × (responses ≡ Rows (Some rows) ∷ []) × (answer ≡ Read rows)
 

@@ -1,9 +1,9 @@
 -- What a pipeline that tells of each position lets its caller know: of each position whether it was done, was
 -- not done, or may have been done; and that the one answer of `query` follows from these outcomes.
-use Rattle.std.specs.Prelude.{◌≡◌, ℕ, Bool, true, false, List, [], ◌∷◌, map, filter, filter_map, length, Option, Some, None, Result, Ok, ⊤}
+use Rattle.std.specs.Prelude.{◌≡◌, ℕ, Bool, true, false, List, [], ◌∷◌, filter_map, length, Option, Some, None, Result, Ok, ⊤}
 use Rattle.resp_core.specs.Trees.{Tree}
 use Rattle.resp_core.specs.Errors.{Refusal}
-use Rattle.cluster_routing.specs.Address.{Address, same_address}
+use Rattle.cluster_routing.specs.Address.{Address}
 use Rattle.cluster_routing.specs.Choice.{Strategy}
 use Rattle.cluster_calls.specs.Links.Converted.{value_answer}
 use Rattle.cluster_calls.specs.Links.EachMade.{EachMade, told_of}

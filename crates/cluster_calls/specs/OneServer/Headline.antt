@@ -9,7 +9,9 @@ use Rattle.cluster_routing.specs.Lists.{concat, Pairwise}
 use Rattle.cluster_calls.specs.Links.Request.{Request}
 use Rattle.cluster_calls.specs.Links.Log.{Exchange, exchanges, left_after_all, replies}
 use Rattle.cluster_calls.specs.Calls.Call.{Call}
-use Rattle.cluster_calls.specs.Calls.Task.{Task, slot_map_of, task_of}
+use Rattle.cluster_calls.specs.Calls.OneSlot.{args_of}
+use Rattle.cluster_calls.specs.Calls.Task.{Task, slot_map_of, task_of, transaction_of}
+use Rattle.cluster_calls.specs.Calls.Transactions.{attempt_log, last_attempt}
 use Rattle.cluster_calls.specs.Calls.Plan.{Client}
 use Rattle.cluster_calls.specs.Calls.Picks.{ArePicks}
 use Rattle.cluster_calls.specs.Calls.Legal.{IsLegalCall}
@@ -62,9 +64,11 @@ IsPlayedFrom strategy client faults (t ∷ ts) =
 
 -- ---- one server
 
--- the exchanges of commands: those of refreshes change no key
+-- the exchanges of commands: those of refreshes change no key, and of a transaction nothing was done by an
+-- attempt that is followed by another
 abbrev pub task_log : Task → List Exchange → List Exchange
 task_log (slot_map_of node) xs = []
+task_log (transaction_of commands) xs = attempt_log (last_attempt (args_of commands) xs)
 task_log _ xs = xs
 
 -- each with its call

@@ -4,14 +4,20 @@ use Rattle.cluster_routing.specs.Lists.{concat, Pairwise}
 use Rattle.cluster_calls.specs.Links.Log.{Exchange, is_answered, is_unanswered}
 use Rattle.cluster_calls.specs.Calls.Call.{Call}
 use Rattle.cluster_calls.specs.Calls.Task.{task_of}
+use Rattle.cluster_calls.specs.Calls.Transactions.{is_array}
 use Rattle.cluster_calls.specs.OneServer.Keyspace.{Keyspace, Step, History}
 use Rattle.cluster_calls.specs.OneServer.Meaning.{Meaning, DoOperation, AreAllowed}
-use Rattle.cluster_calls.specs.OneServer.Operations.{Operation, Response, task_operation, response_by}
+use Rattle.cluster_calls.specs.OneServer.Operations.{Operation, RunAsOne, Response, task_operation, response_by}
 
 -- the requests that count for the keyspace: the answered ones, and of the unanswered ones those that were
 -- done
 abbrev pub is_counted : (ℕ → Bool) → Exchange → Bool
 is_counted done x = is_answered x || (is_unanswered x && done x.place)
+
+-- what counts of an operation's requests: of commands that are done as one also an array, whatever it holds
+abbrev pub counts : (ℕ → Bool) → Operation → Exchange → Bool
+counts done (RunAsOne commands) x = is_array x.reply || is_counted done x
+counts done _ x = is_counted done x
 
 -- the operation that a request of the call asks for
 abbrev pub operation_of : Call → Exchange → Operation
@@ -27,7 +33,7 @@ pub record IsDoneBy (meaning : Meaning) (operation : Operation) (x : Exchange)
 
 -- a counted request of the call has steps that do what it asks for, and another one changes nothing
 abbrev pub Accounts : Meaning → (ℕ → Bool) → Call → Exchange → List Step → Type 0
-Accounts meaning done call x steps = MatchBool (is_counted done x)
+Accounts meaning done call x steps = MatchBool (counts done (operation_of call x) x)
     (IsDoneBy meaning (operation_of call x) x steps) (steps ≡ [])
 
 -- over the requests of one call

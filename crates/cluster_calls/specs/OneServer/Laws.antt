@@ -18,7 +18,7 @@ use Rattle.stream_commands.specs.Settings.{ReadSettings}
 use Rattle.cluster_calls.specs.Links.Reply.{Sort, Moved, Ask, sort_of}
 use Rattle.cluster_calls.specs.Links.Log.{Exchange, is_answered}
 use Rattle.cluster_calls.specs.Calls.Call.{Call, Query, Ordered, Stream}
-use Rattle.cluster_calls.specs.Calls.Task.{Task, slot_map_of, one_command, pipeline_of, several_nodes, one_node, read_of, task_of, stream_keys}
+use Rattle.cluster_calls.specs.Calls.Task.{Task, slot_map_of, one_command, pipeline_of, several_nodes, one_node, read_of, transaction_of, task_of, stream_keys}
 use Rattle.cluster_calls.specs.Calls.Reads.{stream_slots, key_places}
 use Rattle.cluster_calls.specs.Calls.Plan.{Client, Dispatch, plan}
 use Rattle.cluster_calls.specs.Calls.Legal.{IsLegalCall}
@@ -40,6 +40,7 @@ request_bound budget parts (pipeline_of entries) = length entries
 request_bound budget parts (several_nodes command) = parts
 request_bound budget parts (one_node node command) = 1
 request_bound budget parts (read_of options streams) = parts * suc budget
+request_bound budget parts (transaction_of commands) = parts * suc budget
 
 -- a part has at most one request more than the budget
 abbrev pub RequestsAreBounded : Type 0

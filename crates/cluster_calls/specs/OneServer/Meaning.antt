@@ -16,8 +16,9 @@ use Rattle.cluster_routing.specs.HashSlot.{hash_slot}
 use Rattle.stream_commands.specs.ReadReply.{Row}
 use Rattle.stream_commands.specs.Settings.{ReadSettings}
 use Rattle.cluster_calls.specs.Calls.Call.{Stream}
+use Rattle.cluster_calls.specs.Calls.Replies.{args_slot}
 use Rattle.cluster_calls.specs.OneServer.Keyspace.{Keyspace, Step, Whole, PartOf, ReadOf, History}
-use Rattle.cluster_calls.specs.OneServer.Operations.{Operation, RunCommand, ReadKeys, Response, Reply, Rows, reply_tree, IfReply}
+use Rattle.cluster_calls.specs.OneServer.Operations.{Operation, RunCommand, ReadKeys, RunAsOne, Response, Reply, Rows, reply_tree, IfReply}
 
 -- a meaning: the steps that a server may make
 abbrev pub Meaning : Type 0
@@ -107,6 +108,15 @@ abbrev pub rows_of_steps : List Step → Option (List Row)
 rows_of_steps [] = Some []
 rows_of_steps (x ∷ xs) = more_rows (rows_told x.response) (rows_of_steps xs)
 
+-- ---- commands that are done as one
+
+-- the step is the whole of a command, also of one that is split elsewhere, on the slot of its key; it may be
+-- answered by an error
+pub record DoesWhole (args : List (List ℕ)) (x : Step) : Type 0 where
+  pub deed : x.deed ≡ Whole args
+  pub slot : x.slot ≡ args_slot args
+  pub response : IfReply (λ tree. ⊤) x.response
+
 -- ---- operations
 
 -- the steps do the operation, and this is the response
@@ -115,6 +125,8 @@ DoOperation (RunCommand args) steps response = (tree : Tree) × (response ≡ Re
     × DoCommand args steps tree
 DoOperation (ReadKeys options streams) steps response = Pairwise (DoesRead options) streams steps
     × (response ≡ Rows (rows_of_steps steps))
+DoOperation (RunAsOne commands) steps response = Pairwise DoesWhole commands steps
+    × (response ≡ Reply (array_of (step_trees steps)))
 
 -- each operation in turn with its steps and its response
 abbrev pub DoAll : Meaning → List Operation → List (List Step) → List Response → Type 0

@@ -18,7 +18,8 @@
 -- Each word, and the file that has it:
 --
 -- of the client
---   Call           a refresh, a query, a pipeline, a command to several nodes, a call on streams (Calls/Call)
+--   Call           a refresh, a query, a pipeline, a transaction, a command to several nodes, a call on streams
+--                  (Calls/Call)
 --   World          a client: its nodes with their links, its slot map, its settings, the log of the last call
 --                  (Links/World)
 --   Plays          all that `play` promises: it made the first of the calls, all of them unless memory was

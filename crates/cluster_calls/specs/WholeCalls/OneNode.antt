@@ -9,7 +9,6 @@ use Rattle.resp_core.specs.Parts.{first_error}
 use Rattle.resp_core.specs.declared.errors.redis_error.Cause.TheVariants.{NoResponse, NoLink, Io}
 use Rattle.resp_args.specs.Command.{Command}
 use Rattle.resp_args.specs.declared.cmd.Arg.TheVariants.{Simple}
-use Rattle.cluster_routing.specs.Address.{Address}
 use Rattle.cluster_routing.specs.Combine.{array_of}
 use Rattle.cluster_routing.specs.Examples.{first_node as n1, second_node as n2, halves}
 use Rattle.stream_commands.specs.Commands.{plain_command}

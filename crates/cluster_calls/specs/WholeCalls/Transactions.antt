@@ -1,6 +1,6 @@
 -- Transactions, computed: done, sent again behind MOVED, ASK and by EXEC's own reply, and never behind one
 -- that may have been done.
-use Rattle.std.specs.Prelude.{◌≡◌, ℕ, true, false, if◌then◌else◌, List, [], ◌∷◌, ◌++◌, map, Option, Some, None, Result, Ok, Err, codes, pos, refl}
+use Rattle.std.specs.Prelude.{◌≡◌, ℕ, true, false, List, [], ◌∷◌, ◌++◌, map, Result, Ok, Err, codes, pos, refl}
 use Rattle.std.specs.Fmt.{digits}
 use Rattle.std.specs.Str.{is_utf8, chars}
 use lib.Utf8.{encode}
@@ -19,8 +19,13 @@ use Rattle.cluster_routing.specs.Table.{rule_of, table}
 use Rattle.stream_commands.specs.Commands.{plain_command}
 use Rattle.cluster_calls.specs.Links.Log.{Exchange}
 use Rattle.cluster_calls.specs.Links.Request.{Request, bytes_of}
-use Rattle.cluster_calls.specs.Calls.Plan.{Client}
-use Rattle.cluster_calls.specs.Calls.Transactions.{IsLegalTransaction, args_of, attempt, common_slot, fate, done, may_be_done, not_done, transaction_answer, transaction_plan}
+use Rattle.cluster_calls.specs.Calls.OneSlot.{args_of}
+use Rattle.cluster_calls.specs.Calls.Answer.{Answer, Value, answer_of}
+use Rattle.cluster_calls.specs.Calls.Call.{Transaction}
+use Rattle.cluster_calls.specs.Calls.Legal.{IsLegalCall}
+use Rattle.cluster_calls.specs.Calls.Parts.{result_then}
+use Rattle.cluster_calls.specs.Calls.Plan.{Dispatch, plan}
+use Rattle.cluster_calls.specs.Calls.Transactions.{attempt}
 use Rattle.cluster_calls.specs.WholeCalls.Base.{a_fault, client, error, error_text, log_over, moved_to_n2, ask_n2, on_n1}
 
 abbrev pub commands : List Command
@@ -49,19 +54,19 @@ asks = server_error ask_n2
 abbrev pub aborted : Tree
 aborted = error (codes "EXECABORT") (codes "x")
 
-abbrev pub answer : ℕ → List Exchange → Result Tree Refusal
-answer budget xs = transaction_answer (on_n1 budget) a_fault commands xs
+abbrev pub answer : ℕ → List Exchange → Result Answer Refusal
+answer budget xs = answer_of (on_n1 budget) [] a_fault (Transaction commands) xs
 
 -- ---- done
 
 abbrev pub done_log : List Exchange
 done_log = log_over (okay ∷ queued ∷ queued ∷ ran ∷ []) [] (at_node n1)
 
-pub one_attempt_is_legal : IsLegalTransaction (on_n1 1) commands done_log
+pub one_attempt_is_legal : IsLegalCall (on_n1 1) [] (Transaction commands) done_log
 unfolding destination rule_of table hash_slot splitting_of digits first_error is_utf8 chars encode server_kind
 one_attempt_is_legal = (refl, refl)
 
-pub its_array_answers : answer 1 done_log ≡ Ok ran
+pub its_array_answers : answer 1 done_log ≡ Ok (Value ran)
 unfolding destination rule_of table hash_slot splitting_of digits first_error is_utf8 chars encode server_kind
 its_array_answers = refl
 
@@ -69,13 +74,13 @@ its_array_answers = refl
 abbrev pub moved_inside : Tree
 moved_inside = array_of (okay ∷ moved ∷ [])
 
-pub an_error_inside_is_no_redirect : IsLegalTransaction (on_n1 1) commands
+pub an_error_inside_is_no_redirect : IsLegalCall (on_n1 1) [] (Transaction commands)
     (log_over (okay ∷ queued ∷ queued ∷ moved_inside ∷ []) [] (at_node n1))
 unfolding destination rule_of table hash_slot splitting_of digits first_error is_utf8 chars encode server_kind
 an_error_inside_is_no_redirect = (refl, refl)
 
 pub an_error_inside_is_in_the_answer : answer 1
-    (log_over (okay ∷ queued ∷ queued ∷ moved_inside ∷ []) [] (at_node n1)) ≡ Ok moved_inside
+    (log_over (okay ∷ queued ∷ queued ∷ moved_inside ∷ []) [] (at_node n1)) ≡ Ok (Value moved_inside)
 unfolding destination rule_of table hash_slot splitting_of digits first_error is_utf8 chars encode server_kind
 an_error_inside_is_in_the_answer = refl
 
@@ -85,11 +90,11 @@ abbrev pub moved_log : List Exchange
 moved_log = log_over (okay ∷ moved ∷ moved ∷ aborted ∷ []) (okay ∷ queued ∷ queued ∷ ran ∷ [])
     (at_node n1 ++ at_node n2)
 
-pub moved_is_followed : IsLegalTransaction (on_n1 1) commands moved_log
+pub moved_is_followed : IsLegalCall (on_n1 1) [] (Transaction commands) moved_log
 unfolding destination rule_of table hash_slot splitting_of digits first_error is_utf8 chars encode server_kind
 moved_is_followed = (refl, refl)
 
-pub the_second_attempt_answers : answer 1 moved_log ≡ Ok ran
+pub the_second_attempt_answers : answer 1 moved_log ≡ Ok (Value ran)
 unfolding destination rule_of table hash_slot splitting_of digits first_error is_utf8 chars encode server_kind
 the_second_attempt_answers = refl
 
@@ -99,11 +104,11 @@ abbrev pub ask_log : List Exchange
 ask_log = log_over (okay ∷ queued ∷ asks ∷ aborted ∷ []) (okay ∷ okay ∷ queued ∷ queued ∷ ran ∷ [])
     (at_node n1 ++ behind_asking n2)
 
-pub ask_is_followed : IsLegalTransaction (on_n1 1) commands ask_log
+pub ask_is_followed : IsLegalCall (on_n1 1) [] (Transaction commands) ask_log
 unfolding destination rule_of table hash_slot splitting_of digits first_error is_utf8 chars encode server_kind
 ask_is_followed = (refl, refl)
 
-pub the_attempt_behind_asking_answers : answer 1 ask_log ≡ Ok ran
+pub the_attempt_behind_asking_answers : answer 1 ask_log ≡ Ok (Value ran)
 unfolding destination rule_of table hash_slot splitting_of digits first_error is_utf8 chars encode server_kind
 the_attempt_behind_asking_answers = refl
 
@@ -121,7 +126,7 @@ abbrev pub exec_moved_log : List Exchange
 exec_moved_log = log_over (okay ∷ queued ∷ queued ∷ moved ∷ []) (okay ∷ queued ∷ queued ∷ ran ∷ [])
     (at_node n1 ++ at_node n2)
 
-pub moved_by_exec_is_followed : IsLegalTransaction (on_n1 1) commands exec_moved_log
+pub moved_by_exec_is_followed : IsLegalCall (on_n1 1) [] (Transaction commands) exec_moved_log
 unfolding destination rule_of table hash_slot splitting_of digits first_error is_utf8 chars encode server_kind
 moved_by_exec_is_followed = (refl, refl)
 
@@ -133,7 +138,7 @@ refused = error (codes "NOPERM") (codes "x")
 abbrev pub unbegun_log : List Exchange
 unbegun_log = log_over (refused ∷ okay ∷ moved ∷ aborted ∷ []) [] (at_node n1)
 
-pub without_multi_nothing_is_sent_again : IsLegalTransaction (on_n1 1) commands unbegun_log
+pub without_multi_nothing_is_sent_again : IsLegalCall (on_n1 1) [] (Transaction commands) unbegun_log
 unfolding destination rule_of table hash_slot splitting_of digits first_error is_utf8 chars encode server_kind
 without_multi_nothing_is_sent_again = (refl, refl)
 
@@ -147,7 +152,7 @@ without_multi_its_error_is_told = refl
 abbrev pub lost_log : List Exchange
 lost_log = log_over (okay ∷ moved ∷ queued ∷ []) [] (at_node n1)
 
-pub without_exec_nothing_is_sent_again : IsLegalTransaction (on_n1 1) commands lost_log
+pub without_exec_nothing_is_sent_again : IsLegalCall (on_n1 1) [] (Transaction commands) lost_log
 unfolding destination rule_of table hash_slot splitting_of digits first_error is_utf8 chars encode server_kind
 without_exec_nothing_is_sent_again = (refl, refl)
 
@@ -160,7 +165,7 @@ without_exec_the_fault_is_told = refl
 abbrev pub out_log : List Exchange
 out_log = log_over (okay ∷ moved ∷ moved ∷ aborted ∷ []) [] (at_node n1)
 
-pub without_budget_nothing_is_sent_again : IsLegalTransaction (on_n1 0) commands out_log
+pub without_budget_nothing_is_sent_again : IsLegalCall (on_n1 0) [] (Transaction commands) out_log
 unfolding destination rule_of table hash_slot splitting_of digits first_error is_utf8 chars encode server_kind
 without_budget_nothing_is_sent_again = refl
 
@@ -170,7 +175,7 @@ without_budget_moved_is_told = refl
 
 -- ---- nil, and a node without a link
 
-pub nil_answers : answer 1 (log_over (okay ∷ queued ∷ queued ∷ nil ∷ []) [] (at_node n1)) ≡ Ok nil
+pub nil_answers : answer 1 (log_over (okay ∷ queued ∷ queued ∷ nil ∷ []) [] (at_node n1)) ≡ Ok (Value nil)
 unfolding destination rule_of table hash_slot splitting_of digits first_error is_utf8 chars encode server_kind
 nil_answers = refl
 
@@ -182,8 +187,11 @@ an_unknown_node_has_no_link = refl
 
 -- ---- the checks before the first byte
 
-abbrev pub planned : List (List (List ℕ)) → Result (Option Address) Refusal
-planned all = transaction_plan (on_n1 1) (map plain_command all)
+abbrev pub nodes_in : Result (List Dispatch) Refusal → Result (List Address) Refusal
+nodes_in plans = result_then plans (λ ds. Ok (map (λ (d : Dispatch). d.node) ds))
+
+abbrev pub planned : List (List (List ℕ)) → Result (List Address) Refusal
+planned all = nodes_in (plan (on_n1 1) [] (Transaction (map plain_command all)))
 
 abbrev pub set_a : List (List ℕ)
 set_a = codes "SET" ∷ codes "a" ∷ codes "1" ∷ []
@@ -210,14 +218,15 @@ unfolding destination rule_of table hash_slot splitting_of digits
 a_blocking_read_is_refused = refl
 
 pub another_read_is_none : planned
-    ((codes "XREAD" ∷ codes "STREAMS" ∷ codes "a" ∷ codes "BLOCK" ∷ []) ∷ []) ≡ Ok (Some n1)
+    ((codes "XREAD" ∷ codes "STREAMS" ∷ codes "a" ∷ codes "BLOCK" ∷ []) ∷ []) ≡ Ok (n1 ∷ n1 ∷ n1 ∷ [])
 unfolding destination rule_of table hash_slot splitting_of digits
 another_read_is_none = refl
 
-pub without_a_map_there_is_no_node : transaction_plan (client 1 [] (n1 ∷ [])) commands ≡ Err (by_cause NoNode)
+pub without_a_map_there_is_no_node : plan (client 1 [] (n1 ∷ [])) [] (Transaction commands)
+    ≡ Err (by_cause NoNode)
 unfolding destination rule_of table hash_slot splitting_of digits
 without_a_map_there_is_no_node = refl
 
-pub no_commands_answer_an_empty_array : transaction_answer (client 1 [] []) a_fault [] []
-    ≡ Ok (array no_trees)
+pub no_commands_answer_an_empty_array : answer_of (client 1 [] []) [] a_fault (Transaction []) []
+    ≡ Ok (Value (array no_trees))
 no_commands_answer_an_empty_array = refl
