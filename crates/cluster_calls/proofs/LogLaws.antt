@@ -26,4 +26,6 @@ pub mod StreamTasks
 pub mod EachPosition
 pub mod Fates
 pub mod EachAnswer
+pub mod Sizes
+pub mod LostFaults
 pub mod Attempts

@@ -9,6 +9,7 @@ pub mod SplitCall
 pub mod Combined
 pub mod Counted
 pub mod Calls
+pub mod AsOne
 pub mod Grouping
 pub mod Orders
 pub mod PartCall

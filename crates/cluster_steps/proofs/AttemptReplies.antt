@@ -9,8 +9,9 @@ use Rattle.resp_core.specs.View.{view}
 use Rattle.resp_core.specs.declared.value.Value.{Value}
 use Rattle.cluster_routing.specs.Address.{Address}
 use Rattle.cluster_routing.specs.Policies.{or_bad_reply}
+use Rattle.cluster_calls.specs.Links.Request.{exec}
 use Rattle.cluster_calls.specs.Calls.Redirects.{Next, Stays, is_going, next_of}
-use Rattle.cluster_calls.specs.Calls.Transactions.{Fate, done, not_done, may_be_done, answers, attempt_answer, error_or_bad, exec, exec_reply, fate_by, first_own_error, if_not_done, is_array, is_okay, is_refused, multi_reply, unless_lost, without_asking}
+use Rattle.cluster_calls.specs.Calls.Transactions.{Fate, done, not_done, may_be_done, answers, attempt_answer, error_or_bad, exec_reply, fate_by, first_own_error, if_not_done, is_array, is_okay, is_refused, multi_reply, unless_lost, without_asking}
 use Rattle.cluster_calls.proofs.LinkLaws.ChainLoop.{next_none}
 use Rattle.cluster_steps.specs.Attempts.{heard, is_not_done}
 

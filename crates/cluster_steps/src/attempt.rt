@@ -4,7 +4,8 @@ ghost use Rattle.std.specs.Prelude.{◌≡◌, ◌<◌, ◌≤◌, ◌+◌, ◌�
 ghost use Rattle.resp_core.specs.View.{view};
 ghost use Rattle.cluster_routing.specs.Info.{texts};
 ghost use Rattle.cluster_routing.specs.Seen.{address};
-ghost use Rattle.cluster_calls.specs.Calls.Transactions.{args_of, attempt};
+ghost use Rattle.cluster_calls.specs.Calls.OneSlot.{args_of};
+ghost use Rattle.cluster_calls.specs.Calls.Transactions.{attempt};
 ghost use Rattle.cluster_calls.specs.Links.Exchanges.{Exchanges};
 ghost use Rattle.cluster_calls.specs.Links.Request.{bytes_of, skipped};
 ghost use Rattle.cluster_calls.specs.Links.World.{nodes, tree_results};

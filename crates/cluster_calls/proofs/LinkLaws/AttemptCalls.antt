@@ -1,28 +1,26 @@
 -- One attempt at a transaction is one link call: its replies, or its fault.
 use Rattle.std.specs.Prelude.{slice_get, is_none, ◌||◌, ◌&&◌, ◌⊎◌}
 use Rattle.std.specs.List.{list_any}
-use Rattle.std.proofs.Common.{◌≡◌, ◌≢◌, ℕ, zero, suc, ◌+◌, ◌-◌, ◌<◌, ◌≤◌, Bool, true, false, cond, List, [], ◌∷◌, ◌++◌, map, length, drop, Option, Some, None, Result, Ok, Err, refl, sym, ap, ◌∙◌, subst, length-append, length-drop, inl, inr, arith}
-use Rattle.std.proofs.lemmas.Bool.{false≢true}
+use Rattle.std.proofs.Common.{◌≡◌, ◌≢◌, ℕ, zero, suc, ◌+◌, ◌-◌, ◌<◌, Bool, true, false, cond, List, [], ◌∷◌, ◌++◌, map, length, drop, Option, Some, None, Result, Ok, Err, refl, sym, ap, ◌∙◌, length-append, length-drop, inl, inr, arith}
 use Rattle.resp_core.specs.Trees.{Tree}
 use Rattle.resp_core.specs.Errors.{Refusal, by_cause}
 use Rattle.resp_core.specs.declared.errors.redis_error.Cause.TheVariants.{Memory}
 use Rattle.resp_link.specs.Call.{Seen}
 use Rattle.resp_link.specs.Replies.{replies_of}
 use Rattle.cluster_routing.specs.Address.{Address}
-use Rattle.cluster_calls.specs.Calls.Redirects.{Hop, request_of}
-use Rattle.cluster_calls.specs.Calls.Transactions.{attempt, exec, exec_reply, lost_refusal, multi, replies_in, reply_there, size, without_asking}
+use Rattle.cluster_calls.specs.Calls.Redirects.{Hop}
+use Rattle.cluster_calls.specs.Calls.Transactions.{attempt, exec_reply, lost_refusal, replies_in, size, without_asking}
 use Rattle.cluster_calls.specs.Links.Events.{Event, Ending, answers, fails, lacks_memory, EndsBy, LinkCalled, AllTo, AgreesAt, exchanges_at, is_answer_ending, is_memory_ending, pair_up, reply_count}
 use Rattle.cluster_calls.specs.Links.Exchanges.{Exchanges, not_begun, made}
 use Rattle.cluster_calls.specs.Links.Faults.{LinkFault, refusal_by_fault}
-use Rattle.cluster_calls.specs.Links.Log.{Exchange, is_moved, is_moved_reply, is_unanswered, last_of}
+use Rattle.cluster_calls.specs.Links.Log.{Exchange, is_moved, is_moved_reply}
 use Rattle.cluster_calls.specs.Links.Places.{IsOpenAt}
-use Rattle.cluster_calls.specs.Links.Request.{Request, bytes_of, skipped}
+use Rattle.cluster_calls.specs.Links.Request.{Request, bytes_of, skipped, exec}
 use Rattle.cluster_calls.specs.Links.World.{Node, Called, Calls, link_at, is_usable, open_links}
 use Rattle.cluster_calls.proofs.LinkLaws.EndLaws.{answered_pairs, ends_pairs, ends_usable, ends_was_open}
 use Rattle.cluster_calls.proofs.LinkLaws.LinkEnds.{ending_of, ending_refusal, ended_refusal, had_memory_by, refusal_agrees, link_called_at}
 use Rattle.cluster_calls.proofs.LinkLaws.LinkPlaces.{found, linked, set_open}
 use Rattle.cluster_calls.proofs.LinkLaws.Pairing.{few_get}
-use Rattle.cluster_calls.proofs.LogLaws.Attempts.{size_of}
 
 -- ---- the requests
 

@@ -1,21 +1,20 @@
 -- The attempts at a transaction, one by one.
 use Rattle.std.specs.Prelude.{◌||◌, ◌/◌}
-use Rattle.std.specs.List.{list_any, AllByRecursion}
-use Rattle.std.proofs.Common.{◌≡◌, ◌≢◌, ℕ, zero, suc, ◌+◌, ◌-◌, ◌*◌, ◌<◌, inl, inr, Bool, true, false, List, [], ◌∷◌, ◌++◌, map, length, drop, Option, Some, None, Result, Ok, Err, refl, sym, ap, ◌∙◌, subst, append-nil, append_assoc, length-append, arith}
+use Rattle.std.specs.List.{AllByRecursion}
+use Rattle.std.proofs.Common.{◌≡◌, ◌≢◌, ℕ, suc, ◌+◌, ◌-◌, ◌*◌, ◌<◌, inl, inr, false, List, [], ◌∷◌, ◌++◌, map, length, drop, None, Result, Ok, Err, refl, sym, ap, ◌∙◌, subst, append-nil, append_assoc, length-append, arith}
 use Rattle.std.proofs.lemmas.Nat.{div-mul-add}
 use Rattle.resp_core.specs.Trees.{Tree}
 use Rattle.resp_core.specs.Errors.{Refusal, by_cause}
 use Rattle.resp_core.specs.declared.errors.redis_error.Cause.TheVariants.{Memory}
 use Rattle.resp_link.specs.Replies.{replies_of}
 use Rattle.cluster_routing.specs.Address.{Address}
-use Rattle.cluster_calls.specs.Calls.Answer.{unless}
-use Rattle.cluster_calls.specs.Calls.Plan.{Client}
+use Rattle.cluster_calls.specs.Calls.Plan.{Client, unless}
 use Rattle.cluster_calls.specs.Calls.Redirects.{Hop, Next, Stays, Lost, Goes, is_going}
-use Rattle.cluster_calls.specs.Calls.Transactions.{attempt, attempt_answer, attempt_count, exec_reply, FollowsAttempts, last_answer, last_attempt, lost_refusal, next_attempt, replies_in, sent_answer, size, unless_lost}
+use Rattle.cluster_calls.specs.Calls.Transactions.{attempt, attempt_answer, attempt_count, exec_reply, FollowsAttempts, last_answer, last_attempt, next_attempt, replies_in, sent_answer, size, unless_lost}
 use Rattle.cluster_calls.specs.Links.AttemptRuns.{AreAttempts, AttemptsAnswered, AttemptsMade, IsAttempt}
-use Rattle.cluster_calls.specs.Links.Events.{Event, Runs, log_of, exchanges_at, exchanges_of, pair_up, lack_memory, answered_moved, Agrees}
+use Rattle.cluster_calls.specs.Links.Events.{Event, Runs, log_of, exchanges_at, exchanges_of, lack_memory, answered_moved}
 use Rattle.cluster_calls.specs.Links.Exchanges.{Exchanges}
-use Rattle.cluster_calls.specs.Links.Faults.{LinkFault, refusal_by_fault}
+use Rattle.cluster_calls.specs.Links.Faults.{LinkFault}
 use Rattle.cluster_calls.specs.Links.Happened.{client_of}
 use Rattle.cluster_calls.specs.Links.Log.{Exchange, requests}
 use Rattle.cluster_calls.specs.Links.Places.{IsOpenAt}
@@ -26,7 +25,8 @@ use Rattle.cluster_calls.proofs.LinkLaws.EventLists.{exchanged, exchanges-append
 use Rattle.cluster_calls.proofs.LinkLaws.FaultsAgree.{Agrees-last}
 use Rattle.cluster_calls.proofs.LinkLaws.LinkRuns.{Runs-snoc}
 use Rattle.cluster_calls.proofs.LinkLaws.AttemptCalls.{AttemptMade, answered_heard, attempt_exchanged, attempt_fault, attempt_had_memory, attempt_moved, attempt_open, attempt_to, called_event, failed_few, heard, last_lost, lost_told, moved_in, none_lost}
-use Rattle.cluster_calls.proofs.LogLaws.Attempts.{attempt_ends, attempt_goes, attempt_length, drop_all, lost_stays, requests_length, size_of}
+use Rattle.cluster_calls.proofs.LogLaws.Attempts.{attempt_ends, attempt_goes, attempt_length, lost_stays, requests_length, size_of}
+use Rattle.cluster_calls.proofs.LogLaws.Sizes.{drop_all}
 
 -- ---- an attempt without replies
 

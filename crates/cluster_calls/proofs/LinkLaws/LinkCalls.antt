@@ -1,20 +1,26 @@
 -- A task's requests to one node by link calls are the link calls that were made: where each has one request, and where no node has two.
 -- And nodes without a request stay.
 use Rattle.std.specs.List.{list_any, AllByRecursion}
-use Rattle.std.proofs.Common.{◌≡◌, ◌≢◌, Bool, true, false, cond, List, [], ◌∷◌, ◌++◌, map, refl, sym, ap, ◌∙◌, subst, append-nil}
+use Rattle.std.proofs.Common.{◌≡◌, ◌≢◌, Bool, true, false, cond, List, [], ◌∷◌, ◌++◌, map, refl, sym, ap, ◌∙◌, subst, append-nil, ℕ, ◌<◌, length, arith}
 use Rattle.cluster_routing.specs.Address.{Address, same_address}
 use Rattle.cluster_routing.specs.Lists.{IsDistinct}
 use Rattle.cluster_calls.specs.Links.Request.{Request, requests_to}
 use Rattle.cluster_calls.specs.Links.World.{Node, link_at}
 use Rattle.cluster_calls.specs.Links.Leaves.{Leaves}
 use Rattle.cluster_calls.specs.Links.Events.{Event, AllTo, LinkCalled, Runs, log_of, calls_of}
-use Rattle.cluster_calls.specs.Calls.Task.{Task, slot_map_of, one_command, pipeline_of, several_nodes, one_node, read_of}
+use Rattle.cluster_calls.specs.Calls.Task.{Task, slot_map_of, one_command, pipeline_of, several_nodes, one_node, read_of, transaction_of}
 use Rattle.cluster_calls.specs.Links.Nodes.{in_one, link_calls}
 use Rattle.cluster_calls.specs.Links.Chains.{IsSingle}
+use Rattle.cluster_calls.specs.Calls.OneSlot.{args_of}
+use Rattle.cluster_calls.specs.Calls.Transactions.{in_sizes, size}
+use Rattle.cluster_calls.specs.Links.AttemptRuns.{IsAttempt}
 use Rattle.cluster_calls.proofs.LinkLaws.Addresses.{same_true}
 use Rattle.cluster_calls.proofs.LinkLaws.LinkPlaces.{set_other}
 use Rattle.cluster_calls.proofs.LinkLaws.OpenLinks.{swapped}
 use Rattle.cluster_calls.proofs.LinkLaws.LinkRuns.{or_parts, requests_same, requests_other, addresses}
+use Rattle.cluster_calls.proofs.LinkLaws.EventLists.{concat_calls}
+use Rattle.cluster_calls.proofs.LogLaws.Attempts.{size_of}
+use Rattle.cluster_calls.proofs.LogLaws.Sizes.{in_sizes_are}
 
 -- ---- each link call with one request
 
@@ -62,11 +68,32 @@ once old new (x ∷ xs) r d a =
     (λ t. uncalled r.0 new xs r.2 a (subst (λ k. list_any (λ j. same_address k j) (map (λ (x : Event). x.node) xs) ≡ false) (same_true x.node a t) d.0))
     (once r.0 new xs r.2 d.1 a) (same_address x.node a) refl
 
+-- ---- an attempt each
+
+some_requests : (commands : List (List (List ℕ))) → 0 < size commands
+some_requests commands = omega arith
+
+sized_calls : (commands : List (List (List ℕ))) (xs : List Event) (a : Address) → AllByRecursion (IsAttempt commands) xs → AllByRecursion (λ (qs : List Request). length qs ≡ size commands) (calls_of xs a)
+sized_calls commands [] a h = tt
+sized_calls commands (x ∷ xs) a h = by (same_address x.node a) (sized_calls commands xs a h.1)
+  where
+    AreSized : List (List Request) → Type 0
+    AreSized calls = AllByRecursion (λ (qs : List Request). length qs ≡ size commands) calls
+
+    by : (b : Bool) → AreSized (calls_of xs a) → AreSized (cond b (x.requests ∷ calls_of xs a) (calls_of xs a))
+    by true later = (ap length h.0.1 ∙ size_of h.0.0 commands, later)
+    by false later = later
+
+pub attempts : (old new : List Node) (commands : List (List (List ℕ))) (xs : List Event) → Runs old new xs → AllByRecursion (IsAttempt commands) xs → (a : Address) → calls_of xs a ≡ in_sizes (size commands) (requests_to a (log_of xs))
+attempts old new commands xs r h a =
+    sym (in_sizes_are (size commands) (calls_of xs a) (some_requests commands) (sized_calls commands xs a h)) ∙ ap (in_sizes (size commands)) (concat_calls old new xs r a)
+
 -- ---- as a task makes them
 
--- a pipeline makes one link call to a node, others one for each request
+-- a pipeline makes one link call to a node, a transaction one for each attempt, others one for each request
 abbrev pub AreLinkCalls : Task → List Event → Type 0
 AreLinkCalls (pipeline_of entries) xs = IsDistinct same_address (map (λ (x : Event). x.node) xs)
+AreLinkCalls (transaction_of commands) xs = AllByRecursion (IsAttempt (args_of commands)) xs
 AreLinkCalls _ xs = AllByRecursion IsSingle xs
 
 pub link_calls_made : (old new : List Node) (xs : List Event) (task : Task) → Runs old new xs → AreLinkCalls task xs → (a : Address) → calls_of xs a ≡ link_calls task (requests_to a (log_of xs))
@@ -75,6 +102,7 @@ link_calls_made old new xs (one_command command number order) r h a = singles ol
 link_calls_made old new xs (pipeline_of entries) r h a = once old new xs r h a
 link_calls_made old new xs (several_nodes command) r h a = singles old new xs r h a
 link_calls_made old new xs (one_node node command) r h a = singles old new xs r h a
+link_calls_made old new xs (transaction_of commands) r h a = attempts old new (args_of commands) xs r h a
 link_calls_made old new xs (read_of options streams) r h a = singles old new xs r h a
 
 -- ---- nodes without a request, also where memory was refused

@@ -1,7 +1,6 @@
 -- A call of one command, from the run of its parts and the reply that is made of theirs.
 use Rattle.std.specs.Prelude.{filter}
 use Rattle.std.proofs.Common.{◌≡◌, ◌≢◌, ℕ, false, List, [], ◌∷◌, ◌++◌, map, length, Option, Some, None, option_and_then, refl, sym, ap, ◌∙◌, subst, Result, Ok, Err}
-use Rattle.std.proofs.lemmas.Bool.{false≢true}
 use Rattle.std.proofs.lemmas.List.{length-map}
 use Rattle.resp_core.specs.Trees.{Tree, nil}
 use Rattle.resp_core.specs.Errors.{Refusal, by_cause}
@@ -15,19 +14,19 @@ use Rattle.cluster_routing.specs.Policies.{or_bad_reply}
 use Rattle.cluster_calls.specs.Links.Log.{Exchange, is_answered, behind_answers}
 use Rattle.cluster_calls.specs.Links.World.{World}
 use Rattle.cluster_calls.specs.Links.Faults.{LinkFault}
-use Rattle.cluster_calls.specs.Links.Events.{log_of, exchanges_of, faults_of}
-use Rattle.cluster_calls.specs.Links.Happened.{client_of, is_refresh, Answered, Happened, CallMade}
+use Rattle.cluster_calls.specs.Links.Events.{exchanges_of, faults_of}
+use Rattle.cluster_calls.specs.Links.Happened.{client_of, is_refresh, Answered, Happened}
 use Rattle.cluster_calls.specs.Links.Run.{with_log}
 use Rattle.cluster_calls.specs.Links.Converted.{value_answer}
 use Rattle.cluster_calls.specs.Links.PartRuns.{ArePartResults, PartsMade, replies_with_slots, IsMadeOfParts}
 use Rattle.cluster_calls.specs.Calls.Call.{Call}
 use Rattle.cluster_calls.specs.Calls.Task.{one_command, task_of}
-use Rattle.cluster_calls.specs.Calls.Plan.{Client, Dispatch, plan}
+use Rattle.cluster_calls.specs.Calls.Plan.{Client, Dispatch, plan, unless}
 use Rattle.cluster_calls.specs.Calls.Picks.{ArePicks}
 use Rattle.cluster_calls.specs.Calls.Legal.{PartByPart, IsLegalCall}
 use Rattle.cluster_calls.specs.Calls.Replies.{exchange_slot, reply_or_nil, part_replies, reply_of_parts}
 use Rattle.cluster_calls.specs.Calls.Refusals.{part_refusal}
-use Rattle.cluster_calls.specs.Calls.Answer.{Value, answer_in, unless}
+use Rattle.cluster_calls.specs.Calls.Answer.{Value, answer_in}
 use Rattle.cluster_calls.proofs.LinkLaws.FaultsAgree.{agrees}
 use Rattle.cluster_calls.proofs.LinkLaws.LinkCalls.{AreLinkCalls, link_calls_made}
 use Rattle.cluster_calls.proofs.LinkLaws.MovedLaws.{answered_plain}

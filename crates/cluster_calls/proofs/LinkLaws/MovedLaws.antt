@@ -1,7 +1,7 @@
 -- Whether a refresh is needed, by the link calls and by the log: so a call that is no refresh answers its map and its flag.
-use Rattle.std.specs.Prelude.{◌||◌, ◌&&◌, not, slice_get, drop, suc}
+use Rattle.std.specs.Prelude.{◌||◌, ◌&&◌, not, slice_get, drop, suc, is_none}
 use Rattle.std.specs.List.{list_any, AllByRecursion}
-use Rattle.std.proofs.Common.{◌≡◌, ℕ, ◌+◌, Bool, true, false, List, [], ◌∷◌, ◌++◌, map, length, refl, sym, ap, ◌∙◌, subst, Option, Result}
+use Rattle.std.proofs.Common.{◌≡◌, ℕ, ◌+◌, Bool, true, false, List, [], ◌∷◌, ◌++◌, map, length, refl, sym, ap, ◌∙◌, subst, Option, Result, arith}
 use Rattle.std.proofs.lemmas.Bool.{false≢true}
 use Rattle.resp_core.specs.Trees.{Tree}
 use Rattle.resp_core.specs.Errors.{Refusal}
@@ -10,19 +10,23 @@ use Rattle.resp_link.specs.Call.{Seen}
 use Rattle.cluster_routing.specs.Address.{Address, same_address}
 use Rattle.cluster_routing.specs.Choice.{Strategy}
 use Rattle.cluster_routing.specs.SlotMap.{SlotEntries}
-use Rattle.cluster_routing.specs.Lists.{IsDistinct}
+use Rattle.cluster_routing.specs.Lists.{IsDistinct, concat}
 use Rattle.cluster_calls.specs.Links.Request.{Request, skipped}
-use Rattle.cluster_calls.specs.Links.Log.{Exchange, is_moved, is_moved_reply, has_lost}
+use Rattle.cluster_calls.specs.Links.Log.{Exchange, is_moved, is_moved_reply, has_lost, is_unanswered}
 use Rattle.cluster_calls.specs.Links.World.{Node, World}
-use Rattle.cluster_calls.specs.Calls.Call.{Call, Refresh, Query, Ordered, Pipeline, FanOut, At, OnStreams}
+use Rattle.cluster_calls.specs.Calls.Call.{Call, Refresh, Query, Ordered, Pipeline, FanOut, At, OnStreams, Transaction}
 use Rattle.cluster_calls.specs.Calls.Task.{task_of}
 use Rattle.cluster_calls.specs.Calls.Picks.{ArePicks}
 use Rattle.cluster_calls.specs.Calls.Legal.{IsLegalCall}
 use Rattle.cluster_calls.specs.Links.Faults.{LinkFault}
 use Rattle.cluster_calls.specs.Calls.Answer.{Answer, answer_of}
-use Rattle.cluster_calls.specs.Calls.After.{map_after, flag_after, some_moved}
-use Rattle.cluster_calls.specs.Links.Events.{Event, Ending, answers, fails, lacks_memory, EndsBy, AllTo, Runs, log_of, pair_up, exchanges_at, exchanges_of, Agrees, is_memory_ending, lack_memory, is_answer_ending, answered_moved}
+use Rattle.cluster_calls.specs.Calls.After.{map_after, flag_after, some_moved, is_moved_whole}
+use Rattle.cluster_calls.specs.Links.Events.{Event, Ending, answers, fails, lacks_memory, EndsBy, AllTo, Runs, log_of, pair_up, exchanges_at, exchanges_of, Agrees, is_memory_ending, lack_memory, is_answer_ending, answered_moved, LinkCalled}
 use Rattle.cluster_calls.specs.Links.Happened.{client_of, is_refresh, Happened, Answered}
+use Rattle.cluster_calls.specs.Links.Chains.{IsSingle}
+use Rattle.cluster_calls.specs.Calls.OneSlot.{args_of}
+use Rattle.cluster_calls.specs.Calls.Transactions.{in_sizes, size}
+use Rattle.cluster_calls.specs.Links.AttemptRuns.{IsAttempt}
 use Rattle.cluster_calls.proofs.LogLaws.StreamTasks.{stream_tasks}
 use Rattle.cluster_calls.proofs.LinkLaws.OpenLinks.{swapped}
 use Rattle.cluster_calls.proofs.LinkLaws.Pairing.{some_lost, other_lost, has_lost-append, any-append}
@@ -30,7 +34,9 @@ use Rattle.cluster_calls.proofs.LinkLaws.EndLaws.{ends_pairs, single_failed}
 use Rattle.cluster_calls.proofs.LinkLaws.NodeLaws.{lost_here}
 use Rattle.cluster_calls.proofs.LinkLaws.LinkRuns.{had_memory, or_parts}
 use Rattle.cluster_calls.proofs.LinkLaws.LinkCalls.{AreLinkCalls}
-use Rattle.cluster_calls.specs.Links.Chains.{IsSingle}
+use Rattle.cluster_calls.proofs.LinkLaws.Addresses.{same_refl}
+use Rattle.cluster_calls.proofs.LogLaws.Attempts.{size_of}
+use Rattle.cluster_calls.proofs.LogLaws.Sizes.{in_sizes_are}
 
 moved_place : (trees : List Tree) (place other : ℕ) (qs : List Request) → list_any is_moved (pair_up trees place qs) ≡ list_any is_moved (pair_up trees other qs)
 moved_place trees place other [] = refl
@@ -147,6 +153,56 @@ lost_each old new (x ∷ xs) place m r d =
 pub moved_once : (old new : List Node) (xs : List Event) (place : ℕ) → lack_memory xs ≡ false → Runs old new xs → IsDistinct same_address (map (λ (x : Event). x.node) xs) → answered_moved xs ≡ some_moved (exchanges_of place xs)
 moved_once old new xs place m r d = moved_counted (λ a. has_lost a (exchanges_of place xs)) old new xs place r (lost_each old new xs place m r d)
 
+-- ---- an attempt at a transaction each
+
+-- the exchanges of each link call
+abbrev lists_at : ℕ → List Event → List (List Exchange)
+lists_at place [] = []
+lists_at place (x ∷ xs) = exchanges_at place x ∷ lists_at (place + length x.requests) xs
+
+together : (place : ℕ) (xs : List Event) → concat (lists_at place xs) ≡ exchanges_of place xs
+together place [] = refl
+together place (x ∷ xs) = ap (λ ys. exchanges_at place x ++ ys) (together (place + length x.requests) xs)
+
+paired_length : (trees : List Tree) (place : ℕ) (qs : List Request) → length (pair_up trees place qs) ≡ length qs
+paired_length trees place [] = refl
+paired_length trees place (q ∷ qs) = ap suc (paired_length (drop (skipped q.asking + 1) trees) (suc place) qs)
+
+sized_lists : (commands : List (List (List ℕ))) (place : ℕ) (xs : List Event) → AllByRecursion (IsAttempt commands) xs → AllByRecursion (λ (ys : List Exchange). length ys ≡ size commands) (lists_at place xs)
+sized_lists commands place [] h = tt
+sized_lists commands place (x ∷ xs) h = (
+  paired_length (replies_of x.taken) place x.requests ∙ ap length h.0.1 ∙ size_of h.0.0 commands,
+  sized_lists commands (place + length x.requests) xs h.1,
+)
+
+-- where all requests are to one node, it is lost if one of them is
+lost_any : (node : Address) (qs : List Request) (trees : List Tree) (place : ℕ) → AllTo node qs → has_lost node (pair_up trees place qs) ≡ list_any is_unanswered (pair_up trees place qs)
+lost_any node [] trees place all = refl
+lost_any node (q ∷ qs) trees place all =
+    let to : same_address q.node node ≡ true = ap (λ a. same_address a node) all.0 ∙ same_refl node in
+    ap (λ b. (b && is_none (slice_get trees (skipped q.asking))) || has_lost node (pair_up (drop (skipped q.asking + 1) trees) (suc place) qs)) to
+    ∙ ap (λ b. is_none (slice_get trees (skipped q.asking)) || b) (lost_any node qs (drop (skipped q.asking + 1) trees) (suc place) all.1)
+
+moved_attempt : (old new : List Node) (x : Event) (place : ℕ) → is_memory_ending x.ending ≡ false → LinkCalled old new x → (is_answer_ending x.ending && list_any is_moved (exchanges_at 0 x)) ≡ is_moved_whole (exchanges_at place x)
+moved_attempt old new x place m s =
+    ap (λ b. is_answer_ending x.ending && b) (moved_place (replies_of x.taken) 0 place x.requests)
+    ∙ and_swap (is_answer_ending x.ending) (list_any is_moved (exchanges_at place x)) (list_any is_unanswered (exchanges_at place x))
+    (sym (lost_any x.node x.requests (replies_of x.taken) place s.to_node) ∙ lost_called s.before s.after x.node x.requests x.taken x.ending place m s.some s.to_node s.ends)
+
+moved_lists : (old new : List Node) (xs : List Event) (place : ℕ) → lack_memory xs ≡ false → Runs old new xs → answered_moved xs ≡ list_any is_moved_whole (lists_at place xs)
+moved_lists old new [] place m r = refl
+moved_lists old new (x ∷ xs) place m r =
+    let had = had_memory x xs m in
+    ap (λ b. b || answered_moved xs) (moved_attempt old r.0 x place had.0 r.1)
+    ∙ ap (λ b. is_moved_whole (exchanges_at place x) || b) (moved_lists r.0 new xs (place + length x.requests) had.1 r.2)
+
+moved_attempts : (old new : List Node) (commands : List (List (List ℕ))) (xs : List Event) (place : ℕ) → lack_memory xs ≡ false → Runs old new xs → AllByRecursion (IsAttempt commands) xs
+    → answered_moved xs ≡ list_any is_moved_whole (in_sizes (size commands) (exchanges_of place xs))
+moved_attempts old new commands xs place m r h =
+    moved_lists old new xs place m r
+    ∙ sym (ap (list_any is_moved_whole) (in_sizes_are (size commands) (lists_at place xs) (omega arith) (sized_lists commands place xs h)))
+    ∙ ap (λ ys. list_any is_moved_whole (in_sizes (size commands) ys)) (together place xs)
+
 -- ---- a call that is no refresh
 
 plain_map : (call : Call) (entries : SlotEntries) (xs : List Exchange) → is_refresh call ≡ false → map_after entries call xs ≡ entries
@@ -156,6 +212,7 @@ plain_map (Ordered command order number) entries xs n = refl
 plain_map (Pipeline commands) entries xs n = refl
 plain_map (FanOut command) entries xs n = refl
 plain_map (At node command) entries xs n = refl
+plain_map (Transaction commands) entries xs n = refl
 plain_map (OnStreams call) entries xs n = refl
 
 plain_flag : (old new : List Node) (xs : List Event) (place : ℕ) (call : Call) (flag : Bool) → is_refresh call ≡ false → lack_memory xs ≡ false → Runs old new xs → AreLinkCalls (task_of call) xs
@@ -166,6 +223,7 @@ plain_flag old new xs place (Ordered command order number) flag n m r h = ap (λ
 plain_flag old new xs place (Pipeline commands) flag n m r h = ap (λ b. flag || b) (moved_once old new xs place m r h)
 plain_flag old new xs place (FanOut command) flag n m r h = ap (λ b. flag || b) (moved_singles old new xs place m r h)
 plain_flag old new xs place (At node command) flag n m r h = ap (λ b. flag || b) (moved_singles old new xs place m r h)
+plain_flag old new xs place (Transaction commands) flag n m r h = ap (λ b. flag || b) (moved_attempts old new (args_of commands) xs place m r h)
 plain_flag old new xs place (OnStreams call) flag n m r h =
     ap (λ b. flag || b) (moved_singles old new xs place m r (stream_tasks (λ task. AreLinkCalls task xs → AllByRecursion IsSingle xs) (λ command number order a. a) (λ options streams a. a) call h))
 

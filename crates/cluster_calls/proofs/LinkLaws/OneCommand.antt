@@ -1,6 +1,6 @@
 -- A call of which nothing was sent.
 use Rattle.std.specs.Prelude.{◌||◌}
-use Rattle.std.proofs.Common.{◌≡◌, ◌≢◌, Bool, true, false, List, [], Option, refl, sym, ◌∙◌, Result, Err}
+use Rattle.std.proofs.Common.{◌≡◌, ◌≢◌, Bool, true, false, List, [], Option, refl, sym, ◌∙◌, Result, Err, arith}
 use Rattle.std.proofs.lemmas.Bool.{false≢true}
 use Rattle.resp_core.specs.Errors.{Refusal, by_cause}
 use Rattle.resp_core.specs.declared.errors.redis_error.Cause.TheVariants.{Memory}
@@ -12,13 +12,16 @@ use Rattle.cluster_calls.specs.Links.Nodes.{link_calls}
 use Rattle.cluster_calls.specs.Links.Happened.{client_of, is_refresh, Answered, Happened, CallMade}
 use Rattle.cluster_calls.specs.Links.Run.{with_log}
 use Rattle.cluster_calls.specs.Calls.Call.{Call}
-use Rattle.cluster_calls.specs.Calls.Task.{Task, slot_map_of, one_command, pipeline_of, several_nodes, one_node, read_of, task_of}
+use Rattle.cluster_calls.specs.Calls.Task.{Task, slot_map_of, one_command, pipeline_of, several_nodes, one_node, read_of, task_of, transaction_of}
 use Rattle.cluster_calls.specs.Calls.Plan.{plan}
 use Rattle.cluster_calls.specs.Calls.Picks.{ArePicks}
 use Rattle.cluster_calls.specs.Calls.Answer.{Answer}
+use Rattle.cluster_calls.specs.Calls.OneSlot.{args_of}
+use Rattle.cluster_calls.specs.Calls.Transactions.{size}
 use Rattle.cluster_calls.proofs.LinkLaws.LinkCalls.{AreLinkCalls}
 use Rattle.cluster_calls.proofs.LinkLaws.MovedLaws.{answered_plain}
 use Rattle.cluster_calls.proofs.LinkLaws.Played.{call_made}
+use Rattle.cluster_calls.proofs.LogLaws.Sizes.{in_sizes_are}
 
 -- the world stays, but for its log, which is empty, and its picks
 pub record Untouched (old new : World) : Type 0 where
@@ -46,6 +49,7 @@ no_link_calls (one_command command number order) = refl
 no_link_calls (pipeline_of entries) = refl
 no_link_calls (several_nodes command) = refl
 no_link_calls (one_node node command) = refl
+no_link_calls (transaction_of commands) = sym (in_sizes_are (size (args_of commands)) [] (omega arith) tt)
 no_link_calls (read_of options streams) = refl
 
 abbrev pub nothing_happened : (strategy : Option Strategy) (old new : World) (call : Call) → Untouched old new → Happened strategy old new call
@@ -84,6 +88,7 @@ unsent_answered strategy old new call refusal n u why m =
     no_calls (pipeline_of entries) = tt
     no_calls (several_nodes command) = tt
     no_calls (one_node node command) = tt
+    no_calls (transaction_of commands) = tt
     no_calls (read_of options streams) = tt
 
 -- a check before sending was not met, or memory was refused before anything was sent

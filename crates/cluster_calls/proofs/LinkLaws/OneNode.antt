@@ -16,11 +16,11 @@ use Rattle.cluster_calls.specs.Links.Events.{lack_memory}
 use Rattle.cluster_calls.specs.Links.Exchanges.{Exchanges}
 use Rattle.cluster_calls.specs.Links.Happened.{client_of, Answered, Happened, CallMade}
 use Rattle.cluster_calls.specs.Links.Places.{IsOpenAt}
-use Rattle.cluster_calls.specs.Calls.Answer.{Answer, Value, unless}
+use Rattle.cluster_calls.specs.Calls.Answer.{Value}
 use Rattle.cluster_calls.specs.Calls.Call.{At}
 use Rattle.cluster_calls.specs.Calls.Legal.{direct}
 use Rattle.cluster_calls.specs.Calls.Picks.{ArePicks}
-use Rattle.cluster_calls.specs.Calls.Plan.{Client, Dispatch, plan}
+use Rattle.cluster_calls.specs.Calls.Plan.{Client, Dispatch, plan, unless}
 use Rattle.cluster_calls.specs.Calls.Replies.{unless_error, reply_error}
 use Rattle.cluster_calls.specs.Calls.Task.{one_node}
 use Rattle.cluster_calls.proofs.LinkLaws.LinkCalls.{link_calls_made}

@@ -7,10 +7,11 @@ use Rattle.resp_core.specs.Errors.{Refusal, by_servers}
 use Rattle.resp_core.specs.Parts.{first_error}
 use Rattle.cluster_routing.specs.Address.{Address, same_address}
 use Rattle.cluster_routing.specs.Combine.{array_of}
-use Rattle.cluster_calls.specs.Calls.Answer.{Value, unless}
+use Rattle.cluster_calls.specs.Calls.Answer.{Value}
 use Rattle.cluster_calls.specs.Calls.Call.{Entry}
 use Rattle.cluster_calls.specs.Calls.Refusals.{errors_from, errors_refusal, pipeline_refusal, with_error}
 use Rattle.cluster_calls.specs.Calls.Replies.{not_ignored, reply_or_nil}
+use Rattle.cluster_calls.specs.Calls.Plan.{unless}
 use Rattle.cluster_calls.specs.Links.Converted.{value_answer}
 use Rattle.cluster_calls.specs.Links.Faults.{LinkFault, refusal_by_fault}
 use Rattle.cluster_calls.specs.Links.Log.{Exchange, is_unanswered, has_lost}

@@ -18,12 +18,12 @@ use Rattle.cluster_calls.specs.Links.Log.{Exchange, is_answered, behind_answers}
 use Rattle.cluster_calls.specs.Links.PartRuns.{ArePartResults, PartsMade}
 use Rattle.cluster_calls.specs.Links.Run.{with_log}
 use Rattle.cluster_calls.specs.Links.World.{World}
-use Rattle.cluster_calls.specs.Calls.Answer.{Answer, Read, answer_of, call_answer, unless}
+use Rattle.cluster_calls.specs.Calls.Answer.{Answer, Read, answer_of, call_answer}
 use Rattle.cluster_calls.specs.Calls.Call.{Stream, Call}
 use Rattle.cluster_calls.specs.Calls.Legal.{AreMade, PartByPart, IsLegalCall}
 use Rattle.cluster_calls.specs.Calls.Parts.{Part, result_then}
 use Rattle.cluster_calls.specs.Calls.Picks.{ArePicks, ArePicksOf}
-use Rattle.cluster_calls.specs.Calls.Plan.{Client, Dispatch, call_parts, dispatches, in_order, order_of, plan}
+use Rattle.cluster_calls.specs.Calls.Plan.{Client, Dispatch, call_parts, dispatches, in_order, order_of, plan, unless}
 use Rattle.cluster_calls.specs.Calls.Reads.{key_places, read_slot, readings, read_rows}
 use Rattle.cluster_calls.specs.Calls.Refusals.{part_refusal, sent_refusal}
 use Rattle.cluster_calls.specs.Calls.Replies.{reply_or_nil}

@@ -1,18 +1,16 @@
 -- The exchanges that are told of a run of link calls, also where one lacked memory.
 use Rattle.std.specs.Prelude.{drop, ◌&&◌, ◌||◌}
-use Rattle.std.specs.List.{list_any}
 use Rattle.std.proofs.Common.{◌≡◌, ◌≢◌, ℕ, suc, ◌+◌, Bool, true, false, cond, List, [], ◌∷◌, ◌++◌, map, length, length-append, append_assoc, Some, Err, refl, sym, ap, ◌∙◌, subst, arith}
 use Rattle.std.proofs.lemmas.Bool.{false≢true}
 use Rattle.std.proofs.lemmas.List.{map-append}
 use Rattle.resp_core.specs.Trees.{Tree}
-use Rattle.resp_core.specs.Errors.{Refusal, by_cause}
-use Rattle.resp_link.specs.Call.{Seen}
+use Rattle.resp_core.specs.Errors.{Refusal}
 use Rattle.resp_link.specs.Replies.{replies_of}
 use Rattle.cluster_routing.specs.Address.{Address, same_address}
 use Rattle.cluster_calls.specs.Links.EachMade.{unanswered, told_at, told_of, refusal_by, refusals_of}
 use Rattle.cluster_calls.specs.Links.Events.{Event, Ending, answers, fails, lacks_memory, EndsBy, AllTo, LinkCalled, Runs, log_of, pair_up, exchanges_at, exchanges_of, is_memory_ending, is_answer_ending, lack_memory}
-use Rattle.cluster_calls.specs.Links.Faults.{LinkFault, io, grammar}
-use Rattle.cluster_calls.specs.Links.Log.{Exchange, requests, has_lost, is_unanswered}
+use Rattle.cluster_calls.specs.Links.Faults.{io, grammar}
+use Rattle.cluster_calls.specs.Links.Log.{Exchange, requests, has_lost}
 use Rattle.cluster_calls.specs.Links.Request.{Request, skipped}
 use Rattle.cluster_calls.specs.Links.World.{Node, link_at, is_usable}
 use Rattle.cluster_calls.specs.Calls.Each.{lost, fate_of}
@@ -20,7 +18,7 @@ use Rattle.cluster_calls.proofs.LinkLaws.Addresses.{same_true, same_refl}
 use Rattle.cluster_calls.proofs.LinkLaws.EndLaws.{ends_pairs, ends_usable, ends_was_open}
 use Rattle.cluster_calls.proofs.LinkLaws.EventLists.{exchanged}
 use Rattle.cluster_calls.proofs.LinkLaws.LinkPlaces.{set_other}
-use Rattle.cluster_calls.proofs.LinkLaws.LinkRuns.{had_memory, link_behind, or_parts}
+use Rattle.cluster_calls.proofs.LinkLaws.LinkRuns.{had_memory, link_behind}
 use Rattle.cluster_calls.proofs.LinkLaws.NodeLaws.{lost_here}
 use Rattle.cluster_calls.proofs.LinkLaws.Pairing.{other_lost, some_lost, has_lost-append}
 

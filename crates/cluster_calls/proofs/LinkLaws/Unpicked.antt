@@ -16,14 +16,15 @@ use Rattle.cluster_calls.specs.Links.Happened.{client_of, log_with_replies, Call
 use Rattle.cluster_calls.specs.Links.Events.{taken_of}
 use Rattle.cluster_calls.specs.Links.Log.{Exchange}
 use Rattle.cluster_calls.specs.Links.World.{World, is_linked}
-use Rattle.cluster_calls.specs.Calls.Answer.{Answer, answer_of, call_answer, unless}
+use Rattle.cluster_calls.specs.Calls.Answer.{Answer, answer_of, call_answer}
 use Rattle.cluster_calls.specs.Calls.Call.{Call}
 use Rattle.cluster_calls.specs.Calls.Legal.{AreMade, IsLegalCall, PartByPart}
-use Rattle.cluster_calls.specs.Calls.Parts.{Part, fits_order, if_ordered, parts_of, result_then, task_parts}
+use Rattle.cluster_calls.specs.Calls.Parts.{Part, fits_order, if_ordered, parts_of, result_then}
 use Rattle.cluster_calls.specs.Calls.Picks.{ArePicks, ArePicksOf}
-use Rattle.cluster_calls.specs.Calls.Plan.{Client, Dispatch, First, call_parts, dispatch_one, dispatches, first_of, in_order, order_of, plan, unless_refused, with_first}
+use Rattle.cluster_calls.specs.Calls.Plan.{Client, Dispatch, First, call_parts, dispatch_one, dispatches, first_of, in_order, order_of, plan, unless, with_first}
 use Rattle.cluster_calls.specs.Calls.Refusals.{sent_refusal}
 use Rattle.cluster_calls.specs.Calls.Task.{early_refusal, one_command, task_of}
+use Rattle.cluster_calls.specs.Calls.TaskParts.{task_parts}
 use Rattle.cluster_calls.proofs.LogLaws.Plans.{IsFor, dispatches_for}
 use Rattle.cluster_calls.proofs.LogLaws.SentOnce.{pair_length}
 
@@ -80,7 +81,7 @@ no_ordered (Some order) ds f e = no_taken ds order f e
 
 module _ (strategy : Option Strategy) (client : Client) (picks : List Address) (call : Call) (command : Command) (number : ℕ) (order : Option (List ℕ)) (task : task_of call ≡ one_command command number order) where
   fits : (parts : List Part) → call_parts client call ≡ Ok parts → fits_order order (length parts) ≡ true
-  fits parts e = by_early (early_refusal call) (subst (λ t. unless_refused (early_refusal call) (task_parts client.settings.read_only client.entries t) ≡ Ok parts) task e)
+  fits parts e = by_early (early_refusal call) (subst (λ t. unless (early_refusal call) (task_parts client.settings.read_only client.entries t) ≡ Ok parts) task e)
     where
       by_fit : (q : List Part) (b : Bool) → fits_order order (length q) ≡ b → cond {A = Result (List Part) Refusal} b (Ok q) (Err (by_cause BadOrder)) ≡ Ok parts → fits_order order (length parts) ≡ true
       by_fit q true f k = let same : q ≡ parts = cc in subst (λ ps. fits_order order (length ps) ≡ true) same f
@@ -90,7 +91,7 @@ module _ (strategy : Option Strategy) (client : Client) (picks : List Address) (
       by_parts (Ok q) k = by_fit q (fits_order order (length q)) refl k
       by_parts (Err refusal) k = cc
 
-      by_early : (o : Option Refusal) → unless_refused o (result_then (parts_of client.settings.read_only command number) (if_ordered order)) ≡ Ok parts → fits_order order (length parts) ≡ true
+      by_early : (o : Option Refusal) → unless o (result_then (parts_of client.settings.read_only command number) (if_ordered order)) ≡ Ok parts → fits_order order (length parts) ≡ true
       by_early None k = by_parts (parts_of client.settings.read_only command number) k
       by_early (Some refusal) k = cc
 

@@ -6,6 +6,7 @@ use Rattle.resp_core.specs.Trees.{Tree, nil, int, bulk, array, simple, okay, att
 use Rattle.resp_core.specs.Trees.{map as map_tree}
 use Rattle.resp_core.specs.Parts.{first_error}
 use Rattle.resp_core.specs.Errors.{Refusal, by_server, server_kind}
+use Rattle.resp_args.specs.Command.{Command}
 use Rattle.cluster_routing.specs.Address.{Address}
 use Rattle.cluster_routing.specs.Combine.{PartReply}
 use Rattle.cluster_routing.specs.Lists.{Pairwise}
@@ -13,22 +14,23 @@ use Rattle.cluster_routing.specs.Split.{Split}
 use Rattle.stream_commands.specs.Respelled.{Respellable, Respelled}
 use Rattle.stream_commands.specs.RecordLaws.{own_error}
 use Rattle.stream_commands.proofs.RespelledErrors.{respelled_fail_alike}
+use Rattle.stream_commands.specs.Join.{all_rows, join}
+use Rattle.stream_commands.specs.ReadReply.{Row, read_reply}
+use Rattle.stream_commands.specs.Settings.{ReadSettings}
 use Rattle.cluster_calls.specs.Links.Request.{Request}
 use Rattle.cluster_calls.specs.Links.Reply.{Sort, error_sort, inner_sort, sort_of}
 use Rattle.cluster_calls.specs.Links.Log.{Exchange, requests, is_data, is_data_reply, is_answered, is_unanswered, last_of, behind_answers}
 use Rattle.cluster_calls.specs.Calls.Call.{Call, Stream}
-use Rattle.cluster_calls.specs.Calls.Task.{Task, slot_map_of, one_command, pipeline_of, several_nodes, one_node, read_of, task_of, stream_keys, are_of_one_slot}
+use Rattle.cluster_calls.specs.Calls.Task.{Task, slot_map_of, one_command, pipeline_of, several_nodes, one_node, read_of, task_of, stream_keys, are_of_one_slot, transaction_of}
 use Rattle.cluster_calls.specs.Calls.Plan.{Client, Dispatch, plan}
 use Rattle.cluster_calls.specs.Calls.Redirects.{Hop, Next, Stays, Lost, Goes, next_of, sort_next, MatchNext, FollowsRedirects}
-use Rattle.cluster_calls.specs.Calls.Legal.{first_hop, PartByPart, NodeByNode, node_groups, AreMade, IsLegalCall}
+use Rattle.cluster_calls.specs.Calls.Legal.{first_hop, PartByPart, NodeByNode, node_groups, AreMade, IsLegalCall, AttemptAfterAttempt}
 use Rattle.cluster_calls.specs.Links.Faults.{LinkFault}
 use Rattle.cluster_calls.specs.Calls.Replies.{exchange_slot, reply_or_nil, part_replies, reply_by_split}
-use Rattle.stream_commands.specs.Join.{all_rows, join}
-use Rattle.stream_commands.specs.ReadReply.{Row, read_reply}
-use Rattle.stream_commands.specs.Settings.{ReadSettings}
 use Rattle.cluster_calls.specs.Calls.Reads.{key_places, read_slot, readings, read_rows}
 use Rattle.cluster_calls.specs.Calls.Refusals.{stop_refusal, last_refusal, part_refusal}
 use Rattle.cluster_calls.specs.OneServer.Respelling.{SaysTheSame}
+use Rattle.cluster_calls.specs.Calls.OneSlot.{args_of}
 
 -- ---- what a client sees of a reply are its errors
 
@@ -76,6 +78,23 @@ pub record AlikeExchange (how : Option Respellable) (x y : Exchange) : Type 0 wh
   pub request : x.request ≡ y.request
   pub place : x.place ≡ y.place
   pub reply : AlikeReply how x.reply y.reply
+
+-- ---- where nothing is respelled
+
+reply_equal : {r s : Option Tree} → AlikeReply None r s → r ≡ s
+reply_equal (replied h) = ap Some h
+
+abbrev made : Request → ℕ → Option Tree → Exchange
+made q p r = record { request = q; place = p; reply = r }
+
+exchange_equal : (x y : Exchange) → AlikeExchange None x y → x ≡ y
+exchange_equal x y h = ap (λ q. made q x.place x.reply) h.request ∙ ap (λ p. made y.request p x.reply) h.place ∙ ap (made y.request y.place) (reply_equal h.reply)
+
+pub exchanges_equal : (xs ys : List Exchange) → Pairwise (AlikeExchange None) xs ys → xs ≡ ys
+exchanges_equal [] [] h = refl
+exchanges_equal [] (y ∷ ys) h = absurd h
+exchanges_equal (x ∷ xs) [] h = absurd h
+exchanges_equal (x ∷ xs) (y ∷ ys) h = ap (λ z. z ∷ xs) (exchange_equal x y h.0) ∙ ap (λ zs. y ∷ zs) (exchanges_equal xs ys h.1)
 
 -- ---- lists
 
@@ -193,19 +212,25 @@ module _ (how : Option Respellable) where
       by true g ih = nil_alike A (drop (length group) xs) (drop (length group) ys) (drop_alike A (length group) xs ys h) g
       by false g ih = ih g
 
-  made_alike : (client : Client) (task : Task) (ds : List Dispatch) (xs ys : List Exchange) → Pairwise A xs ys → AreMade client task ds xs → AreMade client task ds ys
-  made_alike client (slot_map_of node) ds xs ys h m = sym (requests_alike xs ys h) ∙ m
-  made_alike client (one_command command number order) ds xs ys h m = parts_alike client ds xs ys h m
-  made_alike client (pipeline_of entries) ds xs ys h m = nodes_alike (node_groups ds) xs ys h m
-  made_alike client (several_nodes command) ds xs ys h m = sym (requests_alike xs ys h) ∙ m
-  made_alike client (one_node node command) ds xs ys h m = sym (requests_alike xs ys h) ∙ m
-  made_alike client (read_of options streams) ds xs ys h m = parts_alike client ds xs ys h m
+  -- a transaction's replies are not respelled
+  abbrev AreExact : Task → Type 0
+  AreExact task = (commands : List Command) → task ≡ transaction_of commands → how ≡ None
 
-  pub legal_alike : (client : Client) (picks : List Address) (call : Call) (xs ys : List Exchange) → Pairwise A xs ys → IsLegalCall client picks call xs → IsLegalCall client picks call ys
-  legal_alike client picks call xs ys h l = by (plan client picks call) l
+  made_alike : (client : Client) (task : Task) → AreExact task → (ds : List Dispatch) (xs ys : List Exchange) → Pairwise A xs ys → AreMade client task ds xs → AreMade client task ds ys
+  made_alike client (slot_map_of node) exact ds xs ys h m = sym (requests_alike xs ys h) ∙ m
+  made_alike client (one_command command number order) exact ds xs ys h m = parts_alike client ds xs ys h m
+  made_alike client (pipeline_of entries) exact ds xs ys h m = nodes_alike (node_groups ds) xs ys h m
+  made_alike client (several_nodes command) exact ds xs ys h m = sym (requests_alike xs ys h) ∙ m
+  made_alike client (one_node node command) exact ds xs ys h m = sym (requests_alike xs ys h) ∙ m
+  made_alike client (read_of options streams) exact ds xs ys h m = parts_alike client ds xs ys h m
+  made_alike client (transaction_of commands) exact ds xs ys h m =
+      subst (AttemptAfterAttempt client (args_of commands) ds) (exchanges_equal xs ys (subst (λ w. Pairwise (AlikeExchange w) xs ys) (exact commands refl) h)) m
+
+  pub legal_alike : (client : Client) (picks : List Address) (call : Call) → AreExact (task_of call) → (xs ys : List Exchange) → Pairwise A xs ys → IsLegalCall client picks call xs → IsLegalCall client picks call ys
+  legal_alike client picks call exact xs ys h l = by (plan client picks call) l
     where
       by : (o : Result (List Dispatch) Refusal) → MatchResult o (λ ds. AreMade client (task_of call) ds xs) (λ refusal. xs ≡ []) → MatchResult o (λ ds. AreMade client (task_of call) ds ys) (λ refusal. ys ≡ [])
-      by (Ok ds) m = made_alike client (task_of call) ds xs ys h m
+      by (Ok ds) m = made_alike client (task_of call) exact ds xs ys h m
       by (Err refusal) e = nil_alike A xs ys h e
 
   -- ---- refusals of one command

@@ -1,6 +1,6 @@
 -- Two plays whose replies say the same, from what `play` ensures: they show the same, and send each node the same bytes.
 use Rattle.std.specs.Prelude.{◌||◌}
-use Rattle.std.proofs.Common.{◌≡◌, ℕ, suc, ◌+◌, Bool, false, List, [], ◌∷◌, ◌++◌, map, length, Option, Result, refl, sym, ap, ◌∙◌, subst, arith}
+use Rattle.std.proofs.Common.{◌≡◌, ℕ, ◌+◌, Bool, false, List, [], ◌∷◌, ◌++◌, map, length, Option, Result, refl, sym, ap, ◌∙◌, subst}
 use Rattle.std.specs.Io.KnownBytes.{Appends}
 use Rattle.resp_core.specs.Errors.{Refusal}
 use Rattle.resp_core.specs.Trees.{Tree}
@@ -13,7 +13,7 @@ use Rattle.cluster_calls.specs.Calls.Task.{task_of}
 use Rattle.cluster_calls.specs.Links.Events.{taken_of}
 use Rattle.cluster_calls.specs.Links.Faults.{LinkFault}
 use Rattle.cluster_calls.specs.Links.Happened.{client_of}
-use Rattle.cluster_calls.specs.Links.Log.{Exchange, exchanges, has_lost, left_after, left_after_all, replies, reply_at}
+use Rattle.cluster_calls.specs.Links.Log.{Exchange, exchanges, has_lost, left_after_all, replies}
 use Rattle.cluster_calls.specs.Links.Nodes.{NodesMade, IsSentFor, link_calls}
 use Rattle.cluster_calls.specs.Links.Play.{Plays, Shown, shown_of}
 use Rattle.cluster_calls.specs.Links.Request.{Request, bytes_of, requests_to}
@@ -24,6 +24,7 @@ use Rattle.cluster_calls.specs.OneServer.Respelling.{respelling, respellings, Sa
 use Rattle.cluster_calls.specs.OneServer.RespelledPlays.{SendsTo}
 use Rattle.cluster_calls.proofs.LinkLaws.Pairing.{has_lost-append}
 use Rattle.cluster_calls.proofs.LogLaws.RespelledRuns.{runs_alike, exchanged, none_lost_alike}
+use Rattle.cluster_calls.proofs.LogLaws.SameLogs.{exchanges_then}
 
 abbrev calls_in : List PlayedCall → List Call
 calls_in ts = map (λ (t : PlayedCall). t.call) ts
@@ -48,15 +49,6 @@ shown_alike (t ∷ ts) (u ∷ us) l a =
     rw (log, answer, shown_alike ts us logs answers) refl
 
 -- ---- no request is without its reply
-
-pub exchanges_then : (qs rs : List Request) (f : Address → List Tree) (place : ℕ) → exchanges f place (qs ++ rs) ≡ exchanges f place qs ++ exchanges (left_after_all f qs) (place + length qs) rs
-exchanges_then [] rs f place =
-    let z : place ≡ place + 0 = omega arith in
-    ap (λ p. exchanges f p rs) z
-exchanges_then (q ∷ qs) rs f place =
-    let z : suc place + length qs ≡ place + suc (length qs) = omega arith in
-    ap (λ xs. record { request = q; place = place; reply = reply_at (f q.node) q } ∷ xs)
-    (exchanges_then qs rs (left_after f q) (suc place) ∙ ap (λ p. exchanges (left_after f q) (suc place) qs ++ exchanges (left_after_all (left_after f q) qs) p rs) z)
 
 joined : (a : Address) (qs rs : List Request) (f : Address → List Tree) (place : ℕ) → has_lost a (exchanges f place qs) ≡ false → has_lost a (exchanges (left_after_all f qs) (place + length qs) rs) ≡ false
     → has_lost a (exchanges f place (qs ++ rs)) ≡ false

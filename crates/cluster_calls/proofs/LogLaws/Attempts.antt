@@ -1,16 +1,21 @@
 -- Attempts at a transaction in a log, one behind another: how they follow, and what follows from that.
-use Rattle.std.proofs.Common.{◌≡◌, ◌≢◌, ℕ, zero, suc, ◌+◌, ◌-◌, ◌*◌, ◌<◌, ◌≤◌, Bool, true, false, cond, List, [], ◌∷◌, ◌++◌, map, length, take, drop, Option, Some, None, Result, Ok, Err, refl, sym, ap, ◌∙◌, subst, length-append, arith}
+use Rattle.std.proofs.Common.{◌≡◌, ℕ, zero, suc, ◌+◌, ◌-◌, ◌*◌, ◌<◌, ◌≤◌, Bool, true, false, List, [], ◌∷◌, ◌++◌, map, length, take, drop, Option, None, Result, Ok, Err, refl, sym, ap, ◌∙◌, subst, length-append, arith}
 use Rattle.std.proofs.lemmas.List.{drop-drop, length-map, take-append-drop}
-use Rattle.resp_core.specs.Trees.{Tree, array, nil, server_error, Trees, ErrorText}
+use Rattle.std.specs.Prelude.{MatchResult}
+use Rattle.resp_core.specs.Trees.{Tree}
 use Rattle.resp_core.specs.Errors.{Refusal}
 use Rattle.resp_args.specs.Command.{Command}
 use Rattle.cluster_routing.specs.Address.{Address}
-use Rattle.cluster_calls.specs.Links.Log.{Exchange, requests, last_of}
-use Rattle.cluster_calls.specs.Links.Request.{Request}
-use Rattle.cluster_calls.specs.Calls.Plan.{Client}
-use Rattle.cluster_calls.specs.Calls.Redirects.{Hop, Next, Stays, Lost, Goes, is_going, MatchNext, next_of, request_of}
-use Rattle.cluster_calls.specs.Calls.Transactions.{Fate, done, not_done, may_be_done, fate, fate_by, if_not_done, multi, exec, multi_reply, exec_reply, reply_there, is_okay, redirect_in, next_attempt, replies_in, attempt, size, without_asking, FollowsAttempts, IsLegalTransaction, transaction_plan, args_of, first_to}
+use Rattle.cluster_calls.specs.Links.Log.{Exchange, requests}
+use Rattle.cluster_calls.specs.Links.Request.{exec}
+use Rattle.cluster_calls.specs.Calls.Plan.{Client, Dispatch, plan}
+use Rattle.cluster_calls.specs.Calls.Redirects.{Hop, Next, Stays, Lost, Goes, is_going, MatchNext, next_of}
+use Rattle.cluster_calls.specs.Calls.Transactions.{Fate, done, not_done, may_be_done, fate, fate_by, if_not_done, multi_reply, exec_reply, is_okay, redirect_in, next_attempt, replies_in, attempt, size, without_asking, FollowsAttempts}
 use Rattle.cluster_calls.specs.OneServer.TransactionLaws.{width, attempt_at, OnlyNotDoneIsSentAgain, AttemptsAreBounded}
+use Rattle.cluster_calls.specs.Calls.OneSlot.{args_of}
+use Rattle.cluster_calls.specs.Calls.Call.{Transaction}
+use Rattle.cluster_calls.specs.Calls.Legal.{AttemptAfterAttempt, first_hop}
+use Rattle.cluster_calls.proofs.LogLaws.Sizes.{take_all, drop_all}
 
 -- ---- how long an attempt is
 
@@ -26,18 +31,6 @@ requests_length (x ∷ xs) = ap suc (requests_length xs)
 
 pub attempt_length : (hop : Hop) (commands : List (List (List ℕ))) (xs : List Exchange) → requests xs ≡ attempt hop commands → length xs ≡ size commands
 attempt_length hop commands xs e = sym (requests_length xs) ∙ ap length e ∙ size_of hop commands
-
-pub take_all : {X : Type 0} (n : ℕ) (xs ys : List X) → length xs ≡ n → take n (xs ++ ys) ≡ xs
-take_all zero [] ys e = refl
-take_all zero (x ∷ xs) ys e = absurd (omega arith)
-take_all (suc n) [] ys e = absurd (omega arith)
-take_all (suc n) (x ∷ xs) ys e = ap (λ zs. x ∷ zs) (take_all n xs ys (omega arith))
-
-pub drop_all : {X : Type 0} (n : ℕ) (xs ys : List X) → length xs ≡ n → drop n (xs ++ ys) ≡ ys
-drop_all zero [] ys e = refl
-drop_all zero (x ∷ xs) ys e = absurd (omega arith)
-drop_all (suc n) [] ys e = absurd (omega arith)
-drop_all (suc n) (x ∷ xs) ys e = drop_all n xs ys (omega arith)
 
 -- ---- no way on without budget, or where something may have been done
 
@@ -125,7 +118,7 @@ counted_one : (n left : ℕ) (xs : List Exchange) → length xs ≡ n → Counte
 counted_one n left xs e = (1, e ∙ omega arith, omega arith)
 
 -- the first attempt of a log, and the rest
-front_length : (hop : Hop) (commands : List (List (List ℕ))) (xs : List Exchange) → requests (take (size commands) xs) ≡ attempt hop commands → length xs ≡ size commands + length (drop (size commands) xs)
+pub front_length : (hop : Hop) (commands : List (List (List ℕ))) (xs : List Exchange) → requests (take (size commands) xs) ≡ attempt hop commands → length xs ≡ size commands + length (drop (size commands) xs)
 front_length hop commands xs e =
     let whole : length (take (size commands) xs ++ drop (size commands) xs) ≡ length xs = ap length (take-append-drop (size commands) xs) in
     let parts : length (take (size commands) xs ++ drop (size commands) xs) ≡ length (take (size commands) xs) + length (drop (size commands) xs) = length-append (take (size commands) xs) (drop (size commands) xs) in
@@ -153,16 +146,16 @@ counted links (suc left) hop commands xs h =
     counted_next (next_attempt links (suc left) (replies_in (take (size commands) xs))) (size commands) left xs (drop (size commands) xs) (λ next. FollowsAttempts links left next commands (drop (size commands) xs)) (front_length hop commands xs h.0)
     (λ next k. counted links left next commands (drop (size commands) xs) k) h.1
 
-bounded_by : (client : Client) (commands : List Command) (xs : List Exchange) (found : Result (Option Address) Refusal) → transaction_plan client commands ≡ found → IsLegalTransaction client commands xs
-    → (count : ℕ) × (length xs ≡ count * width commands) × (count ≤ suc client.settings.budget)
-bounded_by client commands xs (Err refusal) e legal = let none : xs ≡ [] = rw e at legal in (0, ap length none ∙ omega arith, omega arith)
-bounded_by client commands xs (Ok None) e legal = let none : xs ≡ [] = rw e at legal in (0, ap length none ∙ omega arith, omega arith)
-bounded_by client commands xs (Ok (Some node)) e legal =
-    let follows : FollowsAttempts client.links client.settings.budget (first_to node) (args_of commands) xs = rw e at legal in
-    counted client.links client.settings.budget (first_to node) (args_of commands) xs follows
+abbrev pub Legal : Client → List Command → Result (List Dispatch) Refusal → List Exchange → Type 0
+Legal client commands o xs = MatchResult o (λ ds. AttemptAfterAttempt client (args_of commands) ds xs) (λ refusal. xs ≡ [])
+
+bounded_by : (client : Client) (commands : List Command) (xs : List Exchange) (o : Result (List Dispatch) Refusal) → Legal client commands o xs → (count : ℕ) × (length xs ≡ count * width commands) × (count ≤ suc client.settings.budget)
+bounded_by client commands xs (Err refusal) none = (0, ap length none ∙ omega arith, omega arith)
+bounded_by client commands xs (Ok []) none = (0, ap length none ∙ omega arith, omega arith)
+bounded_by client commands xs (Ok (d ∷ ds)) follows = counted client.links client.settings.budget (first_hop d) (args_of commands) xs follows
 
 pub attempts_are_bounded : AttemptsAreBounded
-attempts_are_bounded client commands xs legal = bounded_by client commands xs (transaction_plan client commands) refl legal
+attempts_are_bounded client picks commands xs legal = bounded_by client commands xs (plan client picks (Transaction commands)) legal
 
 -- ---- which attempts are followed by another
 
@@ -197,13 +190,11 @@ followed links (suc left) hop commands xs number h less =
 none_left : (n number : ℕ) (xs : List Exchange) → xs ≡ [] → suc number * n < length xs → ⊥
 none_left n number xs none less = let l : length xs ≡ 0 = ap length none in omega (arith, less, l)
 
-sent_again_by : (client : Client) (commands : List Command) (xs : List Exchange) (number : ℕ) (found : Result (Option Address) Refusal) → transaction_plan client commands ≡ found → IsLegalTransaction client commands xs → suc number * width commands < length xs
+sent_again_by : (client : Client) (commands : List Command) (xs : List Exchange) (number : ℕ) (o : Result (List Dispatch) Refusal) → Legal client commands o xs → suc number * width commands < length xs
     → fate (replies_in (attempt_at commands number xs)) ≡ not_done
-sent_again_by client commands xs number (Err refusal) e legal less = let none : xs ≡ [] = rw e at legal in absurd (none_left (width commands) number xs none less)
-sent_again_by client commands xs number (Ok None) e legal less = let none : xs ≡ [] = rw e at legal in absurd (none_left (width commands) number xs none less)
-sent_again_by client commands xs number (Ok (Some node)) e legal less =
-    let follows : FollowsAttempts client.links client.settings.budget (first_to node) (args_of commands) xs = rw e at legal in
-    followed client.links client.settings.budget (first_to node) (args_of commands) xs number follows less
+sent_again_by client commands xs number (Err refusal) none less = absurd (none_left (width commands) number xs none less)
+sent_again_by client commands xs number (Ok []) none less = absurd (none_left (width commands) number xs none less)
+sent_again_by client commands xs number (Ok (d ∷ ds)) follows less = followed client.links client.settings.budget (first_hop d) (args_of commands) xs number follows less
 
 pub only_not_done_is_sent_again : OnlyNotDoneIsSentAgain
-only_not_done_is_sent_again client commands xs number legal less = sent_again_by client commands xs number (transaction_plan client commands) refl legal less
+only_not_done_is_sent_again client picks commands xs number legal less = sent_again_by client commands xs number (plan client picks (Transaction commands)) legal less

@@ -1,14 +1,14 @@
 -- The one answer to a pipeline from the outcomes of its positions.
-use Rattle.std.specs.Prelude.{filter, filter_map, ◌&&◌, ◌||◌, ◌==◌, is_none, unwrap_or, MatchBool}
+use Rattle.std.specs.Prelude.{filter, ◌&&◌, ◌||◌, ◌==◌, MatchBool}
 use Rattle.std.specs.List.{list_any, AllByRecursion}
 use Rattle.std.proofs.Common.{◌≡◌, ◌≢◌, ℕ, Bool, true, false, cond, List, [], ◌∷◌, ◌++◌, map, length, take, drop, take-append-drop, append-nil, Option, Some, None, Result, Ok, Err, refl, sym, ap, ◌∙◌, subst, eqb-true}
 use Rattle.std.proofs.lemmas.Bool.{false≢true}
-use Rattle.resp_args.specs.Packed.{sent}
 use Rattle.resp_core.specs.Trees.{Tree, nil, int, bulk, array, simple, okay, attribute, set, double, boolean, verbatim, big_number, push, server_error, ErrorText}
 use Rattle.resp_core.specs.Trees as trees
 use Rattle.resp_core.specs.Errors.{Refusal, server_kind}
 use Rattle.resp_core.specs.declared.errors.server_error.ServerErrorKind.{ServerErrorKind}
 use Rattle.resp_core.specs.declared.errors.server_error.ServerErrorKind.TheVariants as kinds
+use Rattle.resp_args.specs.Packed.{sent}
 use Rattle.cluster_routing.specs.Address.{Address, same_address}
 use Rattle.cluster_routing.specs.Combine.{array_of}
 use Rattle.cluster_routing.specs.Lists.{among, draw, group_by_group, Pairwise}
@@ -17,12 +17,12 @@ use Rattle.cluster_calls.specs.Links.Faults.{LinkFault, io, grammar, refusal_by_
 use Rattle.cluster_calls.specs.Links.Log.{Exchange, is_unanswered, has_lost}
 use Rattle.cluster_calls.specs.Links.PipeReplies.{errors_in, pipeline_result}
 use Rattle.cluster_calls.specs.Links.Request.{Request}
-use Rattle.cluster_calls.specs.Calls.Answer.{Answer, Value, answer_of, unless}
-use Rattle.cluster_calls.specs.Calls.Call.{Entry, Pipeline}
+use Rattle.cluster_calls.specs.Calls.Answer.{Value}
+use Rattle.cluster_calls.specs.Calls.Call.{Entry}
 use Rattle.cluster_calls.specs.Calls.Each.{fate_by_kind, refusal_where, link_refusal, reply_in, reply_outcome, outcome_of, exchanges_with, position_exchanges, each_of, answer_of_each}
-use Rattle.cluster_calls.specs.Calls.Legal.{NodeByNode, direct, node_groups, nodes_in_use}
+use Rattle.cluster_calls.specs.Calls.Legal.{NodeByNode, node_groups, nodes_in_use}
 use Rattle.cluster_calls.specs.Calls.Parts.{result_then}
-use Rattle.cluster_calls.specs.Calls.Plan.{Client, Dispatch, plan}
+use Rattle.cluster_calls.specs.Calls.Plan.{Client, Dispatch, unless}
 use Rattle.cluster_calls.specs.Calls.Refusals.{errors_from, errors_refusal, pipeline_refusal}
 use Rattle.cluster_calls.specs.Calls.Replies.{args_slot, exchange_slot, in_pipeline_order, pipeline_reply, not_ignored, reply_or_nil, with_slot}
 use Rattle.cluster_calls.specs.Calls.Task.{first_refusal}
@@ -38,7 +38,7 @@ use Rattle.cluster_calls.proofs.LogLaws.PipePlans.{primary_of}
 use Rattle.cluster_calls.proofs.ServerLaws.Distinct.{among-firsts}
 use Rattle.cluster_calls.proofs.ServerLaws.Draw.{draw_self}
 use Rattle.cluster_calls.proofs.ServerLaws.Grouping.{all-append}
-use Rattle.cluster_calls.proofs.ServerLaws.Pipes.{IsSent, IsPipeDispatch, IsEntryDispatch, any-front, sent_pairs}
+use Rattle.cluster_calls.proofs.ServerLaws.Pipes.{IsSent, IsPipeDispatch, IsEntryDispatch, sent_pairs}
 
 -- ---- an outcome that is a reply
 

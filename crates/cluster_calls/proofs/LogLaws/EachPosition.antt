@@ -1,14 +1,13 @@
 -- The exchange of each position of a pipeline: its own request's, or none where its node was not asked.
-use Rattle.std.specs.Prelude.{filter, filter_map, ◌&&◌, ◌||◌, is_none, MatchBool}
-use Rattle.std.specs.List.{list_any, AllByRecursion, cons_option}
-use Rattle.std.proofs.Common.{◌≡◌, ◌≢◌, ℕ, suc, Bool, true, false, cond, List, [], ◌∷◌, ◌++◌, map, length, Option, Some, None, refl, sym, ap, ◌∙◌, subst}
-use Rattle.std.proofs.lemmas.Bool.{false≢true}
+use Rattle.std.specs.Prelude.{filter, ◌&&◌, ◌||◌, MatchBool}
+use Rattle.std.specs.List.{AllByRecursion, cons_option}
+use Rattle.std.proofs.Common.{◌≡◌, Bool, true, false, cond, List, [], ◌∷◌, Option, Some, None, refl, sym, ap, ◌∙◌, subst}
 use Rattle.cluster_routing.specs.Address.{Address, same_address}
-use Rattle.cluster_routing.specs.Lists.{among, IsDistinct, Pairwise, group_by_group, rest}
+use Rattle.cluster_routing.specs.Lists.{among, IsDistinct, Pairwise, rest}
 use Rattle.cluster_calls.specs.Links.Log.{Exchange, is_unanswered, has_lost}
 use Rattle.cluster_calls.specs.Links.Request.{Request}
 use Rattle.cluster_calls.specs.Calls.Each.{exchanges_with, first_exchange, without_first_with, each_exchange, nodes_of, position_exchanges}
-use Rattle.cluster_calls.specs.Calls.Legal.{NodeByNode, direct, node_groups, nodes_in_use}
+use Rattle.cluster_calls.specs.Calls.Legal.{NodeByNode, node_groups, nodes_in_use}
 use Rattle.cluster_calls.specs.Calls.Plan.{Dispatch}
 use Rattle.cluster_calls.specs.OneServer.Fates.{exchanges_in}
 use Rattle.cluster_calls.proofs.LinkLaws.Addresses.{same_true, same_refl}

@@ -1,7 +1,7 @@
 -- What became of each position of a pipeline that tells of each.
 use Rattle.std.specs.Prelude.{MatchBool, is_none, unwrap_or}
 use Rattle.std.specs.List.{AllByRecursion}
-use Rattle.std.proofs.Common.{◌≡◌, ℕ, suc, Bool, true, false, cond, List, [], ◌∷◌, map, length, Option, Some, None, Result, Ok, Err, MatchResult, refl, sym, ap, ◌∙◌, subst}
+use Rattle.std.proofs.Common.{◌≡◌, suc, Bool, true, false, cond, List, [], ◌∷◌, map, length, Option, Some, None, Result, Ok, Err, MatchResult, refl, sym, ap, ◌∙◌, subst}
 use Rattle.std.proofs.lemmas.Bool.{false≢true}
 use Rattle.std.proofs.lemmas.List.{length-map}
 use Rattle.resp_core.specs.Trees.{Tree, nil, int, bulk, array, simple, okay, attribute, set, double, boolean, verbatim, big_number, push, server_error, ErrorText}
@@ -11,9 +11,8 @@ use Rattle.resp_core.specs.Errors.{Refusal, server_kind}
 use Rattle.resp_core.specs.declared.errors.server_error.ServerErrorKind.{ServerErrorKind}
 use Rattle.resp_core.specs.declared.errors.server_error.ServerErrorKind.TheVariants as kinds
 use Rattle.cluster_routing.specs.Address.{Address, same_address}
-use Rattle.cluster_routing.specs.Choice.{Strategy}
 use Rattle.cluster_routing.specs.Lists.{Pairwise}
-use Rattle.cluster_calls.specs.Links.EachMade.{EachMade, told_of, refusals_of}
+use Rattle.cluster_calls.specs.Links.EachMade.{told_of, refusals_of}
 use Rattle.cluster_calls.specs.Links.Happened.{client_of}
 use Rattle.cluster_calls.specs.Links.Log.{Exchange, requests, has_lost}
 use Rattle.cluster_calls.specs.Links.Reply.{error_sort, inner_sort, sort_of}

@@ -4,8 +4,9 @@ use Rattle.resp_core.specs.Errors.{Refusal}
 use Rattle.cluster_routing.specs.Address.{Address}
 use Rattle.cluster_calls.specs.Calls.Call.{Call}
 use Rattle.cluster_calls.specs.Calls.Task.{Task, task_of, early_refusal}
-use Rattle.cluster_calls.specs.Calls.Parts.{Part, result_then, task_parts}
-use Rattle.cluster_calls.specs.Calls.Plan.{Client, Dispatch, dispatches, in_order, order_of, unless_refused, plan}
+use Rattle.cluster_calls.specs.Calls.Parts.{Part, result_then}
+use Rattle.cluster_calls.specs.Calls.Plan.{Client, Dispatch, dispatches, in_order, order_of, unless, plan}
+use Rattle.cluster_calls.specs.Calls.TaskParts.{task_parts}
 
 -- the parts of a call, their dispatches, and these in the order of sending
 pub record Planned (client : Client) (picks : List Address) (task : Task) (ds : List Dispatch) : Type 0 where
@@ -28,7 +29,7 @@ planned client picks call ds e = at_early (early_refusal call) e
     at_parts (Ok parts) p e = at_found parts p (dispatches client picks parts) refl e
     at_parts (Err r) p e = cc
 
-    at_early : (o : Option Refusal) → result_then (unless_refused o (task_parts client.settings.read_only client.entries (task_of call))) (λ parts. result_then (dispatches client picks parts) (λ es. Ok (in_order (order_of (task_of call)) es))) ≡ Ok ds
+    at_early : (o : Option Refusal) → result_then (unless o (task_parts client.settings.read_only client.entries (task_of call))) (λ parts. result_then (dispatches client picks parts) (λ es. Ok (in_order (order_of (task_of call)) es))) ≡ Ok ds
         → Planned client picks (task_of call) ds
     at_early None e = at_parts (task_parts client.settings.read_only client.entries (task_of call)) refl e
     at_early (Some r) e = cc

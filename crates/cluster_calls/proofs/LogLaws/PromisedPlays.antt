@@ -1,20 +1,19 @@
 -- Two plays of the same calls over devices that promise to refuse none.
-use Rattle.std.specs.Prelude.{not, filter}
 use Rattle.std.specs.List.{AllByRecursion}
 use Rattle.std.specs.Io.KnownBytes.{Appends, Consumes, IsAtEnd, prepend_known}
-use Rattle.std.proofs.Common.{◌≡◌, ◌≢◌, ◌≤◌, ◌<◌, ◌⊎◌, ◌&&◌, ◌||◌, ◌+◌, ◌^◌, ℕ, suc, Bool, true, false, cond, List, [], ◌∷◌, ◌++◌, map, length, Option, Some, None, refl, sym, ap, ◌∙◌, subst, inl, inr, arith, append_assoc, append-nil}
+use Rattle.std.proofs.Common.{◌≡◌, ◌≤◌, ◌⊎◌, ◌&&◌, ◌||◌, ℕ, suc, Bool, true, false, cond, List, [], ◌∷◌, ◌++◌, map, length, Option, Some, None, refl, sym, ap, ◌∙◌, subst, inl, inr, arith, append_assoc, append-nil}
 use Rattle.std.proofs.lemmas.Bool.{false≢true}
 use Rattle.std.proofs.lemmas.List.Elements.{filter-append}
 use Rattle.resp_core.specs.Trees.{Tree}
 use Rattle.resp_core.specs.Counts.{counted}
-use Rattle.resp_core.specs.Errors.{Refusal, by_cause}
-use Rattle.resp_core.specs.declared.errors.redis_error.Cause.TheVariants.{Io, Parse, Memory}
+use Rattle.resp_core.specs.Errors.{by_cause}
+use Rattle.resp_core.specs.declared.errors.redis_error.Cause.TheVariants.{Io, Parse}
 use Rattle.resp_core.specs.Incoming.{Reading, Takes, Awaits, SpelledInOrder}
-use Rattle.resp_core.specs.Promise.{refuses_none, MayRefuse}
+use Rattle.resp_core.specs.Promise.{MayRefuse}
 use Rattle.resp_core.specs.Standing.{BeginsFaulty, BeginsUnfinished}
 use Rattle.resp_core.proofs.GivenReads.{given_in}
 use Rattle.resp_core.proofs.Readings.{SpelledInOrder-append}
-use Rattle.resp_link.specs.Replies.{is_push, replies_of}
+use Rattle.resp_link.specs.Replies.{replies_of}
 use Rattle.resp_link.specs.Call.{Seen, SendFails, ReadFails, at_start}
 use Rattle.cluster_routing.specs.Address.{Address, same_address}
 use Rattle.cluster_routing.specs.Lists.{concat}
@@ -22,13 +21,13 @@ use Rattle.cluster_calls.specs.Calls.Call.{Call}
 use Rattle.cluster_calls.specs.Links.Request.{Request, bytes_of}
 use Rattle.cluster_calls.specs.Links.Log.{Exchange, exchanges, has_lost, left_after, replies, reply_at, is_unanswered}
 use Rattle.cluster_calls.specs.Links.Faults.{LinkFault, io, grammar, refusal_by_fault}
-use Rattle.cluster_calls.specs.Links.Events.{Event, AllTo, FailsFrom, in_sending, in_receiving, LinkCalled, Runs, log_of, taken_of, reply_count}
+use Rattle.cluster_calls.specs.Links.Events.{Event, AllTo, FailsFrom, in_sending, in_receiving, Runs, log_of, taken_of, reply_count}
 use Rattle.cluster_calls.specs.Links.Happened.{client_of}
-use Rattle.cluster_calls.specs.Links.Nodes.{Came, IsSentFor, LostBy, NodeMade, NodesMade, coming, is_in_sending}
+use Rattle.cluster_calls.specs.Links.Nodes.{IsSentFor, LostBy, NodeMade, is_in_sending}
 use Rattle.cluster_calls.specs.Links.Play.{Plays, Shown, shown_of}
 use Rattle.cluster_calls.specs.Links.Run.{HadMemory, whole_log, run_calls}
-use Rattle.cluster_calls.specs.Links.World.{Node, World, link_at, set_link}
-use Rattle.cluster_calls.specs.OneServer.Headline.{PlayedCall, with_replies, with_replies_from, IsPlayedFrom}
+use Rattle.cluster_calls.specs.Links.World.{Node, World, link_at}
+use Rattle.cluster_calls.specs.OneServer.Headline.{PlayedCall, IsPlayedFrom}
 use Rattle.cluster_calls.specs.OneServer.PromisedPlays.{IsPromised, ArePromised, HadRoom, SentSame}
 use Rattle.cluster_calls.proofs.LinkLaws.Addresses.{same_true}
 use Rattle.cluster_calls.proofs.LinkLaws.EndLaws.{fault_is_no_memory}

@@ -9,7 +9,7 @@ use Rattle.cluster_calls.specs.Links.Request.{Request}
 use Rattle.cluster_calls.specs.Links.Reply.{Sort, Moved, Ask, Failed, Data, sort_of}
 use Rattle.cluster_calls.specs.Links.Log.{Exchange, is_answered}
 use Rattle.cluster_calls.specs.Calls.Call.{Call}
-use Rattle.cluster_calls.specs.Calls.Task.{Task, slot_map_of, one_command, pipeline_of, several_nodes, one_node, read_of, task_of}
+use Rattle.cluster_calls.specs.Calls.Task.{Task, slot_map_of, one_command, pipeline_of, several_nodes, one_node, read_of, task_of, transaction_of}
 use Rattle.cluster_calls.specs.Calls.Plan.{Client, Dispatch, plan}
 use Rattle.cluster_calls.specs.Calls.Redirects.{Hop, Next, Stays, Lost, Goes, next_of, reply_next, sort_next, MatchNext, FollowsRedirects}
 use Rattle.cluster_calls.specs.Calls.Legal.{first_hop, PartByPart, AreMade, IsLegalCall}
@@ -75,6 +75,7 @@ made_in_parts client (slot_map_of node) ds xs p m = absurd (false≢true p)
 made_in_parts client (pipeline_of entries) ds xs p m = absurd (false≢true p)
 made_in_parts client (several_nodes command) ds xs p m = absurd (false≢true p)
 made_in_parts client (one_node node command) ds xs p m = absurd (false≢true p)
+made_in_parts client (transaction_of commands) ds xs p m = absurd (false≢true p)
 
 pub legal_repeats : (client : Client) (picks : List Address) (call : Call) (xs : List Exchange)
     → is_in_parts (task_of call) ≡ true → IsLegalCall client picks call xs → AreRepeatsRedirected xs

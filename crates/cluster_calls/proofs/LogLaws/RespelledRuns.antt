@@ -3,9 +3,11 @@ use Rattle.std.proofs.Common.{◌≡◌, ℕ, suc, ◌+◌, Bool, true, false, n
 use Rattle.std.specs.Prelude.{option_and_then, is_none, is_some, codes, slice_get}
 use Rattle.std.specs.List.{AllByRecursion, flat_map}
 use Rattle.std.proofs.lemmas.List.{append_assoc}
+use Rattle.std.proofs.lemmas.Bool.{false≢true}
 use Rattle.resp_core.specs.Trees.{Tree}
 use Rattle.resp_core.specs.Errors.{Refusal}
 use Rattle.resp_args.specs.Packed.{sent}
+use Rattle.resp_args.specs.Command.{Command}
 use Rattle.cluster_routing.specs.Address.{Address, same_address}
 use Rattle.cluster_routing.specs.Choice.{Strategy}
 use Rattle.cluster_routing.specs.Lists.{Pairwise}
@@ -17,25 +19,27 @@ use Rattle.stream_commands.specs.Respelled.{Respellable, read, range, claim}
 use Rattle.stream_commands.specs.EntryReplies.{range_reply, claim_reply}
 use Rattle.stream_commands.specs.ReadReply.{read_reply}
 use Rattle.stream_commands.proofs.Respellings.{respelled_read_alike}
+use Rattle.stream_commands.specs.Settings.{ReadSettings}
+use Rattle.stream_commands.specs.Commands.{plain_command}
 use Rattle.cluster_calls.specs.Links.Request.{Request, requests_to}
 use Rattle.cluster_calls.specs.Links.Log.{Exchange, exchanges, left_after, left_after_all, reply_at, is_unanswered, last_of, has_lost}
-use Rattle.stream_commands.specs.Settings.{ReadSettings}
-use Rattle.cluster_calls.specs.Calls.Call.{Stream, Xadd, Xtrim, Xread, Xrange, Xclaim, Xautoclaim, Xpending, XinfoStream, XinfoGroups, XinfoConsumers, XdelEx, Call, Refresh, Query, Ordered, Pipeline, FanOut, At, OnStreams}
-use Rattle.stream_commands.specs.Commands.{plain_command}
-use Rattle.cluster_calls.specs.Calls.Task.{Task, slot_map_of, one_command, pipeline_of, several_nodes, one_node, read_of, task_of, sentence, sentence_task, is_by_key, stream_keys}
+use Rattle.cluster_calls.specs.Calls.Call.{Stream, Xadd, Xtrim, Xread, Xrange, Xclaim, Xautoclaim, Xpending, XinfoStream, XinfoGroups, XinfoConsumers, XdelEx, Call, Refresh, Query, Ordered, Pipeline, FanOut, At, OnStreams, Transaction}
+use Rattle.cluster_calls.specs.Calls.Task.{Task, slot_map_of, one_command, pipeline_of, several_nodes, one_node, read_of, task_of, sentence, sentence_task, is_by_key, stream_keys, transaction_of}
 use Rattle.cluster_calls.specs.Calls.Parts.{result_then}
-use Rattle.cluster_calls.specs.Calls.Plan.{Client, plan}
+use Rattle.cluster_calls.specs.Calls.Plan.{Client, plan, unless}
 use Rattle.cluster_calls.specs.Calls.Legal.{IsLegalCall}
 use Rattle.cluster_calls.specs.Links.Faults.{LinkFault, refusal_by_fault}
 use Rattle.cluster_calls.specs.Calls.Replies.{outcome_by, outcomes, policy_in, reply_by_outcomes, in_pipeline_order, several_reply}
 use Rattle.cluster_calls.specs.Calls.Refusals.{refusal_in, direct_refusal, pipeline_refusal, errors_from, sent_refusal}
-use Rattle.cluster_calls.specs.Calls.Answer.{Answer, Read, Range, Claim, answer_in, task_answer, tree_in, unless, answer_of}
+use Rattle.cluster_calls.specs.Calls.Answer.{Answer, Read, Range, Claim, answer_in, task_answer, tree_in, answer_of}
 use Rattle.cluster_calls.specs.Calls.After.{map_after, links_after, client_after}
 use Rattle.cluster_calls.specs.OneServer.Headline.{PlayedCall, with_replies_from, IsPlayedFrom}
-use Rattle.cluster_calls.specs.OneServer.Respelling.{respelling, request_respellings, respellings, SayTheSame}
-use Rattle.cluster_calls.proofs.LogLaws.Alike.{AlikeReply, replied, AlikeExchange, any_alike, both_replied, legal_alike, part_refusal_alike, reply_alike, rows_alike}
+use Rattle.cluster_calls.specs.OneServer.Respelling.{respelling, request_respellings, respellings, SayTheSame, stream_respelling}
+use Rattle.cluster_calls.proofs.LogLaws.Alike.{AlikeReply, replied, AlikeExchange, any_alike, both_replied, legal_alike, part_refusal_alike, reply_alike, rows_alike, exchanges_equal}
 use Rattle.cluster_calls.proofs.LinkLaws.Addresses.{same_refl}
 use Rattle.cluster_calls.proofs.LogLaws.SameLogs.{replies_determine_logs}
+use Rattle.cluster_calls.proofs.LogLaws.LostFaults.{AgreeWhereLost, commands_same}
+use Rattle.cluster_calls.proofs.LogLaws.StreamTasks.{stream_tasks}
 
 -- ---- these commands are not split
 
@@ -55,23 +59,6 @@ claim_word : splitting_of (codes "XCLAIM") ≡ None
 unfolding splitting_of rule_of table
 claim_word = refl
 
--- ---- where nothing is respelled
-
-reply_equal : {r s : Option Tree} → AlikeReply None r s → r ≡ s
-reply_equal (replied h) = ap Some h
-
-abbrev made : Request → ℕ → Option Tree → Exchange
-made q p r = record { request = q; place = p; reply = r }
-
-exchange_equal : (x y : Exchange) → AlikeExchange None x y → x ≡ y
-exchange_equal x y h = ap (λ q. made q x.place x.reply) h.request ∙ ap (λ p. made y.request p x.reply) h.place ∙ ap (made y.request y.place) (reply_equal h.reply)
-
-exchanges_equal : (xs ys : List Exchange) → Pairwise (AlikeExchange None) xs ys → xs ≡ ys
-exchanges_equal [] [] h = refl
-exchanges_equal [] (y ∷ ys) h = absurd h
-exchanges_equal (x ∷ xs) [] h = absurd h
-exchanges_equal (x ∷ xs) (y ∷ ys) h = ap (λ z. z ∷ xs) (exchange_equal x y h.0) ∙ ap (λ zs. y ∷ zs) (exchanges_equal xs ys h.1)
-
 -- ---- where each request has its reply the links' faults do not matter
 
 abbrev AreReplied : List Exchange → Type 0
@@ -82,6 +69,10 @@ all_replied how [] [] h = tt
 all_replied how [] (y ∷ ys) h = absurd h
 all_replied how (x ∷ xs) [] h = absurd h
 all_replied how (x ∷ xs) (y ∷ ys) h = ((both_replied how x y h.0).0, all_replied how xs ys h.1)
+
+agree_replied : (faults faults' : Address → LinkFault) (xs : List Exchange) → AreReplied xs → AgreeWhereLost faults faults' xs
+agree_replied faults faults' [] h = tt
+agree_replied faults faults' (x ∷ xs) h = (λ lost. absurd (false≢true (sym h.0 ∙ lost)), agree_replied faults faults' xs h.1)
 
 outcome_same : (f g : LinkFault) (r : Option Tree) → is_none r ≡ false → outcome_by f r ≡ outcome_by g r
 outcome_same f g None h = cc
@@ -136,6 +127,7 @@ exact_answers client picks faults faults' call xs ys h =
     refused (pipeline_of entries) = pipeline_same faults faults' xs (errors_from 0 (in_pipeline_order entries xs)) fine
     refused (several_nodes command) = ap refusal_in (several_same faults faults' command xs fine)
     refused (one_node node command) = refresh_same faults faults' xs fine
+    refused (transaction_of commands) = ap refusal_in (commands_same faults faults' client commands xs (agree_replied faults faults' xs fine))
     refused (read_of options streams) = part_refusal_alike None client faults faults' xs xs itself
 
     told_same : (task : Task) → task_answer faults call task xs ≡ task_answer faults' call task xs
@@ -144,6 +136,7 @@ exact_answers client picks faults faults' call xs ys h =
     told_same (pipeline_of entries) = refl
     told_same (several_nodes command) = ap (λ r. option_and_then (answer_in call) (tree_in r)) (several_same faults faults' command xs fine)
     told_same (one_node node command) = refl
+    told_same (transaction_of commands) = refl
     told_same (read_of options streams) = refl
 
 -- ---- the calls whose replies may be respelled
@@ -163,6 +156,7 @@ answers_alike client picks faults faults' (Ordered command order number) xs ys h
 answers_alike client picks faults faults' (Pipeline entries) xs ys h = exact_answers client picks faults faults' (Pipeline entries) xs ys h
 answers_alike client picks faults faults' (FanOut command) xs ys h = exact_answers client picks faults faults' (FanOut command) xs ys h
 answers_alike client picks faults faults' (At node command) xs ys h = exact_answers client picks faults faults' (At node command) xs ys h
+answers_alike client picks faults faults' (Transaction commands) xs ys h = exact_answers client picks faults faults' (Transaction commands) xs ys h
 answers_alike client picks faults faults' (OnStreams (Xadd key options id fields)) xs ys h = exact_answers client picks faults faults' (OnStreams (Xadd key options id fields)) xs ys h
 answers_alike client picks faults faults' (OnStreams (Xtrim key options)) xs ys h = exact_answers client picks faults faults' (OnStreams (Xtrim key options)) xs ys h
 answers_alike client picks faults faults' (OnStreams (Xread streams options)) xs ys h = by (is_by_key options (stream_keys streams)) refl
@@ -219,6 +213,7 @@ map_alike entries (Ordered command order number) xs ys h = refl
 map_alike entries (Pipeline es) xs ys h = refl
 map_alike entries (FanOut command) xs ys h = refl
 map_alike entries (At node command) xs ys h = refl
+map_alike entries (Transaction commands) xs ys h = refl
 map_alike entries (OnStreams call) xs ys h = refl
 
 client_alike : (client : Client) (call : Call) (xs ys : List Exchange) → Pairwise (AlikeExchange (respelling call)) xs ys → client_after client call xs ≡ client_after client call ys
@@ -264,6 +259,18 @@ exchanged how (q ∷ qs) later queues queues' place h =
 
 -- ---- runs
 
+-- no reply to a transaction is respelled
+exact_transactions : (call : Call) (commands : List Command) → task_of call ≡ transaction_of commands → respelling call ≡ None
+exact_transactions (Refresh node) commands t = refl
+exact_transactions (Query command number) commands t = refl
+exact_transactions (Ordered command order number) commands t = refl
+exact_transactions (Pipeline entries) commands t = refl
+exact_transactions (FanOut command) commands t = refl
+exact_transactions (At node command) commands t = refl
+exact_transactions (Transaction all) commands t = refl
+exact_transactions (OnStreams call) commands t =
+    stream_tasks (λ task. task ≡ transaction_of commands → stream_respelling call ≡ None) (λ command number order e. cc) (λ options streams e. cc) call t
+
 abbrev calls_of : List PlayedCall → List Call
 calls_of ts = map (λ (t : PlayedCall). t.call) ts
 
@@ -288,7 +295,7 @@ runs_alike strategy strategy' client faults faults' queues queues' place (t ∷ 
     let calls : calls_of ts ≡ calls_of us = cc in
     let others : picks_of ts ≡ picks_of us = cc in
     let r = exchanged (respelling t.call) t.log (λ node. respellings node ts) queues queues' place s in
-    let legal = legal_alike (respelling t.call) client t.picks t.call (exchanges queues place t.log) (exchanges queues' place t.log) r.0 left.1 in
+    let legal = legal_alike (respelling t.call) client t.picks t.call (exact_transactions t.call) (exchanges queues place t.log) (exchanges queues' place t.log) r.0 left.1 in
     let legal' = subst (λ z. IsLegalCall client z t.call (exchanges queues' place u.log)) (sym picks) (subst (λ z. IsLegalCall client u.picks z (exchanges queues' place u.log)) (sym call) right.1) in
     let log : t.log ≡ u.log = replies_determine_logs client t.picks t.call queues' place t.log u.log legal legal' in
     let answered : answer_of client t.picks faults' t.call (exchanges queues' place t.log) ≡ answer_of client u.picks faults' u.call (exchanges queues' place u.log) =

@@ -9,14 +9,14 @@ use Rattle.cluster_routing.specs.Lists.{among, firsts}
 use Rattle.cluster_routing.specs.Parts.{Tuple, tuple_slot, argument_slots, group, groups}
 use Rattle.cluster_routing.specs.Routing.{part_to, to_some_parts, to_tuples, to_split, destination_by, role_of, destination}
 use Rattle.cluster_routing.specs.Split.{Split, Splitting, splitting_of, split_of, cut, join_split, part_tuples}
-use Rattle.cluster_routing.specs.Table.{split, rule_of}
+use Rattle.cluster_routing.specs.Table.{rule_of}
 use Rattle.cluster_routing.specs.declared.policy.MultiSlotArgPattern.{MultiSlotArgPattern}
 use Rattle.cluster_routing.specs.declared.policy.ResponsePolicy.{ResponsePolicy}
 use Rattle.cluster_routing.specs.declared.route.SlotAddr.{SlotAddr}
 use Rattle.cluster_routing.proofs.Places.{parts_share}
 use Rattle.cluster_routing.proofs.SplitWords.{firsts_twice, rule_is, split_firsts}
-use Rattle.cluster_calls.proofs.LogLaws.Plans.{has_tuple}
 use Rattle.cluster_routing.proofs.Recut.{cut_of, split_of_some}
+use Rattle.cluster_calls.proofs.LogLaws.Plans.{has_tuple}
 
 -- ---- the destination of a split command
 

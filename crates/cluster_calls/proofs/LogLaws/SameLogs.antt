@@ -1,17 +1,22 @@
 -- The replies determine the log.
-use Rattle.std.proofs.Common.{◌≡◌, ℕ, suc, ◌-◌, ◌||◌, Bool, true, false, List, [], ◌∷◌, map, length, take, drop, Result, Ok, Err, MatchResult, refl, sym, ap, ◌∙◌, subst}
+use Rattle.std.proofs.Common.{◌≡◌, ℕ, suc, ◌-◌, ◌||◌, Bool, true, false, List, [], ◌∷◌, map, length, take, drop, Result, Ok, Err, MatchResult, refl, sym, ap, ◌∙◌, subst, ◌+◌, ◌++◌, zero, arith}
 use Rattle.std.specs.Prelude.{MatchBool}
 use Rattle.std.specs.List.{list_any}
+use Rattle.std.proofs.lemmas.List.{take-append-drop}
 use Rattle.resp_core.specs.Trees.{Tree}
 use Rattle.resp_core.specs.Errors.{Refusal}
 use Rattle.cluster_routing.specs.Address.{Address}
 use Rattle.cluster_calls.specs.Links.Request.{Request}
-use Rattle.cluster_calls.specs.Links.Log.{Exchange, requests, exchanges, left_after, reply_at, is_answered, is_unanswered}
+use Rattle.cluster_calls.specs.Links.Log.{Exchange, requests, exchanges, left_after, reply_at, is_answered, is_unanswered, left_after_all}
 use Rattle.cluster_calls.specs.Calls.Call.{Call}
-use Rattle.cluster_calls.specs.Calls.Task.{Task, slot_map_of, one_command, pipeline_of, several_nodes, one_node, read_of, task_of}
+use Rattle.cluster_calls.specs.Calls.Task.{Task, slot_map_of, one_command, pipeline_of, several_nodes, one_node, read_of, task_of, transaction_of}
 use Rattle.cluster_calls.specs.Calls.Plan.{Client, Dispatch, plan}
 use Rattle.cluster_calls.specs.Calls.Redirects.{Hop, Next, Stays, Lost, Goes, next_of, MatchNext, FollowsRedirects}
-use Rattle.cluster_calls.specs.Calls.Legal.{first_hop, direct, PartByPart, NodeByNode, node_groups, AreMade, IsLegalCall}
+use Rattle.cluster_calls.specs.Calls.Legal.{first_hop, direct, PartByPart, NodeByNode, node_groups, AreMade, IsLegalCall, AttemptAfterAttempt}
+use Rattle.cluster_calls.specs.Calls.OneSlot.{args_of}
+use Rattle.cluster_calls.specs.Calls.Transactions.{FollowsAttempts, attempt, next_attempt, replies_in, size}
+use Rattle.cluster_calls.proofs.LogLaws.Attempts.{requests_length, size_of}
+use Rattle.cluster_calls.proofs.LogLaws.Sizes.{take_all, drop_all}
 
 -- ---- lists of requests
 
@@ -102,6 +107,79 @@ nodes_log : (groups : List (List Dispatch)) → Determines (NodeByNode groups)
 nodes_log [] queues place left right h k = both_none queues place left right h k
 nodes_log (group ∷ groups) queues place left right h k = under group groups (nodes_log groups) false queues place left right h k
 
+-- ---- attempts at a transaction
+
+pub exchanges_then : (qs rs : List Request) (f : Address → List Tree) (place : ℕ) → exchanges f place (qs ++ rs) ≡ exchanges f place qs ++ exchanges (left_after_all f qs) (place + length qs) rs
+exchanges_then [] rs f place =
+    let z : place ≡ place + 0 = omega arith in
+    ap (λ p. exchanges f p rs) z
+exchanges_then (q ∷ qs) rs f place =
+    let z : suc place + length qs ≡ place + suc (length qs) = omega arith in
+    ap (λ xs. record { request = q; place = place; reply = reply_at (f q.node) q } ∷ xs)
+    (exchanges_then qs rs (left_after f q) (suc place) ∙ ap (λ p. exchanges (left_after f q) (suc place) qs ++ exchanges (left_after_all (left_after f q) qs) p rs) z)
+
+module _ (queues : Address → List Tree) (place n : ℕ) (qs rest : List Request) (e : length qs ≡ n) where
+  asked_length : length (exchanges queues place qs) ≡ n
+  asked_length = sym (requests_length (exchanges queues place qs)) ∙ ap length (asked_again queues place qs) ∙ e
+
+  -- a log that begins with so many requests begins with their exchanges
+  first_asked : take n (exchanges queues place (qs ++ rest)) ≡ exchanges queues place qs
+  first_asked = ap (take n) (exchanges_then qs rest queues place) ∙ take_all n (exchanges queues place qs) (exchanges (left_after_all queues qs) (place + length qs) rest) asked_length
+
+  then_asked : drop n (exchanges queues place (qs ++ rest)) ≡ exchanges (left_after_all queues qs) (place + length qs) rest
+  then_asked = ap (drop n) (exchanges_then qs rest queues place) ∙ drop_all n (exchanges queues place qs) (exchanges (left_after_all queues qs) (place + length qs) rest) asked_length
+
+requests_take : (n : ℕ) (xs : List Exchange) → requests (take n xs) ≡ take n (requests xs)
+requests_take zero xs = refl
+requests_take (suc n) [] = refl
+requests_take (suc n) (x ∷ xs) = ap (λ l. x.request ∷ l) (requests_take n xs)
+
+module _ (links : List Address) (commands : List (List (List ℕ))) where
+  abbrev n : ℕ
+  n = size commands
+
+  -- what is there behind an attempt with these exchanges
+  abbrev Goes-on : ℕ → List Exchange → List Exchange → Type 0
+  Goes-on left ys zs = MatchNext (next_attempt links (suc left) (replies_in ys)) (zs ≡ []) (λ next. FollowsAttempts links left next commands zs)
+
+  begins : (hop : Hop) (queues : Address → List Tree) (place : ℕ) (log : List Request) → requests (take n (exchanges queues place log)) ≡ attempt hop commands → log ≡ attempt hop commands ++ drop n log
+  begins hop queues place log e =
+      let front : take n log ≡ attempt hop commands = ap (take n) (sym (asked_again queues place log)) ∙ sym (requests_take n (exchanges queues place log)) ∙ e in
+      sym (take-append-drop n log) ∙ ap (λ qs. qs ++ drop n log) front
+
+  behind : (left : ℕ) (hop : Hop) (queues : Address → List Tree) (place : ℕ) (log : List Request) → FollowsAttempts links (suc left) hop commands (exchanges queues place log)
+      → Goes-on left (exchanges queues place (attempt hop commands)) (exchanges (left_after_all queues (attempt hop commands)) (place + length (attempt hop commands)) (drop n log))
+  behind left hop queues place log h =
+      let whole = begins hop queues place log h.0 in
+      let first : take n (exchanges queues place log) ≡ exchanges queues place (attempt hop commands) =
+      ap (λ l. take n (exchanges queues place l)) whole ∙ first_asked queues place n (attempt hop commands) (drop n log) (size_of hop commands) in
+      let rest : drop n (exchanges queues place log) ≡ exchanges (left_after_all queues (attempt hop commands)) (place + length (attempt hop commands)) (drop n log) =
+      ap (λ l. drop n (exchanges queues place l)) whole ∙ then_asked queues place n (attempt hop commands) (drop n log) (size_of hop commands) in
+      subst (λ zs. Goes-on left (exchanges queues place (attempt hop commands)) zs) rest (subst (λ ys. Goes-on left ys (drop n (exchanges queues place log))) first h.1)
+
+  attempts_log : (left : ℕ) (hop : Hop) → Determines (FollowsAttempts links left hop commands)
+  attempts_log zero hop queues place one other h k = sym (asked_again queues place one) ∙ h ∙ sym k ∙ asked_again queues place other
+  attempts_log (suc left) hop queues place one other h k =
+      begins hop queues place one h.0
+      ∙ ap (λ l. attempt hop commands ++ l) (by (next_attempt links (suc left) (replies_in (exchanges queues place (attempt hop commands)))) (behind left hop queues place one h) (behind left hop queues place other k)
+      (λ next f g. attempts_log left next (left_after_all queues (attempt hop commands)) (place + length (attempt hop commands)) (drop n one) (drop n other) f g))
+      ∙ sym (begins hop queues place other k.0)
+    where
+      later : Address → List Tree
+      later = left_after_all queues (attempt hop commands)
+
+      Rest : Next → List Request → Type 0
+      Rest next log = MatchNext next (exchanges later (place + length (attempt hop commands)) log ≡ []) (λ h. FollowsAttempts links left h commands (exchanges later (place + length (attempt hop commands)) log))
+
+      by : (next : Next) → Rest next (drop n one) → Rest next (drop n other) → ((hop : Hop) → Rest (Goes hop) (drop n one) → Rest (Goes hop) (drop n other) → drop n one ≡ drop n other) → drop n one ≡ drop n other
+      by Stays f g ih = both_none later (place + length (attempt hop commands)) (drop n one) (drop n other) f g
+      by Lost f g ih = both_none later (place + length (attempt hop commands)) (drop n one) (drop n other) f g
+      by (Goes next) f g ih = ih next f g
+
+transaction_log : (client : Client) (commands : List (List (List ℕ))) (ds : List Dispatch) → Determines (AttemptAfterAttempt client commands ds)
+transaction_log client commands [] queues place left right h k = both_none queues place left right h k
+transaction_log client commands (d ∷ ds) queues place left right h k = attempts_log client.links commands client.settings.budget (first_hop d) queues place left right h k
+
 -- ---- calls
 
 same_requests : (ds : List Dispatch) → Determines (λ xs. requests xs ≡ map direct ds)
@@ -113,6 +191,7 @@ made_log client (one_command command number order) ds = parts_log client ds
 made_log client (pipeline_of entries) ds = nodes_log (node_groups ds)
 made_log client (several_nodes command) ds = same_requests ds
 made_log client (one_node node command) ds = same_requests ds
+made_log client (transaction_of commands) ds = transaction_log client (args_of commands) ds
 made_log client (read_of options streams) ds = parts_log client ds
 
 pub replies_determine_logs : (client : Client) (picks : List Address) (call : Call) (queues : Address → List Tree) (place : ℕ) (left right : List Request)

@@ -1,9 +1,10 @@
 -- How many requests a call makes, and to which nodes a command to several nodes goes.
-use Rattle.std.proofs.Common.{◌≡◌, ℕ, suc, ◌+◌, ◌≤◌, Bool, true, false, cond, ◌||◌, List, [], ◌∷◌, map, filter, length, take, drop, Option, Some, None, Result, Ok, Err, MatchResult, refl, sym, ap, ◌∙◌, subst, arith}
-use Rattle.std.specs.Prelude.{MatchBool}
+use Rattle.std.proofs.Common.{◌≡◌, ℕ, suc, ◌+◌, ◌≤◌, Bool, true, false, cond, ◌||◌, List, [], ◌∷◌, map, filter, length, take, drop, Option, Some, None, Result, Ok, Err, MatchResult, refl, sym, ap, ◌∙◌, subst, arith, ◌++◌}
+use Rattle.std.specs.Prelude.{MatchBool, ◌*◌}
 use Rattle.std.specs.List.{list_any, flat_map}
 use Rattle.std.proofs.lemmas.Bool.{false≢true}
-use Rattle.std.proofs.lemmas.List.{take-append-drop, length-append}
+use Rattle.std.proofs.lemmas.List.{take-append-drop, length-append, length-map}
+use Rattle.std.proofs.Math.Nat.{mul-le-mul_right, mul_comm}
 use Rattle.resp_core.specs.Errors.{Refusal, by_cause}
 use Rattle.resp_core.specs.declared.errors.redis_error.Cause.TheVariants.{NoLink, NoResponse}
 use Rattle.resp_args.specs.Command.{Command}
@@ -12,23 +13,27 @@ use Rattle.cluster_routing.specs.Address.{Address, same_address}
 use Rattle.cluster_routing.specs.AllNodes.{all_nodes, all_primaries, node_sets, node_list}
 use Rattle.cluster_routing.specs.Laws.{AddressesAscend}
 use Rattle.cluster_routing.specs.Lists.{Pairwise, among, IsDistinct}
-use Rattle.cluster_routing.specs.Routing.{Destination, to_any_node, to_any_primary, to_route, to_address, to_all_nodes, to_all_primaries, to_parts, destination}
+use Rattle.cluster_routing.specs.Routing.{Destination, to_any_node, to_any_primary, to_route, to_address, to_all_nodes, to_all_primaries, to_parts, destination, route_to}
 use Rattle.cluster_routing.specs.SlotMap.{Nodes, SlotEntries}
+use Rattle.cluster_routing.specs.declared.route.SlotAddr.TheVariants.{Master}
 use Rattle.cluster_routing.proofs.OnceAscending.{each_address_once}
 use Rattle.cluster_calls.specs.Links.Log.{Exchange, requests, is_unanswered}
-use Rattle.cluster_calls.specs.Links.Request.{Request, slots_command}
+use Rattle.cluster_calls.specs.Links.Request.{Request, slots_command, multi, exec}
 use Rattle.cluster_calls.specs.Links.World.{is_linked}
 use Rattle.cluster_calls.specs.Calls.Call.{Call, Entry}
-use Rattle.cluster_calls.specs.Calls.Task.{Task, slot_map_of, one_command, pipeline_of, several_nodes, one_node, read_of, task_of}
-use Rattle.cluster_calls.specs.Calls.Parts.{Part, part_to, at_node, to_nodes, node_parts, with_whole, whole_part, reads_several_slots, if_one_slot, parts_of, pipeline_parts}
+use Rattle.cluster_calls.specs.Calls.Task.{Task, slot_map_of, one_command, pipeline_of, several_nodes, one_node, read_of, task_of, transaction_of}
+use Rattle.cluster_calls.specs.Calls.Parts.{Part, part_to, at_node, at_slot, to_nodes, node_parts, with_whole, whole_part, reads_several_slots, if_one_slot, parts_of, pipeline_parts, result_then}
 use Rattle.cluster_calls.specs.Calls.Plan.{Client, Dispatch, with_first, dispatches, plan}
-use Rattle.cluster_calls.specs.Calls.Legal.{direct, nodes_in_use, node_groups, NodeByNode, AreMade, IsLegalCall}
+use Rattle.cluster_calls.specs.Calls.Legal.{direct, nodes_in_use, node_groups, NodeByNode, AreMade, IsLegalCall, AttemptAfterAttempt, first_hop}
 use Rattle.cluster_calls.specs.OneServer.Laws.{request_bound}
+use Rattle.cluster_calls.specs.Calls.OneSlot.{args_of, common_slot, parts_at}
+use Rattle.cluster_calls.specs.Calls.Transactions.{size}
 use Rattle.cluster_calls.proofs.LogLaws.Bounds.{parts_bound}
 use Rattle.cluster_calls.proofs.ServerLaws.Distinct.{firsts_distinct}
 use Rattle.cluster_calls.proofs.LinkLaws.Addresses.{same_true}
 use Rattle.cluster_calls.proofs.LogLaws.Planned.{Planned, planned}
 use Rattle.cluster_calls.proofs.LogLaws.Plans.{IsFor, dispatches_for}
+use Rattle.cluster_calls.proofs.LogLaws.Attempts.{counted}
 
 -- ---- lengths
 
@@ -151,6 +156,36 @@ one_node_bound client picks call node command ds xs t e h = by command.no_respon
     by true f = cc
     by false f = one_part_bound client picks (one_node node command) ds xs p (ap length p.ordered) (part_to (sent command) (at_node node)) (cc) h
 
+-- the parts of a transaction, where it has any, are an attempt's requests
+transaction_size : (client : Client) (picks : List Address) (commands : List Command) (d : Dispatch) (ds : List Dispatch) (p : Planned client picks (transaction_of commands) (d ∷ ds)) → length (d ∷ ds) ≡ size (args_of commands)
+transaction_size client picks commands d ds p = by (common_slot 0 None commands) p.parts_are
+  where
+    same : length p.parts ≡ length (d ∷ ds)
+    same = pair_length IsFor p.parts p.found (dispatches_for client p.parts picks p.found p.found_are) ∙ ap length p.ordered
+
+    sized : (slot : ℕ) → length (parts_at (args_of commands) (Some slot)) ≡ size (args_of commands)
+    sized slot =
+        let m : length (parts_at (args_of commands) (Some slot)) ≡ length (multi ∷ args_of commands ++ exec ∷ []) = length-map (multi ∷ args_of commands ++ exec ∷ []) (λ args. part_to args (at_slot (route_to Master slot))) in
+        let l : length (args_of commands ++ exec ∷ []) ≡ length (args_of commands) + 1 = length-append (args_of commands) (exec ∷ []) in
+        omega (arith, m, l)
+
+    by : (common : Result (Option ℕ) Refusal) → result_then common (λ slot. Ok (parts_at (args_of commands) slot)) ≡ Ok p.parts → length (d ∷ ds) ≡ size (args_of commands)
+    by (Err refusal) e = cc
+    by (Ok None) e = let none : [] ≡ p.parts = cc in let l : 0 ≡ length p.parts = ap length none in absurd (omega (arith, l, same))
+    by (Ok (Some slot)) e = let parts : parts_at (args_of commands) (Some slot) ≡ p.parts = cc in sym same ∙ sym (ap length parts) ∙ sized slot
+
+transaction_bound : (client : Client) (picks : List Address) (call : Call) (commands : List Command) (ds : List Dispatch) (xs : List Exchange) → task_of call ≡ transaction_of commands → plan client picks call ≡ Ok ds
+    → AttemptAfterAttempt client (args_of commands) ds xs → length xs ≤ length ds * suc client.settings.budget
+transaction_bound client picks call commands [] xs t e none = let l : length xs ≡ 0 = ap length none in omega (arith, l)
+transaction_bound client picks call commands (d ∷ ds) xs t e follows =
+    let c = counted client.links client.settings.budget (first_hop d) (args_of commands) xs follows in
+    let long = transaction_size client picks commands d ds (subst (λ task. Planned client picks task (d ∷ ds)) t (planned client picks call (d ∷ ds) e)) in
+    let few : c.0 * size (args_of commands) ≤ suc client.settings.budget * size (args_of commands) = mul-le-mul_right (size (args_of commands)) c.2 in
+    let turned : suc client.settings.budget * size (args_of commands) ≡ size (args_of commands) * suc client.settings.budget = mul_comm (suc client.settings.budget) (size (args_of commands)) in
+    let whole : size (args_of commands) * suc client.settings.budget ≡ length (d ∷ ds) * suc client.settings.budget = ap (λ n. n * suc client.settings.budget) (sym long) in
+    let l = c.1 in
+    omega (arith, few, turned, whole, l)
+
 pub requests_are_bounded : (client : Client) (picks : List Address) (call : Call) (ds : List Dispatch) (xs : List Exchange)
     → plan client picks call ≡ Ok ds → IsLegalCall client picks call xs → length xs ≤ request_bound client.settings.budget (length ds) (task_of call)
 requests_are_bounded client picks call ds xs e legal = by (task_of call) refl (subst (λ o. MatchResult o (λ ds. AreMade client (task_of call) ds xs) (λ refusal. xs ≡ [])) e legal)
@@ -161,6 +196,7 @@ requests_are_bounded client picks call ds xs e legal = by (task_of call) refl (s
     by (pipeline_of entries) t m = pipeline_bound client picks call entries ds xs t e m
     by (several_nodes command) t m = let s = sent_length xs ds m in omega (arith, s)
     by (one_node node command) t m = one_node_bound client picks call node command ds xs t e m
+    by (transaction_of commands) t m = transaction_bound client picks call commands ds xs t e m
     by (read_of options streams) t m = parts_bound client ds xs m
 
 -- ---- several nodes

@@ -2,12 +2,12 @@
 use Rattle.std.proofs.Common.{◌≡◌, ℕ, Bool, List, [], ◌∷◌, ◌++◌, map, length, Some, Result, Ok, refl, sym, ap, ◌∙◌, subst}
 use Rattle.std.specs.List.{AllByRecursion}
 use Rattle.resp_core.specs.Trees.{Tree}
-use Rattle.cluster_routing.specs.Combine.{array_of}
-use Rattle.cluster_calls.specs.Calls.Replies.{not_ignored}
 use Rattle.resp_core.specs.Errors.{Refusal}
+use Rattle.cluster_routing.specs.Combine.{array_of}
 use Rattle.cluster_routing.specs.Lists.{concat, Pairwise}
+use Rattle.cluster_calls.specs.Calls.Replies.{not_ignored}
 use Rattle.cluster_calls.specs.Calls.Call.{Call}
-use Rattle.cluster_calls.specs.Calls.Task.{Task, slot_map_of, one_command, pipeline_of, several_nodes, one_node, read_of, task_of}
+use Rattle.cluster_calls.specs.Calls.Task.{Task, slot_map_of, one_command, pipeline_of, several_nodes, one_node, read_of, task_of, transaction_of}
 use Rattle.cluster_calls.specs.Calls.Answer.{Answer, Value, Read, answer_in}
 use Rattle.cluster_calls.specs.OneServer.Keyspace.{Keyspace}
 use Rattle.cluster_calls.specs.OneServer.Meaning.{Meaning, OneServer}
@@ -65,6 +65,10 @@ one_answer call (pipeline_of entries) a b responses h k =
     h.2 ∙ ap (λ ts. Value (array_of (not_ignored entries ts))) (same_replies h.0 k.0 (sym h.1 ∙ k.1)) ∙ sym k.2
 one_answer call (several_nodes command) a b responses h k = absurd h
 one_answer call (one_node node command) a b responses h k = absurd h
+one_answer call (transaction_of commands) a b responses h k =
+    let e : Reply h.0 ∷ [] ≡ Reply k.0 ∷ [] = sym h.1 ∙ k.1 in
+    let t : h.0 ≡ k.0 = cc in
+    h.2 ∙ ap Value t ∙ sym k.2
 one_answer call (read_of options streams) a b responses h k =
     let e : Rows (Some h.0) ∷ [] ≡ Rows (Some k.0) ∷ [] = sym h.1 ∙ k.1 in
     let r : h.0 ≡ k.0 = cc in

@@ -6,7 +6,7 @@ use Rattle.cluster_routing.specs.Choice.{Strategy}
 use Rattle.cluster_routing.specs.Address.{Address}
 use Rattle.cluster_routing.specs.Lists.{concat, Pairwise}
 use Rattle.cluster_calls.specs.Links.Faults.{LinkFault}
-use Rattle.cluster_calls.specs.Calls.Call.{Call, Refresh, Query, Ordered, Pipeline, FanOut, At, OnStreams}
+use Rattle.cluster_calls.specs.Calls.Call.{Call, Refresh, Query, Ordered, Pipeline, FanOut, At, OnStreams, Transaction}
 use Rattle.cluster_calls.specs.Calls.Plan.{Client}
 use Rattle.cluster_calls.specs.Calls.Task.{task_of}
 use Rattle.cluster_calls.specs.Calls.Answer.{Answer}
@@ -31,6 +31,7 @@ same_operations (Ordered command order number) = refl
 same_operations (Pipeline entries) = refl
 same_operations (FanOut command) = refl
 same_operations (At node command) = refl
+same_operations (Transaction commands) = refl
 same_operations (OnStreams call) = refl
 
 same_answer : (call : Call) (a : Answer) (rs : List Response) → IsTaskAnswer call (task_of call) a rs → IsTaskAnswer (in_any_order call) (task_of (in_any_order call)) a rs
@@ -40,6 +41,7 @@ same_answer (Ordered command order number) a rs h = h
 same_answer (Pipeline entries) a rs h = h
 same_answer (FanOut command) a rs h = h
 same_answer (At node command) a rs h = h
+same_answer (Transaction commands) a rs h = h
 same_answer (OnStreams call) a rs h = h
 
 same_slots : (call : Call) → is_on_slots (in_any_order call) ≡ is_on_slots call
@@ -49,6 +51,7 @@ same_slots (Ordered command order number) = refl
 same_slots (Pipeline entries) = refl
 same_slots (FanOut command) = refl
 same_slots (At node command) = refl
+same_slots (Transaction commands) = refl
 same_slots (OnStreams call) = refl
 
 same_counting : (done : ℕ → Bool) (t : RepliedCall) → IsAnswered t → counting done (in_any_order t.call) t.answer t.log ≡ counting done t.call t.answer t.log

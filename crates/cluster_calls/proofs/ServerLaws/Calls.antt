@@ -14,18 +14,19 @@ use Rattle.cluster_routing.specs.Split.{Split, split_of}
 use Rattle.cluster_calls.specs.Links.Log.{Exchange, behind_answers}
 use Rattle.cluster_calls.specs.Calls.Call.{Call}
 use Rattle.cluster_calls.specs.Calls.Task.{Task, one_command, task_of, early_refusal}
-use Rattle.cluster_calls.specs.Calls.Parts.{Part, result_then, parts_of, fits_order, if_ordered, task_parts}
-use Rattle.cluster_calls.specs.Calls.Plan.{Client, Dispatch, dispatches, in_order, order_of, unless_refused, plan}
+use Rattle.cluster_calls.specs.Calls.Parts.{Part, result_then, parts_of, fits_order, if_ordered}
+use Rattle.cluster_calls.specs.Calls.Plan.{Client, Dispatch, dispatches, in_order, order_of, unless, plan}
 use Rattle.cluster_calls.specs.Calls.Legal.{PartByPart, AreMade, IsLegalCall}
 use Rattle.cluster_calls.specs.Links.Faults.{LinkFault}
 use Rattle.cluster_calls.specs.Calls.Replies.{part_replies, reply_of_parts}
 use Rattle.cluster_calls.specs.Calls.Refusals.{part_refusal, sent_refusal}
-use Rattle.cluster_calls.specs.Calls.Answer.{Answer, answer_in, task_answer, unless, answer_of}
+use Rattle.cluster_calls.specs.Calls.Answer.{Answer, answer_in, task_answer, answer_of}
 use Rattle.cluster_calls.specs.OneServer.Keyspace.{Step}
 use Rattle.cluster_calls.specs.OneServer.Meaning.{Meaning}
 use Rattle.cluster_calls.specs.OneServer.Honest.{is_counted}
 use Rattle.cluster_calls.specs.OneServer.Commands.{task_operations, kept_of, kept_by, split_with, task_kept, counting, IsAnswerBy, IsTaskAnswer}
 use Rattle.cluster_calls.specs.OneServer.Operations.{Operation, RunCommand, Response, Reply, run_each}
+use Rattle.cluster_calls.specs.Calls.TaskParts.{task_parts}
 use Rattle.cluster_calls.proofs.ServerLaws.Draw.{pairwise-nil}
 use Rattle.cluster_calls.proofs.ServerLaws.Pieces.{SamePieces, AccountsAs, HonestIn, ServedIn}
 use Rattle.cluster_calls.proofs.LogLaws.Plans.{IsFor, dispatches_for, sends_parts, role, split_parts_are, whole_part_is}
@@ -95,7 +96,7 @@ pub plan_sends : (client : Client) (picks : List Address) (call : Call) (command
 plan_sends client picks call command number order ds t e = at_early (early_refusal call) (subst at_task t e)
   where
     at_task : Task → Type 0
-    at_task task = result_then (unless_refused (early_refusal call) (task_parts client.settings.read_only client.entries task)) (λ parts. result_then (dispatches client picks parts) (λ es. Ok (in_order (order_of task) es))) ≡ Ok ds
+    at_task task = result_then (unless (early_refusal call) (task_parts client.settings.read_only client.entries task)) (λ parts. result_then (dispatches client picks parts) (λ es. Ok (in_order (order_of task) es))) ≡ Ok ds
 
     sent_by : (parts : List Part) → parts_of client.settings.read_only command number ≡ Ok parts → fits_order order (length parts) ≡ true → (o : Result (List Dispatch) Refusal) → dispatches client picks parts ≡ o
         → result_then o (λ es. Ok (in_order order es)) ≡ Ok ds → Sends (sent command) ds (split_of (sent command))
@@ -114,7 +115,7 @@ plan_sends client picks call command number order ds t e = at_early (early_refus
     at_parts (Ok parts) p g = at_fit parts p (fits_order order (length parts)) refl g
     at_parts (Err r) p g = cc
 
-    at_early : (o : Option Refusal) → result_then (unless_refused o (task_parts client.settings.read_only client.entries (one_command command number order))) (λ parts. result_then (dispatches client picks parts) (λ es. Ok (in_order order es))) ≡ Ok ds
+    at_early : (o : Option Refusal) → result_then (unless o (task_parts client.settings.read_only client.entries (one_command command number order))) (λ parts. result_then (dispatches client picks parts) (λ es. Ok (in_order order es))) ≡ Ok ds
         → Sends (sent command) ds (split_of (sent command))
     at_early None g = at_parts (parts_of client.settings.read_only command number) refl g
     at_early (Some r) g = cc

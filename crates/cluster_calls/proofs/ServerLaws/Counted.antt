@@ -13,24 +13,27 @@ use Rattle.cluster_calls.specs.Links.Log.{Exchange, is_data, is_data_reply, is_a
 use Rattle.cluster_calls.specs.OneServer.Keyspace.{Step, on_slot}
 use Rattle.cluster_calls.specs.OneServer.Meaning.{Meaning}
 use Rattle.cluster_calls.specs.OneServer.Operations.{Operation}
-use Rattle.cluster_calls.proofs.ServerLaws.Pieces.{with_some, pieces, SamePieces, IsDoneAs, AccountsAs}
-use Rattle.cluster_calls.specs.OneServer.Honest.{is_counted}
+use Rattle.cluster_calls.specs.OneServer.Honest.{is_counted, counts}
 use Rattle.cluster_calls.specs.Calls.Plan.{Client, Dispatch}
 use Rattle.cluster_calls.specs.Calls.Redirects.{Hop, Next, Stays, Lost, Goes, next_of, reply_next, sort_next, MatchNext, FollowsRedirects}
 use Rattle.cluster_calls.specs.Calls.Legal.{PartByPart, first_hop}
 use Rattle.cluster_calls.specs.Links.Faults.{LinkFault}
 use Rattle.cluster_calls.specs.Calls.Refusals.{stop_refusal, last_refusal, part_refusal}
+use Rattle.cluster_calls.proofs.ServerLaws.Pieces.{with_some, pieces, SamePieces, IsDoneAs, AccountsAs}
 
 -- what accounts for a log accounts for its counted requests
+abbrev pub counted_by : (ℕ → Bool) → (List (List ℕ) → Operation) → List Exchange → List Exchange
+counted_by done operation xs = filter (λ (x : Exchange). counts done (operation x.request.args) x) xs
+
 pub counted_steps : (meaning : Meaning) (done : ℕ → Bool) (operation : List (List ℕ) → Operation) (xs : List Exchange) (ss : List (List Step)) → Pairwise (AccountsAs meaning done operation) xs ss
-    → (ts : List (List Step)) × Pairwise (IsDoneAs meaning operation) (filter (is_counted done) xs) ts × SamePieces ts ss
+    → (ts : List (List Step)) × Pairwise (IsDoneAs meaning operation) (counted_by done operation xs) ts × SamePieces ts ss
 counted_steps meaning done operation [] [] h = ([], tt, λ slot. refl)
 counted_steps meaning done operation [] (s ∷ ss) h = absurd h
 counted_steps meaning done operation (x ∷ xs) [] h = absurd h
-counted_steps meaning done operation (x ∷ xs) (s ∷ ss) h = by (is_counted done x) h.0 (counted_steps meaning done operation xs ss h.1)
+counted_steps meaning done operation (x ∷ xs) (s ∷ ss) h = by (counts done (operation x.request.args) x) h.0 (counted_steps meaning done operation xs ss h.1)
   where
-    by : (b : Bool) → MatchBool b (IsDoneAs meaning operation x s) (s ≡ []) → (ts : List (List Step)) × Pairwise (IsDoneAs meaning operation) (filter (is_counted done) xs) ts × SamePieces ts ss
-        → (ts : List (List Step)) × Pairwise (IsDoneAs meaning operation) (cond b (x ∷ filter (is_counted done) xs) (filter (is_counted done) xs)) ts × SamePieces ts (s ∷ ss)
+    by : (b : Bool) → MatchBool b (IsDoneAs meaning operation x s) (s ≡ []) → (ts : List (List Step)) × Pairwise (IsDoneAs meaning operation) (counted_by done operation xs) ts × SamePieces ts ss
+        → (ts : List (List Step)) × Pairwise (IsDoneAs meaning operation) (cond b (x ∷ counted_by done operation xs) (counted_by done operation xs)) ts × SamePieces ts (s ∷ ss)
     by true a r = (s ∷ r.0, (a, r.1), λ slot. ap (with_some (on_slot slot s)) (r.2 slot))
     by false a r = (r.0, r.1, λ slot. r.2 slot ∙ ap (λ q. with_some (on_slot slot q) (pieces slot ss)) (sym a))
 

@@ -1,19 +1,20 @@
 -- One server with a deterministic meaning has one outcome.
 use Rattle.std.proofs.Common.{◌≡◌, ℕ, List, [], ◌∷◌, ◌++◌, map, Option, Some, None, MatchOption, Contains, refl, sym, ap, ◌∙◌, subst}
 use Rattle.resp_core.specs.Trees.{Tree}
+use Rattle.resp_args.specs.declared.cmd.Arg.TheVariants.{Simple}
 use Rattle.cluster_routing.specs.Lists.{concat, Pairwise}
 use Rattle.cluster_routing.specs.Parts.{Tuple}
 use Rattle.cluster_routing.specs.Split.{Split, split_of}
-use Rattle.resp_args.specs.declared.cmd.Arg.TheVariants.{Simple}
 use Rattle.cluster_routing.specs.Routing.{destination}
 use Rattle.cluster_routing.specs.declared.policy.ResponsePolicy.{ResponsePolicy}
+use Rattle.cluster_routing.specs.Combine.{array_of}
 use Rattle.stream_commands.specs.Settings.{ReadSettings}
-use Rattle.cluster_calls.proofs.LogLaws.PipePlans.{leads_slot}
 use Rattle.cluster_calls.specs.Calls.Call.{Stream}
 use Rattle.cluster_calls.specs.OneServer.Keyspace.{Keyspace, Step, History, with_cell}
-use Rattle.cluster_calls.specs.OneServer.Meaning.{Meaning, DoCommand, DoOperation, DoesRead, rows_of_steps, DoesTuple, IsWholeStep, AreAllowed, DoAll, tree_of_steps, step_trees}
-use Rattle.cluster_calls.specs.OneServer.Operations.{Operation, RunCommand, ReadKeys, Response, Reply, Rows}
+use Rattle.cluster_calls.specs.OneServer.Meaning.{Meaning, DoCommand, DoOperation, DoesRead, rows_of_steps, DoesTuple, IsWholeStep, AreAllowed, DoAll, tree_of_steps, step_trees, DoesWhole}
+use Rattle.cluster_calls.specs.OneServer.Operations.{Operation, RunCommand, ReadKeys, Response, Reply, Rows, RunAsOne}
 use Rattle.cluster_calls.specs.OneServer.Laws.{IsDeterministic}
+use Rattle.cluster_calls.proofs.LogLaws.PipePlans.{leads_slot}
 use Rattle.cluster_calls.proofs.ServerLaws.Histories.{history_split, history_from}
 
 -- two steps of the meaning for one deed on one slot
@@ -75,12 +76,23 @@ twin_reads meaning options (s ∷ streams) (x ∷ xs) [] h k a b = absurd k
 twin_reads meaning options (s ∷ streams) (x ∷ xs) (y ∷ ys) h k a b =
     (record { deed = h.0.deed ∙ sym k.0.deed; slot = h.0.slot ∙ sym k.0.slot; left = a.0; right = b.0 }, twin_reads meaning options streams xs ys h.1 k.1 a.1 b.1)
 
+twin_whole : (meaning : Meaning) (commands : List (List (List ℕ))) (xs ys : List Step) → Pairwise DoesWhole commands xs → Pairwise DoesWhole commands ys → AreAllowed meaning xs → AreAllowed meaning ys → Pairwise (AreTwins meaning) xs ys
+twin_whole meaning [] [] [] h k a b = tt
+twin_whole meaning [] (x ∷ xs) ys h k a b = absurd h
+twin_whole meaning [] [] (y ∷ ys) h k a b = absurd k
+twin_whole meaning (c ∷ commands) [] ys h k a b = absurd h
+twin_whole meaning (c ∷ commands) (x ∷ xs) [] h k a b = absurd k
+twin_whole meaning (c ∷ commands) (x ∷ xs) (y ∷ ys) h k a b =
+    (record { deed = h.0.deed ∙ sym k.0.deed; slot = h.0.slot ∙ sym k.0.slot; left = a.0; right = b.0 }, twin_whole meaning commands xs ys h.1 k.1 a.1 b.1)
+
 twin_operations : (meaning : Meaning) (operation : Operation) (xs ys : List Step) (t u : Response) → DoOperation operation xs t → DoOperation operation ys u → AreAllowed meaning xs → AreAllowed meaning ys → Pairwise (AreTwins meaning) xs ys × (xs ≡ ys → t ≡ u)
 twin_operations meaning (RunCommand args) xs ys t u h k a b =
     let w = twin_steps meaning args xs ys h.0 k.0 h.2 k.2 a b in
     (w.0, λ e. h.1 ∙ ap Reply (w.1 e) ∙ sym k.1)
 twin_operations meaning (ReadKeys options streams) xs ys t u h k a b =
     (twin_reads meaning options streams xs ys h.0 k.0 a b, λ e. h.1 ∙ ap (λ q. Rows (rows_of_steps q)) e ∙ sym k.1)
+twin_operations meaning (RunAsOne commands) xs ys t u h k a b =
+    (twin_whole meaning commands xs ys h.0 k.0 a b, λ e. h.1 ∙ ap (λ q. Reply (array_of (step_trees q))) e ∙ sym k.1)
 
 twins-append : (meaning : Meaning) (xs ys us vs : List Step) → Pairwise (AreTwins meaning) xs ys → Pairwise (AreTwins meaning) us vs → Pairwise (AreTwins meaning) (xs ++ us) (ys ++ vs)
 twins-append meaning [] [] us vs h k = k

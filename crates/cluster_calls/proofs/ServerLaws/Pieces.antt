@@ -6,7 +6,7 @@ use Rattle.std.proofs.lemmas.Bool.{false≢true}
 use Rattle.std.proofs.lemmas.List.Elements.{filter-append}
 use Rattle.cluster_routing.specs.Lists.{concat, among, IsDistinct, Pairwise}
 use Rattle.cluster_calls.specs.Links.Log.{Exchange}
-use Rattle.cluster_calls.specs.OneServer.Honest.{is_counted, IsDoneBy}
+use Rattle.cluster_calls.specs.OneServer.Honest.{counts, IsDoneBy}
 use Rattle.cluster_calls.specs.OneServer.Keyspace.{Step, on_slot}
 use Rattle.cluster_calls.specs.OneServer.Meaning.{Meaning, DoAll}
 use Rattle.cluster_calls.specs.OneServer.Operations.{Operation, Response}
@@ -31,7 +31,7 @@ IsDoneAs meaning operation x steps = IsDoneBy meaning (operation x.request.args)
 
 -- `Accounts`, by what the arguments ask for
 abbrev pub AccountsAs : Meaning → (ℕ → Bool) → (List (List ℕ) → Operation) → Exchange → List Step → Type 0
-AccountsAs meaning done operation x steps = MatchBool (is_counted done x) (IsDoneAs meaning operation x steps) (steps ≡ [])
+AccountsAs meaning done operation x steps = MatchBool (counts done (operation x.request.args) x) (IsDoneAs meaning operation x steps) (steps ≡ [])
 
 -- steps that account for a log, with these pieces
 abbrev pub HonestIn : Meaning → (ℕ → Bool) → (List (List ℕ) → Operation) → List Exchange → List (List Step) → Type 0

@@ -4,26 +4,28 @@ use Rattle.std.specs.Prelude.{MatchBool, unwrap_or, is_none}
 use Rattle.std.specs.List.{AllByRecursion, list_any}
 use Rattle.std.proofs.lemmas.Bool.{false≢true}
 use Rattle.resp_core.specs.Trees.{Tree, nil, ErrorText}
+use Rattle.resp_core.specs.Errors.{Refusal}
+use Rattle.resp_core.specs.Parts.{first_error}
+use Rattle.resp_args.specs.Packed.{sent}
 use Rattle.cluster_routing.specs.Combine.{array_of}
 use Rattle.cluster_routing.specs.Lists.{Pairwise, among, IsDistinct, group_by_group, draw, without_front_of, front, rest}
-use Rattle.resp_args.specs.Packed.{sent}
 use Rattle.cluster_routing.specs.Address.{Address, same_address}
+use Rattle.cluster_routing.proofs.Recut.{all-filter}
+use Rattle.cluster_routing.proofs.SplitWords.{filter-const}
 use Rattle.cluster_calls.specs.OneServer.Keyspace.{Step}
 use Rattle.cluster_calls.specs.Calls.Parts.{Part}
 use Rattle.cluster_calls.specs.OneServer.Meaning.{Meaning, DoCommand, DoAll}
 use Rattle.cluster_calls.specs.Links.Log.{Exchange, requests, is_answered, is_unanswered, is_data_reply}
 use Rattle.cluster_calls.specs.Links.Request.{Request}
-use Rattle.cluster_calls.specs.Calls.Plan.{Client, Dispatch, dispatches}
+use Rattle.cluster_calls.specs.Calls.Plan.{Client, Dispatch, dispatches, unless}
 use Rattle.cluster_calls.specs.Calls.Call.{Pipeline, Entry}
 use Rattle.cluster_calls.specs.Links.Faults.{LinkFault, refusal_by_fault}
-use Rattle.resp_core.specs.Errors.{Refusal}
 use Rattle.cluster_calls.specs.Calls.Legal.{IsLegalCall, NodeByNode, node_groups, nodes_in_use, direct}
 use Rattle.cluster_calls.specs.Calls.Parts.{pipeline_parts, result_then}
 use Rattle.cluster_calls.specs.OneServer.Laws.{GapsNameNoKey}
-use Rattle.cluster_calls.specs.Calls.Answer.{Value, unless, answer_of}
+use Rattle.cluster_calls.specs.Calls.Answer.{Value, answer_of}
 use Rattle.cluster_calls.specs.Calls.Replies.{args_slot, pipeline_reply, not_ignored, exchange_slot, with_slot, in_pipeline_order, reply_or_nil}
 use Rattle.cluster_calls.specs.Calls.Refusals.{pipeline_refusal, errors_from, with_error}
-use Rattle.resp_core.specs.Parts.{first_error}
 use Rattle.cluster_calls.specs.OneServer.Honest.{is_counted}
 use Rattle.cluster_calls.specs.OneServer.Operations.{RunCommand, Reply, run_each}
 use Rattle.cluster_calls.proofs.ServerLaws.Pieces.{pieces, SamePieces, IsDoneAs, AccountsAs, HonestIn, ServedIn, pieces_at}
@@ -35,8 +37,6 @@ use Rattle.cluster_calls.proofs.LinkLaws.Addresses.{same_true, same_refl}
 use Rattle.cluster_calls.proofs.LogLaws.Plans.{IsFor, dispatches_for, or_right}
 use Rattle.cluster_calls.proofs.ServerLaws.PartCall.{filter_all, reply_is}
 use Rattle.cluster_calls.proofs.ServerLaws.Calls.{CallServed, nothing_done}
-use Rattle.cluster_routing.proofs.Recut.{all-filter}
-use Rattle.cluster_routing.proofs.SplitWords.{filter-const}
 use Rattle.cluster_calls.proofs.ServerLaws.Grouping.{all-append, filter-same, filter-map, pairwise-filter, pairwise-join, drawn_skip}
 use Rattle.cluster_calls.proofs.LogLaws.PipePlans.{IsOneSlot, IsWholePart, pipeline_parts_are, primary_of, pipeline_nodes}
 

@@ -13,11 +13,11 @@ use Rattle.cluster_routing.proofs.Recut.{all-filter}
 use Rattle.stream_commands.specs.Join.{all_rows, in_key_order, join}
 use Rattle.stream_commands.specs.ReadReply.{Row}
 use Rattle.stream_commands.specs.Settings.{ReadSettings}
-use Rattle.cluster_calls.specs.Calls.Answer.{Answer, Read, task_answer, unless, answer_of}
+use Rattle.cluster_calls.specs.Calls.Answer.{Answer, Read, task_answer, answer_of}
 use Rattle.cluster_calls.specs.Calls.Call.{Stream, Call}
 use Rattle.cluster_calls.specs.Calls.Legal.{IsLegalCall, AreMade, PartByPart}
 use Rattle.cluster_calls.specs.Calls.Parts.{result_then}
-use Rattle.cluster_calls.specs.Calls.Plan.{Client, Dispatch, plan}
+use Rattle.cluster_calls.specs.Calls.Plan.{Client, Dispatch, plan, unless}
 use Rattle.cluster_calls.specs.Calls.Reads.{stream_slots, streams_at, key_places, read_slot, readings, joined, read_rows}
 use Rattle.cluster_calls.specs.Calls.Refusals.{part_refusal, sent_refusal}
 use Rattle.cluster_calls.specs.Calls.Task.{Task, read_of, task_of, stream_keys, are_of_one_slot}

@@ -10,8 +10,8 @@ use Rattle.cluster_routing.specs.Parts.{tuple_slot}
 use Rattle.cluster_routing.specs.declared.route.SlotAddr.{SlotAddr}
 use Rattle.stream_commands.specs.Settings.{ReadSettings}
 use Rattle.cluster_calls.specs.Calls.Call.{Stream, Call}
-use Rattle.cluster_calls.specs.Calls.Parts.{result_then, read_part, read_parts, task_parts}
-use Rattle.cluster_calls.specs.Calls.Plan.{Client, Dispatch, dispatches, in_order, order_of, unless_refused, plan}
+use Rattle.cluster_calls.specs.Calls.Parts.{result_then, read_part, read_parts}
+use Rattle.cluster_calls.specs.Calls.Plan.{Client, Dispatch, dispatches, in_order, order_of, unless, plan}
 use Rattle.cluster_calls.specs.Calls.Reads.{stream_slots, streams_at, read_head, read_slot}
 use Rattle.cluster_calls.specs.Calls.Task.{Task, read_of, task_of, early_refusal, stream_keys, stream_ids}
 use Rattle.cluster_calls.specs.Links.Log.{Exchange}
@@ -19,6 +19,7 @@ use Rattle.cluster_calls.specs.OneServer.Commands.{read_with, streams_with}
 use Rattle.cluster_calls.specs.OneServer.Keyspace.{Step, on_slot}
 use Rattle.cluster_calls.specs.OneServer.Meaning.{Meaning, DoesRead, rows_of_steps, AreAllowed}
 use Rattle.cluster_calls.specs.OneServer.Operations.{Operation, ReadKeys, Response, Rows, task_operation}
+use Rattle.cluster_calls.specs.Calls.TaskParts.{task_parts}
 use Rattle.cluster_calls.proofs.LogLaws.Plans.{IsFor, dispatches_for, or_right, all-weaker, firsts_among}
 use Rattle.cluster_calls.proofs.ServerLaws.Distinct.{among-firsts}
 use Rattle.cluster_calls.proofs.ServerLaws.Pieces.{with_some, SamePieces, IsDoneAs, ServedIn, one_piece}
@@ -76,13 +77,13 @@ module _ (options : ReadSettings) (streams : List Stream) where
   plan_reads client picks call ds t e = at_early (early_refusal call) (subst at_task t e)
     where
       at_task : Task → Type 0
-      at_task task = result_then (unless_refused (early_refusal call) (task_parts client.settings.read_only client.entries task)) (λ parts. result_then (dispatches client picks parts) (λ es. Ok (in_order (order_of task) es))) ≡ Ok ds
+      at_task task = result_then (unless (early_refusal call) (task_parts client.settings.read_only client.entries task)) (λ parts. result_then (dispatches client picks parts) (λ es. Ok (in_order (order_of task) es))) ≡ Ok ds
 
       at_sent : (o : Result (List Dispatch) Refusal) → dispatches client picks (read_parts client.settings.read_only options streams) ≡ o → result_then o (λ es. Ok es) ≡ Ok ds → map slot_in ds ≡ stream_slots streams
       at_sent (Ok es) d g = let same : es ≡ ds = cc in subst (λ q. map slot_in q ≡ stream_slots streams) same (sends_read _ es (dispatches_for client (read_parts client.settings.read_only options streams) picks es d))
       at_sent (Err r) d g = cc
 
-      at_early : (o : Option Refusal) → result_then (unless_refused o (Ok (read_parts client.settings.read_only options streams))) (λ parts. result_then (dispatches client picks parts) (λ es. Ok es)) ≡ Ok ds → map slot_in ds ≡ stream_slots streams
+      at_early : (o : Option Refusal) → result_then (unless o (Ok (read_parts client.settings.read_only options streams))) (λ parts. result_then (dispatches client picks parts) (λ es. Ok es)) ≡ Ok ds → map slot_in ds ≡ stream_slots streams
       at_early None g = at_sent (dispatches client picks (read_parts client.settings.read_only options streams)) refl g
       at_early (Some r) g = cc
 

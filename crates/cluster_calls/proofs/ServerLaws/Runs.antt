@@ -3,21 +3,21 @@ use Rattle.std.proofs.Common.{◌≡◌, ℕ, Bool, true, false, cond, ◌&&◌,
 use Rattle.std.specs.Prelude.{bytes_eq, is_none}
 use Rattle.std.proofs.lemmas.Bool.{and_parts, false≢true}
 use Rattle.resp_core.specs.Errors.{Refusal}
+use Rattle.resp_core.specs.Parts.{or_else}
 use Rattle.cluster_routing.specs.Address.{Address}
 use Rattle.cluster_routing.specs.Choice.{Strategy}
 use Rattle.cluster_routing.specs.Lists.{concat, is_distinct, Pairwise}
 use Rattle.cluster_routing.specs.Policies.{or_bad_reply}
-use Rattle.cluster_calls.specs.Links.Log.{Exchange}
-use Rattle.cluster_calls.specs.Calls.Call.{Stream, Xadd, Xtrim, Xread, Xrange, Xclaim, Xautoclaim, Xpending, XinfoStream, XinfoGroups, XinfoConsumers, XdelEx, Call, Refresh, Query, Ordered, Pipeline, FanOut, At, OnStreams}
 use Rattle.stream_commands.specs.Settings.{ReadSettings}
+use Rattle.cluster_calls.specs.Links.Log.{Exchange}
+use Rattle.cluster_calls.specs.Calls.Call.{Stream, Xadd, Xtrim, Xread, Xrange, Xclaim, Xautoclaim, Xpending, XinfoStream, XinfoGroups, XinfoConsumers, XdelEx, Call, Refresh, Query, Ordered, Pipeline, FanOut, At, OnStreams, Transaction}
 use Rattle.cluster_calls.specs.Calls.Task.{read_of, task_of, sentence_task, is_by_key, stream_keys}
 use Rattle.cluster_calls.specs.Calls.Parts.{result_then}
-use Rattle.cluster_calls.specs.Calls.Plan.{Client, Dispatch, plan}
+use Rattle.cluster_calls.specs.Calls.Plan.{Client, Dispatch, plan, unless}
 use Rattle.cluster_calls.specs.Calls.Legal.{IsLegalCall}
 use Rattle.cluster_calls.specs.Links.Faults.{LinkFault}
 use Rattle.cluster_calls.specs.Calls.Refusals.{refusal_in, sent_refusal}
-use Rattle.cluster_calls.specs.Calls.Answer.{Answer, Refreshed, call_answer, unless, answer_of, kind}
-use Rattle.resp_core.specs.Parts.{or_else}
+use Rattle.cluster_calls.specs.Calls.Answer.{Answer, Refreshed, call_answer, answer_of, kind}
 use Rattle.cluster_calls.specs.Calls.After.{client_after}
 use Rattle.cluster_calls.specs.OneServer.Keyspace.{Step}
 use Rattle.cluster_calls.specs.OneServer.Meaning.{Meaning}
@@ -31,6 +31,7 @@ use Rattle.cluster_calls.proofs.ServerLaws.Pieces.{HonestIn}
 use Rattle.cluster_calls.proofs.ServerLaws.Calls.{CallServed, command_served, nothing_done}
 use Rattle.cluster_calls.proofs.ServerLaws.ReadCall.{read_served}
 use Rattle.cluster_calls.proofs.ServerLaws.Pipes.{pipeline_served}
+use Rattle.cluster_calls.proofs.ServerLaws.AsOne.{transaction_served}
 
 pub concat-append : {X : Type 0} (xss yss : List (List X)) → concat (xss ++ yss) ≡ concat xss ++ concat yss
 concat-append [] yss = refl
@@ -70,6 +71,7 @@ reads_differ (Ordered command order number) options streams t = cc
 reads_differ (Pipeline entries) options streams t = cc
 reads_differ (FanOut command) options streams t = cc
 reads_differ (At node command) options streams t = cc
+reads_differ (Transaction commands) options streams t = cc
 reads_differ (OnStreams (Xadd key settings id fields)) options streams t = cc
 reads_differ (OnStreams (Xtrim key settings)) options streams t = cc
 reads_differ (OnStreams (Xread read settings)) options streams t = by (is_by_key settings (stream_keys read)) refl t
@@ -100,6 +102,7 @@ call_served client faults meaning moves done picks (OnStreams call) xs gaps s le
 call_served client faults meaning moves done picks (Pipeline entries) xs gaps s legal honest = pipeline_served client faults meaning moves done picks entries xs gaps legal honest
 call_served client faults meaning moves done picks (FanOut command) xs gaps s legal honest = absurd (false≢true s)
 call_served client faults meaning moves done picks (At node command) xs gaps s legal honest = absurd (false≢true s)
+call_served client faults meaning moves done picks (Transaction commands) xs gaps s legal honest = transaction_served client faults meaning moves done picks commands xs legal honest
 call_served client faults meaning moves done picks (Refresh node) xs gaps s legal honest = by (plan client picks (Refresh node)) (sent_refusal client faults (task_of (Refresh node)) xs)
   where
     by : (o : Result (List Dispatch) Refusal) (r : Option Refusal) → CallServed meaning done (Refresh node) (result_then o (λ ds. unless r (Ok Refreshed))) xs moves

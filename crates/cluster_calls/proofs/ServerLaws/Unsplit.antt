@@ -12,7 +12,7 @@ use Rattle.cluster_routing.specs.Lists.{concat, Pairwise}
 use Rattle.cluster_routing.specs.Split.{Split, split_of}
 use Rattle.cluster_calls.specs.Links.Log.{Exchange}
 use Rattle.cluster_calls.specs.Calls.Call.{Call}
-use Rattle.cluster_calls.specs.Calls.Task.{Task, slot_map_of, one_command, pipeline_of, several_nodes, one_node, read_of, task_of}
+use Rattle.cluster_calls.specs.Calls.Task.{Task, slot_map_of, one_command, pipeline_of, several_nodes, one_node, read_of, task_of, transaction_of}
 use Rattle.cluster_calls.specs.Calls.After.{client_after}
 use Rattle.cluster_calls.specs.Calls.Plan.{Client, Dispatch, plan}
 use Rattle.cluster_calls.specs.Links.Faults.{LinkFault}
@@ -130,6 +130,7 @@ unsplit_on_one client meaning done picks call xs own unsplit legal accounts = by
     by (pipeline_of entries) t u h = absurd (false≢true u)
     by (several_nodes command) t u h = absurd (false≢true u)
     by (one_node node command) t u h = absurd (false≢true u)
+    by (transaction_of commands) t u h = absurd (false≢true u)
     by (read_of options streams) t u h =
         let r = read_on_one meaning done options streams u xs own (subst (λ k. Pairwise (AccountsAs meaning done (task_operation k)) xs own) t h) in
         all_on_one r.0 (concat own) r.1

@@ -1,7 +1,9 @@
 use Rattle.std.proofs.Common.{◌≡◌, ◌++◌, ◌∷◌, [], map, take}
 use Rattle.cluster_routing.specs.Seen.{address}
+use Rattle.cluster_calls.specs.Links.Request.{multi}
+use Rattle.cluster_calls.specs.Calls.OneSlot.{args_of}
 use Rattle.cluster_calls.specs.Calls.Redirects.{request_of}
-use Rattle.cluster_calls.specs.Calls.Transactions.{args_of, multi, without_asking}
+use Rattle.cluster_calls.specs.Calls.Transactions.{without_asking}
 use Rattle.cluster_steps.specs.Turns.{hop_to}
 use Rattle.cluster_steps.proofs.attempt.requests_of.Given as goal
 
