@@ -14,42 +14,42 @@ use Rattle.cluster_routing.specs.Choice.{Strategy}
 use Rattle.cluster_routing.specs.Combine.{array_of}
 use Rattle.cluster_routing.specs.Info.{texts}
 use Rattle.cluster_routing.specs.Lists.{among, concat, draw, firsts, IsDistinct, Pairwise}
-use Rattle.cluster_steps.specs.declared.dispatch.Dispatch.{Dispatch as CodeDispatch}
 use Rattle.cluster_calls.specs.Links.Request.{Request}
 use Rattle.cluster_calls.specs.Links.Log.{Exchange, requests, is_unanswered}
 use Rattle.cluster_calls.specs.Links.World.{World, Node, place_at}
 use Rattle.cluster_calls.specs.Links.Faults.{LinkFault, refusal_by_fault}
 use Rattle.cluster_calls.specs.Links.Events.{Event, log_of, exchanges_of, Agrees, faults_of}
-use Rattle.cluster_steps.specs.Dispatches.{IsPlaced, IsPlanned, dispatch_of}
-use Rattle.cluster_steps.specs.Groups.{Group, group_at, place_in, request_in}
-use Rattle.cluster_steps.specs.GroupRuns.{GroupByGroup, AreGroupResults, GroupsMade, group_nodes, request_lists}
-use Rattle.cluster_steps.specs.Queues.{queued, no_queues}
 use Rattle.cluster_calls.specs.Links.PipeReplies.{errors_in, pipeline_result}
 use Rattle.cluster_calls.specs.Links.Converted.{value_answer}
 use Rattle.cluster_calls.specs.Links.Happened.{client_of, is_refresh, Happened, CallMade}
 use Rattle.cluster_calls.specs.Links.Run.{with_log}
-use Rattle.cluster_calls.specs.Calls.Answer.{Answer, Value, unless}
+use Rattle.cluster_calls.specs.Calls.Answer.{Answer, Value}
 use Rattle.cluster_calls.specs.Calls.Call.{Call, Entry, Pipeline}
 use Rattle.cluster_calls.specs.Calls.Legal.{IsLegalCall, node_groups}
 use Rattle.cluster_calls.specs.Calls.Parts.{Part, pipeline_parts, result_then}
 use Rattle.cluster_calls.specs.Calls.Picks.{ArePicks}
-use Rattle.cluster_calls.specs.Calls.Plan.{Client, Dispatch, dispatches, plan}
+use Rattle.cluster_calls.specs.Calls.Plan.{Client, Dispatch, dispatches, plan, unless}
 use Rattle.cluster_calls.specs.Calls.Refusals.{errors_from, errors_refusal, pipeline_refusal, with_error}
 use Rattle.cluster_calls.specs.Calls.Replies.{args_slot, in_pipeline_order, not_ignored, pipeline_reply, reply_or_nil}
 use Rattle.cluster_calls.specs.Calls.Task.{pipeline_of}
 use Rattle.cluster_calls.proofs.LinkLaws.FaultsAgree.{agrees}
-use Rattle.cluster_steps.proofs.GroupCalls.{all_replied}
 use Rattle.cluster_calls.proofs.LinkLaws.LinkCalls.{AreLinkCalls, link_calls_made}
 use Rattle.cluster_calls.proofs.LinkLaws.LinkRuns.{or_parts}
 use Rattle.cluster_calls.proofs.LinkLaws.MovedLaws.{answered_plain}
 use Rattle.cluster_calls.proofs.LinkLaws.PipeErrors.{all_answered, same_errors, value_or}
+use Rattle.cluster_calls.proofs.LinkLaws.Played.{call_made}
+use Rattle.cluster_calls.proofs.LogLaws.PipePlans.{IsWholePart, pipeline_nodes, primary_of, whole_parts_are}
+use Rattle.cluster_calls.proofs.LogLaws.Plans.{IsFor, dispatches_for}
+use Rattle.cluster_steps.specs.declared.dispatch.Dispatch.{Dispatch as CodeDispatch}
+use Rattle.cluster_steps.specs.Dispatches.{IsPlaced, IsPlanned, dispatch_of}
+use Rattle.cluster_steps.specs.Groups.{Group, group_at, place_in, request_in}
+use Rattle.cluster_steps.specs.GroupRuns.{GroupByGroup, AreGroupResults, GroupsMade, group_nodes, request_lists}
+use Rattle.cluster_steps.specs.Queues.{queued, no_queues}
+use Rattle.cluster_steps.proofs.GroupCalls.{all_replied}
 use Rattle.cluster_steps.proofs.PipeGroups.{all_both, all_mapped, all_unmapped, by_node, groups_are, groups_distinct, map_twice, node_of}
 use Rattle.cluster_steps.proofs.PipeGrouping.{order_within}
 use Rattle.cluster_steps.proofs.PipeOrder.{replies_drawn}
 use Rattle.cluster_client.proofs.PipeParts.{gaps_stay_so}
-use Rattle.cluster_calls.proofs.LinkLaws.Played.{call_made}
-use Rattle.cluster_calls.proofs.LogLaws.PipePlans.{IsWholePart, pipeline_nodes, primary_of, whole_parts_are}
-use Rattle.cluster_calls.proofs.LogLaws.Plans.{IsFor, dispatches_for}
 
 -- ---- what the plan says of the dispatches
 

@@ -17,15 +17,16 @@ use Rattle.stream_commands.specs.ReadReply.{Row, read_reply}
 use Rattle.stream_commands.specs.Settings.{ReadSettings}
 use Rattle.cluster_calls.specs.Calls.Answer.{Answer, Read}
 use Rattle.cluster_calls.specs.Calls.Call.{Call, OnStreams, Stream, Xread}
-use Rattle.cluster_calls.specs.Calls.Parts.{Part, read_parts, task_parts}
+use Rattle.cluster_calls.specs.Calls.Parts.{Part, read_parts}
 use Rattle.cluster_calls.specs.Calls.Picks.{ArePicks}
-use Rattle.cluster_calls.specs.Calls.Plan.{Client, Dispatch, call_parts, in_order, order_of, plan, unless_refused}
+use Rattle.cluster_calls.specs.Calls.Plan.{Client, Dispatch, call_parts, in_order, order_of, plan, unless}
 use Rattle.cluster_calls.specs.Calls.Reads.{key_places, read_slot, stream_slots}
 use Rattle.cluster_calls.specs.Calls.Task.{are_of_one_slot, is_by_key, read_of, read_refusal, sentence_task, stream_keys, task_of}
 use Rattle.cluster_calls.specs.Links.Happened.{client_of}
 use Rattle.cluster_calls.specs.Links.PartRuns.{PartsMade}
 use Rattle.cluster_calls.specs.Links.Run.{with_log}
 use Rattle.cluster_calls.specs.Links.World.{World}
+use Rattle.cluster_calls.specs.Calls.TaskParts.{task_parts}
 use Rattle.cluster_calls.proofs.LinkLaws.ReadMade.{IsReadOfParts, happened, read_answered, rows_of_parts}
 use Rattle.cluster_calls.proofs.ServerLaws.ReadParts.{plan_reads}
 use Rattle.cluster_steps.specs.Dispatches.{AreDispatched, IsPlanned}
@@ -48,7 +49,7 @@ module _ (options : ReadSettings) (streams : List Stream) (by_key : is_by_key op
 
   parts_read : (client : Client) → call_parts client call ≡ Ok (read_parts client.settings.read_only options streams)
   parts_read client =
-      ap (λ why. unless_refused why (task_parts client.settings.read_only client.entries (task_of call))) met
+      ap (λ why. unless why (task_parts client.settings.read_only client.entries (task_of call))) met
       ∙ ap (task_parts client.settings.read_only client.entries) read_task
 
   module _ (strategy : Option Strategy) (client : Client) (picks : List Address) (parts : List Part) (are : parts ≡ read_parts client.settings.read_only options streams) where

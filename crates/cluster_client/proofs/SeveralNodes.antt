@@ -43,28 +43,28 @@ use Rattle.cluster_calls.specs.Links.Events.{log_of, exchanges_of}
 use Rattle.cluster_calls.specs.Links.Happened.{client_of, Happened, CallMade}
 use Rattle.cluster_calls.specs.Links.Run.{with_log}
 use Rattle.cluster_calls.specs.Links.Converted.{value_answer}
-use Rattle.cluster_steps.specs.declared.dispatch.Dispatch.{Dispatch as CodeDispatch}
-use Rattle.cluster_steps.specs.Dispatches.{AreDispatched, IsPlanned, dispatch_of}
-use Rattle.cluster_steps.specs.FirstPlaces.{FindsFirst, ArePicksAt, node_with_link}
-use Rattle.cluster_client.specs.NodeRuns.{IsMadeOfOutcomes, NodesAsked, nodes_named, parts_to_nodes}
 use Rattle.cluster_calls.specs.Calls.Call.{FanOut}
 use Rattle.cluster_calls.specs.Calls.Task.{several_nodes}
 use Rattle.cluster_calls.specs.Calls.Parts.{Part, part_to, at_node, node_parts, to_nodes}
-use Rattle.cluster_calls.specs.Calls.Plan.{Client, Dispatch, First, first_of, call_parts, plan}
+use Rattle.cluster_calls.specs.Calls.Plan.{Client, Dispatch, First, first_of, call_parts, plan, unless}
 use Rattle.cluster_calls.specs.Calls.Picks.{ArePicks}
 use Rattle.cluster_calls.specs.Calls.Legal.{direct, IsLegalCall}
 use Rattle.cluster_calls.specs.Calls.Replies.{outcomes, policy_in, reply_by_outcomes, several_reply}
 use Rattle.cluster_calls.specs.Calls.Refusals.{refusal_in}
-use Rattle.cluster_calls.specs.Calls.Answer.{answer_in, tree_in, unless}
-use Rattle.cluster_steps.proofs.Dispatched.{plan_made, plan_refused, plan_unparted, picks_made, picks_unparted}
-use Rattle.cluster_steps.proofs.Dispatching.{Loop, dispatched_as, loop_as, loop_more, loop_refused}
+use Rattle.cluster_calls.specs.Calls.Answer.{answer_in, tree_in}
 use Rattle.cluster_calls.proofs.LinkLaws.EventLists.{exchanged}
 use Rattle.cluster_calls.proofs.LinkLaws.LinkCalls.{link_calls_made}
 use Rattle.cluster_calls.proofs.LinkLaws.MovedLaws.{answered_plain}
-use Rattle.cluster_client.proofs.NodeLoop.{node_of}
 use Rattle.cluster_calls.proofs.LinkLaws.OneCommand.{Untouched, not_sent, refused_by, relogged}
 use Rattle.cluster_calls.proofs.LinkLaws.Played.{call_made}
 use Rattle.cluster_calls.proofs.LogLaws.SentOnce.{nodes_once_ascending}
+use Rattle.cluster_steps.specs.declared.dispatch.Dispatch.{Dispatch as CodeDispatch}
+use Rattle.cluster_steps.specs.Dispatches.{AreDispatched, IsPlanned, dispatch_of}
+use Rattle.cluster_steps.specs.FirstPlaces.{FindsFirst, ArePicksAt, node_with_link}
+use Rattle.cluster_steps.proofs.Dispatched.{plan_made, plan_refused, plan_unparted, picks_made, picks_unparted}
+use Rattle.cluster_steps.proofs.Dispatching.{Loop, dispatched_as, loop_as, loop_more, loop_refused}
+use Rattle.cluster_client.specs.NodeRuns.{IsMadeOfOutcomes, NodesAsked, nodes_named, parts_to_nodes}
+use Rattle.cluster_client.proofs.NodeLoop.{node_of}
 
 -- ---- the parts
 

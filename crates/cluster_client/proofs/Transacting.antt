@@ -10,21 +10,29 @@ use Rattle.resp_core.specs.Errors.{Refusal, at_position, by_cause}
 use Rattle.resp_core.specs.declared.errors.redis_error.Cause.TheVariants.{Memory, NoLink}
 use Rattle.resp_args.specs.Command.{Command}
 use Rattle.cluster_routing.specs.Address.{Address}
+use Rattle.cluster_routing.specs.Choice.{Strategy}
 use Rattle.cluster_routing.specs.Command.{Args, is_one_of}
 use Rattle.cluster_routing.specs.Routing.{route_to}
 use Rattle.cluster_routing.specs.SlotMap.{Nodes, nodes_at}
 use Rattle.cluster_routing.specs.declared.route.SlotAddr.TheVariants.{Master}
-use Rattle.cluster_calls.specs.Calls.Parts.{at_slot, result_then}
-use Rattle.cluster_calls.specs.Calls.Plan.{Client, first_by, first_of, read_candidates}
+use Rattle.cluster_calls.specs.Calls.OneSlot.{args_of, agrees, common_slot, is_outside, names_block, outside_names, own_slot, read_names, with_own}
+use Rattle.cluster_calls.specs.Calls.Parts.{at_slot}
+use Rattle.cluster_calls.specs.Calls.Call.{Transaction}
+use Rattle.cluster_calls.specs.Calls.Answer.{Answer}
+use Rattle.cluster_calls.specs.Calls.Picks.{ArePicks}
+use Rattle.cluster_calls.specs.Calls.Plan.{Client, Dispatch, first_by, first_of, plan, read_candidates}
 use Rattle.cluster_calls.specs.Calls.Redirects.{Hop, Goes, is_going}
-use Rattle.cluster_calls.specs.Calls.Transactions.{agrees, attempt, attempt_answer, common_slot, if_linked, is_outside, names_block, next_attempt, outside_names, own_slot, read_names, size, slot_node, transaction_plan, unless_lost, with_own}
+use Rattle.cluster_calls.specs.Calls.Transactions.{attempt, attempt_answer, dispatches_to, next_attempt, size, unless_lost}
 use Rattle.cluster_calls.specs.Links.AttemptRuns.{AttemptsMade}
 use Rattle.cluster_calls.specs.Links.Exchanges.{Exchanges}
+use Rattle.cluster_calls.specs.Links.Happened.{CallMade, client_of}
 use Rattle.cluster_calls.specs.Links.Places.{IsOpenAt}
 use Rattle.cluster_calls.specs.Links.Request.{Request, skipped}
 use Rattle.cluster_calls.specs.Links.World.{World, is_linked, open_links}
 use Rattle.cluster_calls.proofs.LinkLaws.AttemptLoop.{Loop, loop_answered, loop_ended, loop_err, loop_more, loop_ok}
 use Rattle.cluster_calls.proofs.LinkLaws.ChainLoop.{or_none}
+use Rattle.cluster_calls.proofs.LinkLaws.Transacted.{no_picks, planned_at, slot_planned}
+use Rattle.cluster_calls.proofs.LinkLaws.AnyStrategy.{with_strategy}
 use Rattle.cluster_calls.proofs.LogLaws.Attempts.{size_of}
 use Rattle.cluster_steps.specs.Attempts.{AttemptExchanged, heard}
 use Rattle.cluster_steps.specs.FirstPlaces.{node_with_link}
@@ -72,30 +80,24 @@ module _ (all : List Command) (position : ℕ) (known : Option ℕ) (c : Command
 
 -- ---- the node
 
--- a node that was found, or why there is none
-abbrev pub found_node : Result Address Refusal → Result (Option Address) Refusal
-found_node (Ok node) = Ok (Some node)
-found_node (Err refusal) = Err refusal
+-- what goes to a node that was found, or why there is none
+abbrev pub found_plan : List Command → Result Address Refusal → Result (List Dispatch) Refusal
+found_plan commands (Ok node) = Ok (dispatches_to node (args_of commands))
+found_plan commands (Err refusal) = Err refusal
 
-linked_by : (node : Address) (b : Bool) → found_node (if b then Ok node else Err (by_cause NoLink)) ≡ (if b then Ok (Some node) else Err (by_cause NoLink))
-linked_by node true = refl
-linked_by node false = refl
+linked_by : (commands : List Command) (node : Address) (b : Bool) → found_plan commands (if b then Ok node else Err (by_cause NoLink)) ≡ (if b then Ok (dispatches_to node (args_of commands)) else Err (by_cause NoLink))
+linked_by commands node true = refl
+linked_by commands node false = refl
 
-primary_by : (links own : List Address) (slot : ℕ) (ns : Option Nodes) → found_node (node_with_link links (option_map (λ (nodes : Nodes). first_by (read_candidates (route_to Master slot) nodes) nodes.primary own) ns)) ≡ if_linked links ns
-primary_by links own slot None = refl
-primary_by links own slot (Some nodes) = linked_by nodes.primary (is_linked links nodes.primary)
+primary_by : (links own : List Address) (commands : List Command) (slot : ℕ) (ns : Option Nodes) → found_plan commands (node_with_link links (option_map (λ (nodes : Nodes). first_by (read_candidates (route_to Master slot) nodes) nodes.primary own) ns)) ≡ planned_at links commands ns
+primary_by links own commands slot None = refl
+primary_by links own commands slot (Some nodes) = linked_by commands nodes.primary (is_linked links nodes.primary)
 
 -- the commands go to the primary of their slot
-pub slot_planned : (client : Client) (commands : List Command) (slot : ℕ) (own : List Address) (made : Result Address Refusal) → common_slot 0 None commands ≡ Ok (Some slot) → made ≡ node_with_link client.links (first_of client.entries own (at_slot (route_to Master slot)))
-    → transaction_plan client commands ≡ found_node made
-slot_planned client commands slot own made is finds =
-    ap (λ r. result_then r (slot_node client)) is ∙ sym (ap found_node finds ∙ primary_by client.links own slot (nodes_at slot client.entries))
-
-pub slot_refused : (client : Client) (commands : List Command) (refusal : Refusal) → common_slot 0 None commands ≡ Err refusal → transaction_plan client commands ≡ Err refusal
-slot_refused client commands refusal is = ap (λ r. result_then r (slot_node client)) is
-
-pub without_slot : (client : Client) (commands : List Command) → common_slot 0 None commands ≡ Ok None → transaction_plan client commands ≡ Ok None
-without_slot client commands is = ap (λ r. result_then r (slot_node client)) is
+pub primary_planned : (client : Client) (commands : List Command) (slot : ℕ) (own : List Address) (made : Result Address Refusal) → common_slot 0 None commands ≡ Ok (Some slot) → made ≡ node_with_link client.links (first_of client.entries own (at_slot (route_to Master slot)))
+    → plan client [] (Transaction commands) ≡ found_plan commands made
+primary_planned client commands slot own made is finds =
+    slot_planned client [] commands slot is ∙ sym (ap (found_plan commands) finds ∙ primary_by client.links own commands slot (nodes_at slot client.entries))
 
 -- ---- the attempts
 
@@ -135,3 +137,10 @@ attempt_to_place old now commands first left p q same l = subst (λ r. Loop old 
 pub attempt_stopped : (old now : World) (commands : List (List (List ℕ))) (first : Hop) (left : ℕ) (hop : Hop) (which : ℕ) (log : List Request) → log ≡ now.log → Loop old now commands first left hop which
     → AttemptsMade old (record now { log = log }) first commands (Err (by_cause Memory))
 attempt_stopped old now commands first left hop which log same l = loop_ended old now (record now { log = log }) commands first left hop which l (record { entries = refl; settings = refl; picked = refl }) refl same refl
+
+-- ---- the whole call
+
+-- no strategy is asked, so the call is made for every one
+pub transacted_for_every : (strategy : Option Strategy) (old new : World) (commands : List Command) (answer : Result Answer Refusal) → new.picked ≡ [] → CallMade None old new (Transaction commands) answer → CallMade strategy old new (Transaction commands) answer
+transacted_for_every strategy old new commands answer none m =
+    with_strategy None strategy old new (Transaction commands) answer (λ k. subst (ArePicks strategy (client_of old) (Transaction commands)) (sym none) (no_picks strategy (client_of old) commands)) m

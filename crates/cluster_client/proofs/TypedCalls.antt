@@ -11,6 +11,7 @@ use Rattle.cluster_routing.specs.Choice.{Strategy}
 use Rattle.cluster_routing.specs.Policies.{bad_reply, or_bad_reply}
 use Rattle.stream_commands.specs.Commands as commands
 use Rattle.stream_commands.specs.Settings.{ReadSettings}
+use Rattle.stream_commands.specs.Commands.{plain_command}
 use Rattle.cluster_calls.specs.Links.Converted.{value_answer}
 use Rattle.cluster_calls.specs.Links.Events.{exchanges_of, log_of}
 use Rattle.cluster_calls.specs.Links.Faults.{LinkFault}
@@ -21,18 +22,18 @@ use Rattle.cluster_calls.specs.Links.Request.{Request, requests_to}
 use Rattle.cluster_calls.specs.Links.Run.{with_log}
 use Rattle.cluster_calls.specs.Links.Typed.{IsReadBy, record_answer, streams_by}
 use Rattle.cluster_calls.specs.Links.World.{World}
-use Rattle.cluster_calls.specs.Calls.Answer.{Answer, Value, answer_of, reply_of, stream_answer, unless}
+use Rattle.cluster_calls.specs.Calls.Answer.{Answer, Value, answer_of, reply_of, stream_answer}
 use Rattle.cluster_calls.specs.Calls.Call.{Call, Query, StreamCall, Xread, OnStreams}
 use Rattle.cluster_calls.specs.Calls.Legal.{IsLegalCall}
-use Rattle.cluster_calls.specs.Calls.Parts.{Part, result_then, task_parts}
+use Rattle.cluster_calls.specs.Calls.Parts.{Part, result_then}
 use Rattle.cluster_calls.specs.Calls.Picks.{ArePicks, ArePicksOf}
-use Rattle.cluster_calls.specs.Calls.Plan.{Client, Dispatch, call_parts, dispatches, in_order, order_of, plan, unless_refused}
+use Rattle.cluster_calls.specs.Calls.Plan.{Client, Dispatch, call_parts, dispatches, in_order, order_of, plan, unless}
 use Rattle.cluster_calls.specs.Calls.Refusals.{sent_refusal}
-use Rattle.stream_commands.specs.Commands.{plain_command}
 use Rattle.cluster_calls.specs.Calls.Task.{one_command, sentence, sentence_task, stream_keys, stream_ids, stream_refusal, stream_task}
-use Rattle.cluster_steps.proofs.Dispatched.{plan_unparted, picks_unparted}
+use Rattle.cluster_calls.specs.Calls.TaskParts.{task_parts}
 use Rattle.cluster_calls.proofs.LinkLaws.OneCommand.{refused_by, relogged_untouched, not_begun, not_sent}
 use Rattle.cluster_calls.proofs.LinkLaws.Played.{call_made}
+use Rattle.cluster_steps.proofs.Dispatched.{plan_unparted, picks_unparted}
 
 -- what a reply reads as, or why there is none
 abbrev pub read_by : (Tree → Option Answer) → Result Tree Refusal → Result Answer Refusal
@@ -65,7 +66,7 @@ module _ (strategy : Option Strategy) (old new : World) (call : StreamCall) (fit
   query = Query (plain_command (sentence call)) 0
 
   parts_alike : (client : Client) → call_parts client (OnStreams call) ≡ call_parts client query
-  parts_alike client = ap (λ why. unless_refused why (task_parts client.settings.read_only client.entries (stream_task call))) fits ∙ ap (task_parts client.settings.read_only client.entries) sentenced
+  parts_alike client = ap (λ why. unless why (task_parts client.settings.read_only client.entries (stream_task call))) fits ∙ ap (task_parts client.settings.read_only client.entries) sentenced
 
   plans_alike : (client : Client) (picks : List Address) → plan client picks (OnStreams call) ≡ plan client picks query
   plans_alike client picks =
@@ -161,7 +162,7 @@ unwritten strategy old new call e = not_begun strategy old new (OnStreams call) 
 -- a check before all others is not met
 pub refused_early : (strategy : Option Strategy) (old new : World) (call : StreamCall) (refusal : Refusal) → stream_refusal call ≡ Some refusal → new ≡ with_log old [] [] → CallMade strategy old new (OnStreams call) (Err refusal)
 refused_early strategy old new call refusal why e =
-    let none : call_parts (client_of old) (OnStreams call) ≡ Err refusal = ap (λ o. unless_refused o (task_parts old.settings.read_only old.entries (stream_task call))) why in
+    let none : call_parts (client_of old) (OnStreams call) ≡ Err refusal = ap (λ o. unless o (task_parts old.settings.read_only old.entries (stream_task call))) why in
     let picked : new.picked ≡ [] = ap (λ (w : World). w.picked) e in
     not_sent strategy old new (OnStreams call) refusal refl (relogged_untouched old new [] e) picked
     (λ m. (plan_unparted strategy (client_of old) (OnStreams call) new.picked refusal none, subst (λ ps. ArePicks strategy (client_of old) (OnStreams call) ps) (sym picked) (picks_unparted strategy (client_of old) (OnStreams call) refusal none)))

@@ -7,17 +7,17 @@ use Rattle.cluster_routing.specs.Info.{texts}
 use Rattle.cluster_routing.specs.Seen.{address}
 use Rattle.stream_commands.specs.InfoViews.{consumer_view, group_view, pending_view, stream_info_view}
 use Rattle.stream_commands.specs.RecordViews.{autoclaim_view, entries_view, rows_view}
+use Rattle.cluster_calls.specs.Calls.Answer as answer
+use Rattle.cluster_calls.specs.Calls.Answer.{Answer, Refreshed, Value, Added, Trimmed, Read, Range, Claim, AutoClaim, Pending, Groups, Consumers, Deleted}
+use Rattle.cluster_calls.specs.Calls.Call.{Call, Refresh, Query, Ordered, Pipeline, FanOut, At, Transaction, OnStreams, Stream, Claimant, Xadd, Xtrim, Xread, Xrange, Xclaim, Xautoclaim, Xpending, XinfoStream, XinfoGroups, XinfoConsumers, XdelEx}
+use Rattle.cluster_calls.specs.Links.Typed.{deletion_of}
+use Rattle.cluster_calls.specs.Links.Play.{Shown}
 use Rattle.cluster_client.specs.declared.run.Call.{Call as CodeCall}
 use Rattle.cluster_client.specs.declared.run.Call.TheVariants as calls
 use Rattle.cluster_client.specs.declared.run.Answer.{Answer as CodeAnswer}
 use Rattle.cluster_client.specs.declared.run.Answer.TheVariants as answers
 use Rattle.cluster_client.specs.declared.run.Played.{Played as CodePlayed}
 use Rattle.cluster_client.specs.declared.run.Claimant.{Claimant as CodeClaimant}
-use Rattle.cluster_calls.specs.Calls.Answer as answer
-use Rattle.cluster_calls.specs.Calls.Answer.{Answer, Refreshed, Value, Added, Trimmed, Read, Range, Claim, AutoClaim, Pending, Groups, Consumers, Deleted}
-use Rattle.cluster_calls.specs.Calls.Call.{Call, Refresh, Query, Ordered, Pipeline, FanOut, At, OnStreams, Stream, Claimant, Xadd, Xtrim, Xread, Xrange, Xclaim, Xautoclaim, Xpending, XinfoStream, XinfoGroups, XinfoConsumers, XdelEx}
-use Rattle.cluster_calls.specs.Links.Typed.{deletion_of}
-use Rattle.cluster_calls.specs.Links.Play.{Shown}
 
 abbrev pub pairs : List (Vec ℕ Global × Vec ℕ Global) → List (List ℕ × List ℕ)
 pairs ps = map (λ p. (p.0.items, p.1.items)) ps
@@ -36,6 +36,7 @@ call_in (calls.Ordered command order number) = Ordered command order.items numbe
 call_in (calls.Pipeline entries) = Pipeline entries
 call_in (calls.FanOut command) = FanOut command
 call_in (calls.At node command) = At (address node) command
+call_in (calls.Transaction commands) = Transaction commands.items
 call_in (calls.Xadd key options id fields) = OnStreams (Xadd key.items options id.items (pairs fields.items))
 call_in (calls.Xtrim key options) = OnStreams (Xtrim key.items options)
 call_in (calls.Xread streams options) = OnStreams (Xread (streams_in streams.items) options)

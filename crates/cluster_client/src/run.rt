@@ -4,7 +4,7 @@ mod streams;
 ghost use Rattle.std.specs.Prelude.{Option, is_ok, map, option_map};
 ghost use Rattle.cluster_routing.specs.Choice.{Strategy};
 ghost use Rattle.cluster_routing.specs.Seen.{address};
-ghost use Rattle.cluster_calls.specs.Calls.Call.{At, FanOut, Ordered, Pipeline, Query, Refresh};
+ghost use Rattle.cluster_calls.specs.Calls.Call.{At, FanOut, Ordered, Pipeline, Query, Refresh, Transaction};
 ghost use Rattle.cluster_calls.specs.Links.Happened.{CallMade};
 ghost use Rattle.cluster_calls.specs.Links.Play.{Plays, PlaysOne};
 ghost use Rattle.cluster_client.specs.Shown.{answer_result, call_in, shown};
@@ -50,6 +50,8 @@ pub enum Call {
         node: NodeAddress,
         cmd: Cmd,
     },
+    /// `ClusterClient::transaction`; it answers what EXEC replied, the array of the commands' replies.
+    Transaction(Vec<Cmd>),
     /// `ClusterClient::xadd`.
     Xadd {
         key: Vec<u8>,
@@ -187,6 +189,7 @@ impl<L: ConnectionLike + Drop> ClusterClient<L> {
             Call::Pipeline(pipeline) => self.answer_to_pipeline(alloc, pipeline),
             Call::FanOut(cmd) => self.answer_to_fan_out(alloc, cmd),
             Call::At { node, cmd } => self.answer_to_at(alloc, node, cmd),
+            Call::Transaction(commands) => self.answer_to_transaction(alloc, commands),
             Call::Xadd {
                 key,
                 options,
@@ -293,6 +296,19 @@ impl<L: ConnectionLike + Drop> ClusterClient<L> {
             (At (address node.now) cmd.now) (answer_result result) }
     {
         let reply = self.reply_at(alloc, node, cmd)?;
+        Ok(Answer::Value(reply))
+    }
+
+    fn answer_to_transaction(
+        &mut self,
+        alloc: Global,
+        commands: &[Cmd],
+    ) -> Result<Answer, RedisError>
+        ensures { (strategy : Option Strategy)
+            → CallMade strategy (whole L.seen self.old) (whole L.seen self.new) (Transaction commands.now)
+            (answer_result result) }
+    {
+        let reply = self.reply_to_transaction(alloc, commands)?;
         Ok(Answer::Value(reply))
     }
 }

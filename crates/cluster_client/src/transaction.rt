@@ -1,17 +1,19 @@
 //! Transactions are sent: MULTI, the commands and EXEC in one write, and all of it again behind a redirect.
-ghost use Rattle.std.specs.Prelude.{◌≡◌, ◌≢◌, ◌<◌, ◌≤◌, ◌+◌, [], Err, vec_capacity, vec_len, IfOk, IfSome};
+ghost use Rattle.std.specs.Prelude.{◌≡◌, ◌≢◌, ◌<◌, ◌≤◌, ◌+◌, [], Err, None, vec_capacity, vec_len, IfOk, IfSome};
 ghost use Rattle.resp_core.specs.Errors.{by_cause};
 ghost use Rattle.resp_core.specs.Trees.{array, no_trees};
 ghost use Rattle.resp_core.specs.View.{view};
 ghost use Rattle.resp_core.specs.declared.errors.redis_error.Cause.TheVariants.{Memory};
-ghost use Rattle.cluster_calls.specs.Calls.Transactions.{args_of, transaction_plan};
+ghost use Rattle.cluster_calls.specs.Calls.Call.{Transaction};
+ghost use Rattle.cluster_calls.specs.Calls.OneSlot.{args_of};
 ghost use Rattle.cluster_calls.specs.Links.AttemptRuns.{AttemptsMade};
-ghost use Rattle.cluster_calls.specs.Links.Happened.{client_of};
+ghost use Rattle.cluster_calls.specs.Calls.Plan.{plan};
+ghost use Rattle.cluster_calls.specs.Links.Converted.{ValueMade, value_answer};
+ghost use Rattle.cluster_calls.specs.Links.Happened.{CallMade, Happened, client_of};
 ghost use Rattle.cluster_calls.specs.Links.Request.{skipped};
 ghost use Rattle.cluster_calls.specs.Links.Run.{with_log};
-ghost use Rattle.cluster_calls.specs.Links.TransactionMade.{TransactionConverted, TransactionHappened, TransactionMade};
 ghost use Rattle.cluster_calls.specs.Links.World.{nodes, tree_result, tree_results};
-ghost use Rattle.cluster_steps.specs.Attempts.{AttemptExchanged, IsFirstAttempt, IsPlacedAttempt, attempt_node};
+ghost use Rattle.cluster_steps.specs.Attempts.{AttemptExchanged, IsFirstAttempt, IsPlacedAttempt, attempt_plan};
 ghost use Rattle.cluster_steps.specs.Turns.{hop_to};
 ghost use Rattle.cluster_client.specs.Whole.{whole};
 
@@ -46,7 +48,8 @@ impl<L: ConnectionLike + Drop> ClusterClient<L> {
     ) -> Result<Option<Attempt>, RedisError>
         ensures stays { whole L.seen self.new ≡ with_log (whole L.seen self.old) [] [] }
         ensures planned { result ≢ Err (by_cause Memory)
-            → transaction_plan (client_of (whole L.seen self.old)) commands.now ≡ attempt_node result }
+            → plan (client_of (whole L.seen self.old)) [] (Transaction commands.now)
+            ≡ attempt_plan commands.now result }
         ensures attempt { IfOk result
             (λ o. IsFirstAttempt (nodes L.seen self.new.links.nodes.items) commands.now o) }
         ensures room { IfOk result
@@ -109,9 +112,14 @@ impl<L: ConnectionLike + Drop> ClusterClient<L> {
     }
 
     /// The one reply to a transaction.
-    fn reply_to_transaction(&mut self, alloc: Global, commands: &[Cmd]) -> Result<Value, RedisError>
-        ensures { TransactionMade (whole L.seen self.old) (whole L.seen self.new) commands.now
-            (tree_result view result) }
+    pub(crate) fn reply_to_transaction(
+        &mut self,
+        alloc: Global,
+        commands: &[Cmd],
+    ) -> Result<Value, RedisError>
+        ensures made { CallMade None (whole L.seen self.old) (whole L.seen self.new)
+            (Transaction commands.now) (value_answer (tree_result view result)) }
+        ensures picks { (whole L.seen self.new).picked ≡ [] }
     {
         match self.first_attempt(alloc, commands)? {
             Some(attempt) => self.follow_attempts(alloc, commands, attempt),
@@ -161,10 +169,12 @@ impl<L: ConnectionLike + Drop> ClusterClient<L> {
         commands: &[Cmd],
     ) -> Result<T, RedisError>
         // What happened, also where memory is refused.
-        ensures happened { TransactionHappened (whole L.seen self.old) (whole L.seen self.new) commands.now }
+        ensures happened { Happened None (whole L.seen self.old) (whole L.seen self.new)
+            (Transaction commands.now) }
         ensures answered { result ≢ Err (by_cause Memory)
-            → TransactionConverted (whole L.seen self.old) (whole L.seen self.new) commands.now
-            T.meaning T.convert result }
+            → ValueMade None (whole L.seen self.old) (whole L.seen self.new)
+            (Transaction commands.now) T.meaning T.convert result }
+        ensures picks { (whole L.seen self.new).picked ≡ [] }
     {
         let reply = self.reply_to_transaction(alloc, commands)?;
         Ok(from_redis_value(alloc, reply)?)

@@ -6,7 +6,7 @@ ghost use Rattle.resp_core.specs.declared.errors.redis_error.Cause.TheVariants.{
 ghost use Rattle.cluster_routing.specs.Command.{is_one_of};
 ghost use Rattle.cluster_routing.specs.Routing.{name_of};
 ghost use Rattle.cluster_routing.specs.Rows.{names_of};
-ghost use Rattle.cluster_calls.specs.Calls.Transactions.{agrees, common_slot, is_before, is_outside, names_block, outside_names, own_slot, read_names, whole_slot};
+ghost use Rattle.cluster_calls.specs.Calls.OneSlot.{agrees, common_slot, is_before, is_outside, names_block, outside_names, own_slot, read_names, whole_slot};
 
 use crate::pipeline_parts::whole_part;
 use cluster_routing::Routable;

@@ -1,5 +1,5 @@
 use Rattle.std.proofs.Common.{◌≡◌, ◌∙◌, ◌∷◌, None, suc, add-one, drop, drop-cons, sym, ap, subst}
-use Rattle.cluster_calls.specs.Calls.Transactions.{common_slot}
+use Rattle.cluster_calls.specs.Calls.OneSlot.{common_slot}
 use Rattle.cluster_client.proofs.Transacting.{slots_differ, slots_more, slots_stop}
 use Rattle.cluster_client.proofs.transaction_slot.common_slot.Goals as goal
 

@@ -1,5 +1,5 @@
 use Rattle.std.proofs.Common.{◌≡◌, None, drop}
-use Rattle.cluster_calls.specs.Calls.Transactions.{common_slot}
+use Rattle.cluster_calls.specs.Calls.OneSlot.{common_slot}
 use Rattle.cluster_client.proofs.transaction_slot.common_slot.Given as goal
 
 abbrev pub invariant-commands : goal.invariant-commands

@@ -2,7 +2,7 @@ use Rattle.std.specs.Prelude.{◌&&◌, ◌||◌}
 use Rattle.std.proofs.Common.{◌∙◌, ap}
 use Rattle.cluster_routing.specs.Command.{is_one_of}
 use Rattle.cluster_routing.specs.Routing.{name_of}
-use Rattle.cluster_calls.specs.Calls.Transactions.{outside_names, read_names}
+use Rattle.cluster_calls.specs.Calls.OneSlot.{outside_names, read_names}
 use Rattle.cluster_client.proofs.Transacting.{outside_named}
 use Rattle.cluster_client.proofs.transaction_slot.is_outside.Goals as goal
 

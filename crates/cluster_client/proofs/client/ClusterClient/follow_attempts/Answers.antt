@@ -1,8 +1,9 @@
 use Rattle.std.proofs.Common.{◌≡◌, ◌<◌, ◌∙◌, refl, ap, sym, subst, length}
 use Rattle.std.proofs.lemmas.List.{length-map}
 use Rattle.std.proofs.lemmas.Result.{err_from_is_err_and}
+use Rattle.cluster_calls.specs.Calls.OneSlot.{args_of}
+use Rattle.cluster_calls.specs.Calls.Transactions.{attempt}
 use Rattle.cluster_calls.proofs.LinkLaws.AttemptLoop.{loop_start}
-use Rattle.cluster_calls.specs.Calls.Transactions.{args_of, attempt}
 use Rattle.cluster_steps.specs.Turns.{hop_to}
 use Rattle.cluster_client.specs.Whole.{whole}
 use Rattle.cluster_client.proofs.Transacting.{attempt_answered, attempt_failed, attempt_more, attempt_stopped, attempt_to_place, attempt_with_room}

@@ -1,8 +1,9 @@
 use Rattle.std.proofs.Common.{◌≡◌, ◌<◌, ◌≤◌, ◌+◌, vec_capacity, vec_len}
-use Rattle.cluster_calls.specs.Calls.Transactions.{args_of, attempt}
+use Rattle.cluster_calls.specs.Calls.OneSlot.{args_of}
+use Rattle.cluster_calls.specs.Calls.Transactions.{attempt}
 use Rattle.cluster_calls.proofs.LinkLaws.AttemptLoop.{Loop}
-use Rattle.cluster_client.specs.Whole.{whole}
 use Rattle.cluster_steps.specs.Turns.{hop_to}
+use Rattle.cluster_client.specs.Whole.{whole}
 use Rattle.cluster_client.proofs.client.ClusterClient.follow_attempts.Given as goal
 
 abbrev pub invariant-attempts : goal.invariant-attempts
