@@ -14,7 +14,7 @@ HOW = {
     "node": "node ADDR PIECE BYTES", "fault": "fault ADDR read N, or fault ADDR write N",
     "readonly": "readonly NAME", "budget": "budget N", "levels": "levels N",
     "refresh": "refresh ADDR", "query": "query NUMBER BYTES..", "order": "order I,J,.. BYTES..", "fan": "fan BYTES..",
-    "at": "at ADDR BYTES..", "pipe": "pipe",
+    "at": "at ADDR BYTES..", "pipe": "pipe", "multi": "multi",
     "cmd": "cmd BYTES..", "skip": "skip BYTES..", "run": "run", "xrange": "xrange KEY START END",
     "xread": "xread KEY,.. ID,..",
 }
@@ -70,7 +70,9 @@ class Reader:
     def __init__(self, lines):
         self.last_run = max((place for place, line in enumerate(lines) if line == b"run"), default=-1)
         self.nodes, self.faults = set(), set()
-        self.has_budget = self.has_levels = self.has_call = self.in_pipeline = False
+        self.has_budget = self.has_levels = self.has_call = False
+        # The line that began a pipeline or a transaction, up to the next `run`.
+        self.began = None
 
     def take(self, place, line):
         """Reads a line that is neither empty nor a comment."""
@@ -96,10 +98,13 @@ class Reader:
         self.has_call |= word not in SETTINGS
 
     def stands_here(self, word):
-        if self.in_pipeline and word not in ("cmd", "skip", "run"):
+        if self.began == "pipe" and word not in ("cmd", "skip", "run"):
             raise Bad("between `pipe` and `run` stand `cmd` and `skip` lines alone")
-        if not self.in_pipeline and word in ("cmd", "skip", "run"):
-            raise Bad(f"a `{word}` line stands behind `pipe` alone, up to the next `run`")
+        if self.began == "multi" and word not in ("cmd", "run"):
+            raise Bad("between `multi` and `run` stand `cmd` lines alone")
+        if not self.began and word in ("cmd", "skip", "run"):
+            behind = "`pipe`" if word == "skip" else "`pipe` or `multi`"
+            raise Bad(f"a `{word}` line stands behind {behind} alone, up to the next `run`")
 
     def fitting(self, word, args):
         """The words behind the first, as many as this line takes."""
@@ -164,12 +169,18 @@ class Reader:
         self.fan(_, *args)
 
     def pipe(self, place):
+        self.begin(place, "pipe")
+
+    def multi(self, place):
+        self.begin(place, "multi")
+
+    def begin(self, place, word):
         if place > self.last_run:
             raise Bad("no `run` line follows")
-        self.in_pipeline = True
+        self.began = word
 
     def run(self, _):
-        self.in_pipeline = False
+        self.began = None
 
     def xread(self, _, keys, ids):
         keys, ids = keys.split(","), ids.split(",")

@@ -16,7 +16,7 @@ ESCAPES = {"\n": "n", "\r": "r", "\t": "t", "\a": "a", "\b": "b", '"': '"', "\\"
 NAMED = {"n": "\n", "r": "\r", "t": "\t", "a": "\a", "b": "\b"}
 # How many words of a line stand as they are, behind its first; then words that are bytes, or lists of them.
 WORDS = {"query": 1, "order": 1, "fan": 0, "at": 1, "cmd": 0, "skip": 0, "xrange": 0}
-AS_THEY_ARE = ("fault", "readonly", "budget", "levels", "refresh", "pipe", "run")
+AS_THEY_ARE = ("fault", "readonly", "budget", "levels", "refresh", "pipe", "multi", "run")
 
 
 class Unreadable(Exception):

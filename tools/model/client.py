@@ -15,6 +15,11 @@ KINDS = {
 CLIENT = Refused("Client")
 NO_LINK = Refused("ClusterConnectionNotFound")
 ASCII_SPACE = "\t\n\f\r "
+# Words that begin, end or guard a transaction, or wait for what others write.
+OUTSIDE = (
+    b"MULTI", b"EXEC", b"DISCARD", b"WATCH", b"BLPOP", b"BRPOP", b"BLMOVE", b"BLMPOP", b"BRPOPLPUSH", b"BZPOPMIN",
+    b"BZPOPMAX", b"BZMPOP",
+)
 
 
 def by_server(error):
@@ -44,6 +49,31 @@ def target(tree):
         return None
     node = address(named[1])
     return (node, tree[1] == b"ASK") if node else None
+
+
+def has_no_place(args):
+    """Whether a command may not stand in a transaction."""
+    upper = [word.upper() for word in args]
+    if upper[0] in (b"XREAD", b"XREADGROUP") and b"BLOCK" in upper and b"STREAMS" in upper:
+        return upper.index(b"BLOCK") < upper.index(b"STREAMS")
+    return upper[0] in OUTSIDE
+
+
+def redirect_of(replies):
+    """Of the replies to an attempt by which nothing was done, the redirect that counts."""
+    if replies[0] != ("okay",) or replies[-1][0] not in ("nil", "error"):
+        return None
+    redirects = [it for it in [replies[-1], *replies] if it[0] == "error" and it[1] in (b"MOVED", b"ASK")]
+    return target(redirects[0]) if redirects else None
+
+
+def answer_of(replies):
+    """What an attempt answers that is not followed by another."""
+    errors = [it for it in replies if it[0] == "error"]
+    is_nil = replies[0] == ("okay",) and replies[-1][0] == "nil" and not errors
+    if replies[-1][0] == "array" or is_nil:
+        return replies[-1]
+    raise by_server(errors[0]) if errors else Refused("UnexpectedReturnType")
 
 
 class Client:
@@ -127,6 +157,24 @@ class Client:
         for reply in replies:
             without_error(reply)
         return ("array", [reply for reply, (_, ignored) in zip(replies, commands) if not ignored])
+
+    def transaction(self, commands):
+        """What EXEC replies behind MULTI and the commands, sent again where nothing was done."""
+        slots = [None if has_no_place(args) else self.whole_slot(args) for args in commands]
+        if None in slots or len(set(slots)) > 1:
+            raise CLIENT
+        if not commands:
+            return ("array", [])
+        node, asking, left = self.linked(primary(self.entries, slots[0])), False, self.budget
+        while True:
+            words = [[b"MULTI"], *commands, [b"EXEC"]]
+            requests = [Request(node, args, asking and not at) for at, args in enumerate(words)]
+            replies = self.exchange(node, requests, int(asking))
+            onward = redirect_of(replies) if left else None
+            if not onward:
+                return answer_of(replies)
+            node, asking = self.linked(onward[0]), onward[1]
+            left -= 1
 
     def outcome(self, node, args):
         try:

@@ -52,7 +52,7 @@ class Script:
 
     def __init__(self):
         self.nodes, self.failing = {}, {}
-        self.budget = self.levels = self.pipeline = None
+        self.budget = self.levels = self.pipeline = self.transaction = None
         self.calls = []
 
     def node(self, at, piece, bytes_word):
@@ -96,6 +96,8 @@ class Script:
     def outside(self, word, words, later):
         if word == "pipe" and not words and b"run" in later:
             self.pipeline = []
+        elif word == "multi" and not words and b"run" in later:
+            self.transaction = []
         elif word == "refresh":
             [at] = words
             self.add("refresh", need(address(at)))
@@ -122,16 +124,28 @@ class Script:
         else:
             raise Bad
 
+    def as_one(self, word, words):
+        if word == "run" and not words:
+            self.add("transaction", self.transaction)
+            self.transaction = None
+        elif word == "cmd":
+            self.transaction.append(some(words, data))
+        else:
+            raise Bad
+
     def line(self, text, later):
-        if self.pipeline is None and text.startswith("readonly "):
+        is_outside = self.pipeline is None and self.transaction is None
+        if is_outside and text.startswith("readonly "):
             if self.calls or text == "readonly ":
                 raise Bad
             return
         word, *words = text.split(" ")
-        if self.pipeline is None:
+        if is_outside:
             self.outside(word, words, later)
-        else:
+        elif self.transaction is None:
             self.inside(word, words)
+        else:
+            self.as_one(word, words)
 
 
 @functools.cache

@@ -5,11 +5,12 @@ use Rattle.std.specs.List.{list_any}
 use Rattle.std.specs.Str.{IsUtf8, is_utf8}
 use Rattle.std.proofs.lemmas.Str.{is_utf8-from_IsUtf8, IsUtf8-from_is_utf8}
 use Rattle.std.proofs.lemmas.List.{take_rest}
+use Rattle.resp_args.specs.Command.{Command}
 use Rattle.cluster_calls.specs.Calls.Call.{Entry}
 use Rattle.cluster_calls.specs.Links.Building.{ignoring, with_last}
 use Rattle.cluster_session.specs.Lines.{Meaning, Words, is_skipped, said_by_text}
 use Rattle.cluster_session.specs.LinesRead.{words_in}
-use Rattle.cluster_session.specs.Script.{Draft, add_inside, add_outside, add_line, add_lines, add_said, and_then, is_run, nothing_yet, said_by_line}
+use Rattle.cluster_session.specs.Script.{Draft, add_inside, add_outside, add_to, add_unpiped, add_line, add_lines, add_said, and_then, is_run, nothing_yet, said_by_line}
 use Rattle.cluster_session.specs.ScriptRead.{Makes}
 use Rattle.cluster_session.specs.declared.session.lines.LineError.{LineError}
 use Rattle.cluster_session.specs.declared.session.lines.LineError.TheVariants.{Bad}
@@ -30,9 +31,18 @@ pub said_inside : (inside : Option (List Entry)) (later : Words) (said : Meaning
 said_inside None later said draft e = cc
 said_inside (Some entries) later said draft e = refl
 
-pub said_outside : (inside : Option (List Entry)) (later : Words) (said : Meaning) (draft : Draft) → is_some inside ≡ false → add_said inside later said draft ≡ add_outside later said draft
+pub said_outside : (inside : Option (List Entry)) (later : Words) (said : Meaning) (draft : Draft) → is_some inside ≡ false → add_said inside later said draft ≡ add_unpiped draft.transaction later said draft
 said_outside None later said draft e = refl
 said_outside (Some entries) later said draft e = cc
+
+-- inside a transaction, and outside one
+pub said_to : (inside : Option (List Command)) (later : Words) (said : Meaning) (draft : Draft) → is_some inside ≡ true → add_unpiped inside later said draft ≡ add_to (unwrap_or inside []) said draft
+said_to None later said draft e = cc
+said_to (Some commands) later said draft e = refl
+
+pub said_unpiped : (inside : Option (List Command)) (later : Words) (said : Meaning) (draft : Draft) → is_some inside ≡ false → add_unpiped inside later said draft ≡ add_outside later said draft
+said_unpiped None later said draft e = refl
+said_unpiped (Some commands) later said draft e = cc
 
 -- ---- a line that is not skipped
 

@@ -3,12 +3,12 @@
 use Rattle.std.specs.Prelude.{ℕ, ◌^◌, ◌==◌, ◌&&◌, Bool, true, false, nat_lt, nat_eq, if◌then◌else◌, List, [], ◌∷◌, drop, map, Option, Some, None, option_map, option_and_then, codes, bytes_eq}
 use Rattle.std.specs.Result.{result_ok}
 use Rattle.std.specs.List.{starts_with}
-use Rattle.hex.specs.Hex.{decode_of}
 use Rattle.resp_core.specs.Numbers.{number_below}
 use Rattle.resp_args.specs.Command.{Command, new_command}
 use Rattle.resp_args.specs.declared.cmd.Arg.TheVariants.{Simple}
 use Rattle.cluster_routing.specs.Address.{Address, address_read}
 use Rattle.cluster_calls.specs.Calls.Call.{Call, Refresh, Query, Ordered, FanOut, At, OnStreams, Stream, Xread, Xrange, Entry}
+use Rattle.hex.specs.Hex.{decode_of}
 
 -- what fails of a node
 pub data Access : Type 0 where
@@ -23,6 +23,7 @@ pub data Meaning : Type 0 where
   levels : ℕ → Meaning
   call : Call → Meaning
   pipe : Meaning
+  multi : Meaning
   command : Entry → Meaning
   run : Meaning
 
@@ -179,6 +180,7 @@ said_by word args =
     if bytes_eq word (codes "fan") then fan_line args else
     if bytes_eq word (codes "at") then at_line args else
     if bytes_eq word (codes "pipe") then alone pipe args else
+    if bytes_eq word (codes "multi") then alone multi args else
     if bytes_eq word (codes "cmd") then command_line false args else
     if bytes_eq word (codes "skip") then command_line true args else
     if bytes_eq word (codes "run") then alone run args else

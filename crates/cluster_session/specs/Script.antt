@@ -6,16 +6,18 @@ use Rattle.std.specs.Result.{result_map_both}
 use Rattle.std.specs.Str.{is_utf8}
 use Rattle.std.specs.BTreeMap.{insert_entry, is_at}
 use Rattle.std.specs.Map.{lookup, set_value}
+use Rattle.resp_args.specs.Command.{Command}
 use Rattle.cluster_routing.specs.Address.{Address, address_cmp}
-use Rattle.cluster_calls.specs.Calls.Call.{Call, Pipeline, Entry}
-use Rattle.cluster_session.specs.Lines.{Access, reading, writing, Meaning, node, fault, read_only, budget, levels, call, pipe, command, run, Words, is_skipped, pieces, said_by_text}
+use Rattle.cluster_calls.specs.Calls.Call.{Call, Pipeline, Transaction, Entry}
+use Rattle.cluster_session.specs.Lines.{Access, reading, writing, Meaning, node, fault, read_only, budget, levels, call, pipe, multi, command, run, Words, is_skipped, pieces, said_by_text}
 use Rattle.cluster_session.specs.Session.{Session, Setup}
 
 -- what is set up for each node, by ascending address
 abbrev pub Nodes : Type 0
 Nodes = List (Address × Setup)
 
--- What the lines so far set up and call, and the commands of a pipeline that no line has ended yet.
+-- What the lines so far set up and call, and the commands of a pipeline or a transaction that no line has
+-- ended yet.
 pub record Draft : Type 0 where
   pub nodes : Nodes
   pub read_only : List (List ℕ)
@@ -23,9 +25,18 @@ pub record Draft : Type 0 where
   pub levels : Option ℕ
   pub calls : List Call
   pub pipeline : Option (List Entry)
+  pub transaction : Option (List Command)
 
 abbrev pub nothing_yet : Draft
-nothing_yet = record { nodes = []; read_only = []; budget = None; levels = None; calls = []; pipeline = None }
+nothing_yet = record {
+  nodes = [];
+  read_only = [];
+  budget = None;
+  levels = None;
+  calls = [];
+  pipeline = None;
+  transaction = None;
+}
 
 -- ---- what a line adds; nothing where it is bad at its place
 
@@ -81,7 +92,7 @@ set_levels number draft = if is_some draft.levels then None else Some (record dr
 abbrev pub add_call : Call → Draft → Draft
 add_call c draft = record draft { calls = draft.calls ++ c ∷ [] }
 
--- a line that ends a pipeline
+-- a line that ends a pipeline, or a transaction
 abbrev pub is_run : List ℕ → Bool
 is_run line = bytes_eq line (codes "run")
 
@@ -90,7 +101,11 @@ abbrev pub begin_pipeline : Words → Draft → Option Draft
 begin_pipeline later draft = if list_any is_run later then Some (record draft { pipeline = Some [] })
     else None
 
--- outside a pipeline: what the line says, with the lines behind it
+abbrev pub begin_transaction : Words → Draft → Option Draft
+begin_transaction later draft = if list_any is_run later then Some (record draft { transaction = Some [] })
+    else None
+
+-- outside both: what the line says, with the lines behind it
 abbrev pub add_outside : Words → Meaning → Draft → Option Draft
 add_outside later (node at piece bytes) draft =
     before_calls draft (add_node at
@@ -101,6 +116,7 @@ add_outside later (budget number) draft = before_calls draft (set_budget number 
 add_outside later (levels number) draft = before_calls draft (set_levels number draft)
 add_outside later (call c) draft = Some (add_call c draft)
 add_outside later pipe draft = begin_pipeline later draft
+add_outside later multi draft = begin_transaction later draft
 add_outside later (command entry) draft = None
 add_outside later run draft = None
 
@@ -110,8 +126,19 @@ add_inside entries (command entry) draft = Some (record draft { pipeline = Some 
 add_inside entries run draft = Some (add_call (Pipeline entries) (record draft { pipeline = None }))
 add_inside entries _ draft = None
 
+-- inside a transaction of these commands so far, none of which is left out of the answer
+abbrev pub add_to : List Command → Meaning → Draft → Option Draft
+add_to commands (command entry) draft = if entry.ignored then None
+    else Some (record draft { transaction = Some (commands ++ entry.command ∷ []) })
+add_to commands run draft = Some (add_call (Transaction commands) (record draft { transaction = None }))
+add_to commands _ draft = None
+
+abbrev pub add_unpiped : Option (List Command) → Words → Meaning → Draft → Option Draft
+add_unpiped None later said draft = add_outside later said draft
+add_unpiped (Some commands) later said draft = add_to commands said draft
+
 abbrev pub add_said : Option (List Entry) → Words → Meaning → Draft → Option Draft
-add_said None later said draft = add_outside later said draft
+add_said None later said draft = add_unpiped draft.transaction later said draft
 add_said (Some entries) later said draft = add_inside entries said draft
 
 -- ---- a line, and all lines

@@ -72,7 +72,7 @@ fn is_skipped(line: &[u8]) -> bool
     matches!(line, [] | [b'#', ..])
 }
 
-/// Whether the line ends a pipeline.
+/// Whether the line ends a pipeline, or a transaction.
 pub(super) fn is_run(line: &[u8]) -> bool
     ensures { result ≡ is_run line.now }
 {
@@ -123,6 +123,7 @@ fn read_form(alloc: Global, word: &str, args: &[&str]) -> Result<Line, LineError
         "fan" => read_fan(alloc, args),
         "at" => read_at(alloc, args),
         "pipe" => read_alone(Line::Pipe, args),
+        "multi" => read_alone(Line::Multi, args),
         "cmd" => read_command(alloc, false, args),
         "skip" => read_command(alloc, true, args),
         "run" => read_alone(Line::Run, args),

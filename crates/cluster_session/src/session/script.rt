@@ -1,11 +1,11 @@
 //! A checked session as data.
-ghost use Rattle.std.specs.Prelude.{◌≡◌, ◌≢◌, ◌∷◌, ◌<◌, ◌==◌, [], Some, None, IfOk, IfSome, MatchOption, length, unwrap_or};
+ghost use Rattle.std.specs.Prelude.{◌≡◌, ◌≢◌, ◌∷◌, ◌<◌, ◌==◌, [], Some, None, false, IfOk, IfSome, MatchOption, length, unwrap_or};
 ghost use Rattle.std.specs.List.{list_any, position};
 ghost use Rattle.cluster_routing.specs.Seen.{address};
 ghost use Rattle.cluster_client.specs.Shown.{call_in};
 ghost use Rattle.cluster_session.specs.Lines.{command, pieces, run};
 ghost use Rattle.cluster_session.specs.LinesRead.{access_in, meaning_in, words_in};
-ghost use Rattle.cluster_session.specs.Script.{add_call, add_fault, add_inside, add_line, add_lines, add_node, add_outside, add_read_only, add_said, before_calls, begin_pipeline, is_run, nothing_yet, put_fault, put_node, session_in_text, first_fault, set_budget, set_levels, set_fault};
+ghost use Rattle.cluster_session.specs.Script.{add_call, add_fault, add_inside, add_to, add_unpiped, add_line, add_lines, add_node, add_outside, add_read_only, add_said, before_calls, begin_pipeline, begin_transaction, is_run, nothing_yet, put_fault, put_node, session_in_text, first_fault, set_budget, set_levels, set_fault};
 ghost use Rattle.cluster_session.specs.ScriptRead.{Makes, MakesAll, ReadsSession, draft_in, nodes_in, setup_in};
 
 use crate::session::levels::Levels;
@@ -78,9 +78,11 @@ pub(super) enum Line {
     Call(Call),
     /// It begins a pipeline.
     Pipe,
-    /// A command of a pipeline.
+    /// It begins a transaction.
+    Multi,
+    /// A command of a pipeline, or of a transaction.
     Command { command: Cmd, ignored: bool },
-    /// It ends a pipeline.
+    /// It ends a pipeline, or a transaction.
     Run,
 }
 
@@ -115,6 +117,8 @@ pub(super) struct Script {
     pub calls: Vec<Call>,
     // The pipeline that no line has ended yet.
     pub pipeline: Option<ClusterPipeline>,
+    // The commands of a transaction that no line has ended yet.
+    pub transaction: Option<Vec<Cmd>>,
 }
 
 impl Script {
@@ -128,6 +132,7 @@ impl Script {
             levels: None,
             calls: Vec::new(alloc),
             pipeline: None,
+            transaction: None,
         }
     }
 
@@ -166,7 +171,7 @@ impl Script {
         }
     }
 
-    // What a line says, inside a pipeline or outside one.
+    // What a line says, inside a pipeline or a transaction, or outside both.
     #[tactic(auto, using(crate::proofs::Scripts::said_inside, crate::proofs::Scripts::said_outside))]
     fn add_said(&mut self, alloc: Global, line: Line, later: &[&[u8]]) -> Result<(), LineError>
         ensures { Makes (add_said (draft_in self.old).pipeline (words_in later.now) (meaning_in line)
@@ -174,6 +179,18 @@ impl Script {
     {
         if self.pipeline.is_some() {
             self.add_inside(line)
+        } else {
+            self.add_unpiped(alloc, line, later)
+        }
+    }
+
+    #[tactic(auto, using(crate::proofs::Scripts::said_to, crate::proofs::Scripts::said_unpiped))]
+    fn add_unpiped(&mut self, alloc: Global, line: Line, later: &[&[u8]]) -> Result<(), LineError>
+        ensures { Makes (add_unpiped (draft_in self.old).transaction (words_in later.now) (meaning_in line)
+            (draft_in self.old)) (draft_in self.new) result }
+    {
+        if self.transaction.is_some() {
+            self.add_to_transaction(line)
         } else {
             self.add_outside(alloc, line, later)
         }
@@ -204,6 +221,7 @@ impl Script {
             Line::Levels(levels) => self.set_levels(levels),
             Line::Call(call) => self.add_call(call),
             Line::Pipe => self.begin_pipeline(alloc, later),
+            Line::Multi => self.begin_transaction(alloc, later),
             Line::Command { .. } | Line::Run => Err(LineError::Bad),
         }
     }
@@ -313,6 +331,59 @@ impl Script {
             Some(pipeline) => self.add_call(Call::Pipeline(pipeline)),
         }
     }
+
+    // A line of an open transaction.
+    fn add_to_transaction(&mut self, line: Line) -> Result<(), LineError>
+        requires { self.old.transaction ≢ None }
+        ensures { Makes (add_to (unwrap_or (draft_in self.old).transaction []) (meaning_in line)
+            (draft_in self.old)) (draft_in self.new) result }
+    {
+        match line {
+            Line::Command {
+                command,
+                ignored: false,
+            } => self.add_done_as_one(command),
+            Line::Run => self.end_transaction(),
+            _ => Err(LineError::Bad),
+        }
+    }
+
+    // Refused where no line behind it ends the transaction.
+    #[tactic(auto, using(crate::proofs::Scripts::any_words))]
+    fn begin_transaction(&mut self, alloc: Global, later: &[&[u8]]) -> Result<(), LineError>
+        ensures { Makes (begin_transaction (words_in later.now) (draft_in self.old))
+            (draft_in self.new) result }
+    {
+        if !is_ended(later) {
+            return Err(LineError::Bad);
+        }
+        self.transaction = Some(Vec::new(alloc));
+        Ok(())
+    }
+
+    fn add_done_as_one(&mut self, cmd: Cmd) -> Result<(), LineError>
+        requires { self.old.transaction ≢ None }
+        ensures { Makes (add_to (unwrap_or (draft_in self.old).transaction [])
+            (command (record { command = cmd; ignored = false })) (draft_in self.old))
+            (draft_in self.new) result }
+    {
+        let Some(commands) = &mut self.transaction else {
+            return Err(LineError::Bad);
+        };
+        commands.push(cmd)?;
+        Ok(())
+    }
+
+    fn end_transaction(&mut self) -> Result<(), LineError>
+        requires { self.old.transaction ≢ None }
+        ensures { Makes (add_to (unwrap_or (draft_in self.old).transaction []) run (draft_in self.old))
+            (draft_in self.new) result }
+    {
+        match self.transaction.take() {
+            None => Err(LineError::Bad),
+            Some(commands) => self.add_call(Call::Transaction(commands)),
+        }
+    }
 }
 
 // Refused where the address has a node already.
@@ -346,7 +417,7 @@ fn put_fault(
     }
 }
 
-// Whether one of these lines ends a pipeline.
+// Whether one of these lines ends a pipeline, or a transaction.
 fn is_ended(later: &[&[u8]]) -> bool
     ensures { result ≡ list_any (λ line. is_run line.now) later.now }
 {
