@@ -24,6 +24,7 @@ pub mod Runs
 pub mod AmongOthers
 pub mod Alone
 pub mod OneCall
+pub mod OneSlot
 pub mod Unsplit
 pub mod Determined
 pub mod Agreeing

@@ -47,7 +47,7 @@ responses_by meaning operation (x ∷ xs) (s ∷ ss) h = let r = responses_by me
 -- ---- the last attempt of a legal log
 
 module _ (links : List Address) (commands : List (List (List ℕ))) where
-  abbrev IsAttemptLog : List Exchange → Type 0
+  abbrev pub IsAttemptLog : List Exchange → Type 0
   IsAttemptLog xs = (hop : Hop) × (requests xs ≡ attempt hop commands)
 
   all_there : (xs : List Exchange) → length xs ≡ size commands → last_attempt commands xs ≡ xs
@@ -57,7 +57,7 @@ module _ (links : List Address) (commands : List (List (List ℕ))) where
   long zero hop xs h = let e = attempt_length hop commands xs h in omega (arith, e)
   long (suc left) hop xs h = let e = front_length hop commands xs h.0 in omega (arith, e)
 
-  last_is : (left : ℕ) (hop : Hop) (xs : List Exchange) → FollowsAttempts links left hop commands xs → IsAttemptLog (last_attempt commands xs)
+  pub last_is : (left : ℕ) (hop : Hop) (xs : List Exchange) → FollowsAttempts links left hop commands xs → IsAttemptLog (last_attempt commands xs)
   last_is zero hop xs h = subst IsAttemptLog (sym (all_there xs (attempt_length hop commands xs h))) (hop, h)
   last_is (suc left) hop xs h =
       by (next_attempt links (suc left) (replies_in (take (size commands) xs))) h.1 (λ next k. (last_is left next (drop (size commands) xs) k, long left next (drop (size commands) xs) k))
@@ -116,7 +116,7 @@ pub record ByExec (xs : List Exchange) : Type 0 where
   pub args : last.request.args ≡ exec
   pub reply : exec_reply (replies_in xs) ≡ last.reply
 
-by_exec : (hop : Hop) (commands : List (List (List ℕ))) (xs : List Exchange) → requests xs ≡ attempt hop commands → ByExec xs
+pub by_exec : (hop : Hop) (commands : List (List (List ℕ))) (xs : List Exchange) → requests xs ≡ attempt hop commands → ByExec xs
 by_exec hop commands [] e = cc
 by_exec hop commands (x ∷ xs) e =
     let r = last_one x xs in
