@@ -26,6 +26,7 @@ use Rattle.cluster_calls.specs.OneServer.AmongOthers.{Other, in_turn, CallTurns,
 use Rattle.cluster_calls.proofs.ServerLaws.Calls.{plan_sends}
 use Rattle.cluster_calls.proofs.ServerLaws.Counted.{counted_steps, parts_begun}
 use Rattle.cluster_calls.proofs.ServerLaws.Draw.{pairwise-nil}
+use Rattle.cluster_calls.proofs.ServerLaws.OneSlot.{transaction_on_one}
 use Rattle.cluster_calls.proofs.ServerLaws.PartCall.{Sends}
 use Rattle.cluster_calls.proofs.ServerLaws.Pieces.{IsDoneAs, AccountsAs, same_on_slot}
 use Rattle.cluster_calls.proofs.ServerLaws.ReadCall.{read_on_one}
@@ -130,7 +131,9 @@ unsplit_on_one client meaning done picks call xs own unsplit legal accounts = by
     by (pipeline_of entries) t u h = absurd (false≢true u)
     by (several_nodes command) t u h = absurd (false≢true u)
     by (one_node node command) t u h = absurd (false≢true u)
-    by (transaction_of commands) t u h = absurd (false≢true u)
+    by (transaction_of commands) t u h =
+        let r = transaction_on_one client meaning done picks call commands xs own t legal h in
+        all_on_one r.0 (concat own) r.1
     by (read_of options streams) t u h =
         let r = read_on_one meaning done options streams u xs own (subst (λ k. Pairwise (AccountsAs meaning done (task_operation k)) xs own) t h) in
         all_on_one r.0 (concat own) r.1

@@ -148,14 +148,14 @@ AnswersAmongOthers =
 
 -- ---- where nothing is moved
 
--- a refresh, a command that is not split, or a read of one slot
+-- a refresh, a command that is not split, a transaction, or a read of one slot
 abbrev pub is_unsplit_task : Task → Bool
 is_unsplit_task (slot_map_of node) = true
 is_unsplit_task (one_command command number order) = is_none (split_of (sent command))
 is_unsplit_task (pipeline_of entries) = false
 is_unsplit_task (several_nodes command) = false
 is_unsplit_task (one_node node command) = false
-is_unsplit_task (transaction_of commands) = false
+is_unsplit_task (transaction_of commands) = true
 is_unsplit_task (read_of options streams) = are_of_one_slot (stream_keys streams)
 
 abbrev pub is_unsplit : Call → Bool
