@@ -3,14 +3,15 @@ ghost use Rattle.std.specs.Prelude.{ℕ, List, [], ◌≡◌, ◌≢◌, Err, Ok
 ghost use Rattle.resp_core.specs.Errors.{by_cause};
 ghost use Rattle.resp_core.specs.declared.errors.redis_error.Cause.TheVariants.{Memory};
 ghost use Rattle.resp_args.specs.Packed.{sent};
-ghost use Rattle.cluster_calls.specs.Calls.Parts.{at_slot, if_one_slot, part_to, parts_of, pipeline_parts, reads_several_slots, whole_part};
-ghost use Rattle.cluster_steps.specs.FirstPlaces.{part_of};
+ghost use Rattle.cluster_routing.specs.Info.{texts};
+ghost use Rattle.cluster_calls.specs.Calls.Parts.{at_slot, if_at_slot, if_one_slot, part_to, parts_of, pipeline_parts, reads_several_slots, whole_part};
+ghost use Rattle.cluster_steps.specs.FirstPlaces.{part_of, target_of};
 ghost use Rattle.cluster_steps.specs.WholeParts.{parts_found, whole_by};
 
 use crate::pipeline::PipelineCommand;
 use cluster_routing::{Route, SlotAddr};
 use cluster_steps::pipeline_reads::reads_several_slots;
-use cluster_steps::route::{Part, Target, parts_of};
+use cluster_steps::route::{self, Part, Target, parts_of};
 use resp_args::Cmd;
 use resp_core::{Cause, ErrorKind, RedisError};
 use std::alloc::Global;
@@ -48,6 +49,50 @@ fn whole_route(alloc: Global, command: &Cmd) -> Result<Option<Route>, RedisError
     }
 }
 
+/// The part that a command is whole, which its routes tell; none for one that does not go whole to one slot.
+fn part_by_routes(alloc: Global, command: &Cmd) -> Result<Option<Part>, RedisError>
+    ensures part { IfOk result
+        (λ o. option_map part_of o ≡ whole_part (sent command.now) (parts_of [] command.now 0)) }
+    ensures only { IfErr result (λ e. e ≡ by_cause Memory) }
+{
+    let Some(route) = whole_route(alloc, command)? else {
+        return Ok(None);
+    };
+    Ok(Some(Part {
+        target: Target::Slot(route),
+        args: command.wire_args()?,
+    }))
+}
+
+/// A part as it goes to the primary of its slot; none where any node may serve it.
+fn to_primary(part: Part) -> Option<Part>
+    ensures { option_map part_of result ≡ if_at_slot (texts part.args.items) (target_of part.target) }
+{
+    match part.target {
+        Target::Slot(route) => Some(Part {
+            target: Target::Slot(Route::new(route.slot(), SlotAddr::Master)),
+            args: part.args,
+        }),
+        Target::Number(_) => None,
+    }
+}
+
+/// The part that a command is whole; none for one that does not go whole to one slot.
+fn part_to_slot(alloc: Global, command: &Cmd) -> Result<Option<Part>, RedisError>
+    ensures part { IfOk result
+        (λ o. option_map part_of o ≡ whole_part (sent command.now) (parts_of [] command.now 0)) }
+    ensures only { IfErr result (λ e. e ≡ by_cause Memory) }
+{
+    match route::whole_part(alloc, command, &[], 0) {
+        Ok(Some(part)) => Ok(to_primary(part)),
+        Ok(None) => part_by_routes(alloc, command),
+        Err(e) => match e.kind() {
+            ErrorKind::Memory => Err(RedisError::from(Cause::Memory)),
+            _ => Ok(None),
+        },
+    }
+}
+
 /// The part that a command is whole; none for one that does not go whole to one slot, or reads streams of
 /// several.
 pub(crate) fn whole_part(alloc: Global, command: &Cmd) -> Result<Option<Part>, RedisError>
@@ -60,13 +105,7 @@ pub(crate) fn whole_part(alloc: Global, command: &Cmd) -> Result<Option<Part>, R
     if reads_several_slots(alloc, command)? {
         return Ok(None);
     }
-    let Some(route) = whole_route(alloc, command)? else {
-        return Ok(None);
-    };
-    Ok(Some(Part {
-        target: Target::Slot(route),
-        args: command.wire_args()?,
-    }))
+    part_to_slot(alloc, command)
 }
 
 /// The parts of a pipeline's commands, in order.
