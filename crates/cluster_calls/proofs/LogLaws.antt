@@ -23,7 +23,9 @@ pub mod OneRun
 pub mod OneSpelling
 pub mod PromisedPlays
 pub mod StreamTasks
+pub mod EachInParts
 pub mod EachPosition
+pub mod FatesOfParts
 pub mod Fates
 pub mod EachAnswer
 pub mod Sizes

@@ -15,4 +15,5 @@ pub mod Refusals
 pub mod Answer
 pub mod After
 pub mod Each
+pub mod EachInParts
 pub mod Transactions

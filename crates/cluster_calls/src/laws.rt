@@ -4,7 +4,7 @@ ghost use Rattle.cluster_calls.specs.Links.Leaves.{UnaskedNodesStay};
 ghost use Rattle.cluster_calls.specs.OneServer.AmongOthers.{AnswersAmongOthers, UnsplitRunsStay};
 ghost use Rattle.cluster_calls.specs.OneServer.Bounds.{CallsAreBounded, PlaysAreBounded};
 ghost use Rattle.cluster_calls.specs.OneServer.ClosedLinks.{ClosedLinksChangeNothing};
-ghost use Rattle.cluster_calls.specs.OneServer.Fates.{EachPositionHasItsFate, OutcomesMakeTheAnswer};
+ghost use Rattle.cluster_calls.specs.OneServer.Fates.{EachPositionHasItsFate, OutcomesMakeTheAnswer, PartsGoWhole, WholesStayWhole};
 ghost use Rattle.cluster_calls.specs.OneServer.Headline.{AnswersAndKeyspace, Refusals};
 ghost use Rattle.cluster_calls.specs.OneServer.Laws.{HistoriesAreBySlot, EachPartIsAnsweredOnce, GapsNameNoKey, JoinIsTheWhole, NodesKeepHistories, NodesOnceAscending, OneServerIsDetermined, OnlyRedirectsRepeat, PartsKeepHistories, RequestsAreBounded, RunsAgree};
 ghost use Rattle.cluster_calls.specs.OneServer.OneCall.{OneCallAmongOthers, OneCallAsOnOneServer, RepliesDetermineLogs};
@@ -233,6 +233,16 @@ pub fn promised_plays()
 /// was not done, or may have been done, also where memory is refused.
 pub fn each_position_has_its_fate()
     ensures { EachPositionHasItsFate }
+{}
+
+/// Where each command of a pipeline goes to slots, what stands in it for a split one goes out whole.
+pub fn parts_go_whole()
+    ensures { PartsGoWhole }
+{}
+
+/// Where no command of a pipeline is split, its positions' outcomes are those of its requests.
+pub fn wholes_stay_whole()
+    ensures { WholesStayWhole }
 {}
 
 /// The one answer to a pipeline is a function of the outcomes of its positions.

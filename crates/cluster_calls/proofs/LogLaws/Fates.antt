@@ -25,7 +25,9 @@ use Rattle.cluster_calls.specs.Calls.Parts.{Part, pipeline_parts, result_then}
 use Rattle.cluster_calls.specs.Calls.Plan.{Client, Dispatch, dispatches, plan}
 use Rattle.cluster_calls.specs.OneServer.Fates.{FateSays, HaveFates, EachPositionHasItsFate}
 use Rattle.cluster_calls.specs.OneServer.Laws.{is_redirect_sort, is_redirect_reply}
+use Rattle.cluster_calls.specs.Calls.EachInParts.{in_parts, split_at, splits_in}
 use Rattle.cluster_calls.proofs.LinkLaws.Told.{told_requests, lost_closed, refusals_lose}
+use Rattle.cluster_calls.proofs.LogLaws.FatesOfParts.{as_many, fates_of_parts}
 use Rattle.cluster_calls.proofs.LogLaws.EachPosition.{IsDrawn, LosesItsNode, is_asked, none_paired, positions_drawn, positions_own, queued}
 use Rattle.cluster_calls.proofs.LogLaws.Gaps.{every_gap_names_no_key}
 use Rattle.cluster_calls.proofs.LogLaws.PipePlans.{pipeline_nodes, pipeline_parts_are}
@@ -123,7 +125,7 @@ module _ (new : World) (xs : List Exchange) (refusals : Address → Refusal)
 
 -- ---- all positions
 
-pairwise_length : {A B : Type 0} (R : A → B → Type 0) (xs : List A) (ys : List B) → Pairwise R xs ys → length ys ≡ length xs
+pub pairwise_length : {A B : Type 0} (R : A → B → Type 0) (xs : List A) (ys : List B) → Pairwise R xs ys → length ys ≡ length xs
 pairwise_length R [] [] h = refl
 pairwise_length R [] (y ∷ ys) h = absurd h
 pairwise_length R (x ∷ xs) [] h = absurd h
@@ -156,16 +158,20 @@ positions_known strategy old new entries outcomes made place =
     let events = made.happened.events in
     let xs = told_of place events in
     let ds = made.told.dispatches in
-    let nodes = made_by_nodes (client_of old) new.picked entries ds xs made.told.planned (made.told.legal place) in
+    let es = in_parts entries in
+    let nodes = made_by_nodes (client_of old) new.picked es ds xs made.told.planned (made.told.legal place) in
     let log : requests xs ≡ new.log = told_requests events place ∙ sym made.happened.logged in
     let drawn = positions_drawn ds xs nodes in
     let its = position_exchanges ds xs in
     record {
-      fates = subst (HaveFates new xs ds its) (sym (made.told.each place))
-          (position_fates new xs (refusals_of events) (refusals_lose events) (λ a l. lost_closed old.nodes new.nodes events place made.happened.runs a l)
-          (λ a none. ap (requests_to a) (sym log) ∙ sym (filter-map (λ (x : Exchange). x.request) (λ (q : Request). same_address q.node a) xs) ∙ ap requests none)
-          (is_asked ds xs nodes) (λ a none. unasked_queue (is_asked ds xs nodes a) _ (exchanges_with xs a) (queued ds xs nodes a).0 none) ds its drawn);
-      log = log;
-      own = positions_own ds xs nodes;
-      whole = ap length (made.told.each place) ∙ length-map its (outcome_of (refusals_of events) xs) ∙ pairwise_length _ ds its drawn ∙ pairwise_length IsEntryDispatch entries ds (pipe_dispatches (client_of old) new.picked entries ds made.told.planned).1;
+      parts = record {
+        fates = position_fates new xs (refusals_of events) (refusals_lose events) (λ a l. lost_closed old.nodes new.nodes events place made.happened.runs a l)
+            (λ a none. ap (requests_to a) (sym log) ∙ sym (filter-map (λ (x : Exchange). x.request) (λ (q : Request). same_address q.node a) xs) ∙ ap requests none)
+            (is_asked ds xs nodes) (λ a none. unasked_queue (is_asked ds xs nodes a) _ (exchanges_with xs a) (queued ds xs nodes a).0 none) ds its drawn;
+        log = log;
+        own = positions_own ds xs nodes;
+        whole = length-map its (outcome_of (refusals_of events) xs) ∙ pairwise_length _ ds its drawn ∙ pairwise_length IsEntryDispatch es ds (pipe_dispatches (client_of old) new.picked es ds made.told.planned).1;
+      };
+      positions = fates_of_parts (splits_in entries) _ outcomes (made.told.each place);
+      whole = as_many (splits_in entries) _ outcomes (made.told.each place) ∙ length-map entries split_at;
     }

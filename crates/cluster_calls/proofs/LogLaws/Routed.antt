@@ -20,7 +20,7 @@ use Rattle.cluster_calls.proofs.LogLaws.Plans.{has_tuple}
 
 -- ---- the destination of a split command
 
-all_simple : (args : List (List ℕ)) → all_bytes (map (λ bytes. Simple bytes) args) ≡ Some args
+pub all_simple : (args : List (List ℕ)) → all_bytes (map (λ bytes. Simple bytes) args) ≡ Some args
 all_simple [] = refl
 all_simple (a ∷ args) = ap (option_map (λ rest. a ∷ rest)) (all_simple args)
 
@@ -60,11 +60,11 @@ parts_are_routed args read_only s e =
 
 -- ---- one part
 
-one_first : (s : ℕ) (ks : List ℕ) → AllByRecursion (λ k. k ≡ s) ks → firsts nat_eq (s ∷ ks) ≡ s ∷ []
+pub one_first : (s : ℕ) (ks : List ℕ) → AllByRecursion (λ k. k ≡ s) ks → firsts nat_eq (s ∷ ks) ≡ s ∷ []
 one_first s [] h = refl
 one_first s (k ∷ ks) h = ap (λ z. firsts nat_eq (s ∷ z ∷ ks)) h.0 ∙ firsts_twice s ks ∙ one_first s ks h.1
 
-on_slot : (s : ℕ) (tuples : List Tuple) → AllByRecursion (λ k. k ≡ s) (map tuple_slot (part_tuples s tuples))
+pub on_slot : (s : ℕ) (tuples : List Tuple) → AllByRecursion (λ k. k ≡ s) (map tuple_slot (part_tuples s tuples))
 on_slot s [] = tt
 on_slot s (t ∷ tuples) = by (s == tuple_slot t) refl (on_slot s tuples)
   where

@@ -13,6 +13,7 @@ use Rattle.cluster_calls.specs.Links.Happened.{Happened, client_of}
 use Rattle.cluster_calls.specs.Links.Run.{with_log}
 use Rattle.cluster_calls.specs.Calls.Call.{Entry, Pipeline}
 use Rattle.cluster_calls.specs.Calls.Each.{each_of}
+use Rattle.cluster_calls.specs.Calls.EachInParts.{AreOutcomesOf, each_plan, in_parts, splits_in}
 use Rattle.cluster_calls.specs.Calls.Legal.{IsLegalCall}
 use Rattle.cluster_calls.specs.Calls.Picks.{ArePicks}
 use Rattle.cluster_calls.specs.Calls.Plan.{Dispatch, plan}
@@ -45,26 +46,36 @@ refusals_of (x ∷ xs) a = if same_address x.node a then refusal_by x.ending (re
 
 -- ---- the call
 
--- All commands were placed, and the log is legal, also where a link call lacked memory; the outcomes are those
--- of its exchanges, one for each position.
+-- The commands that went out were placed, and the log is legal, also where a link call lacked memory; the
+-- outcomes are told of those of its exchanges, of which each command has one.
 pub record EachAnswered (strategy : Option Strategy) (old new : World) (entries : List Entry)
-    (events : List Event) (outcomes : List (Result Tree Refusal)) : Type 0 where
+    (events : List Event) (Tells : List (Result Tree Refusal) → Type 0) : Type 0 where
   pub dispatches : List Dispatch
   pub planned : plan (client_of old) new.picked (Pipeline entries) ≡ Ok dispatches
   pub picks : ArePicks strategy (client_of old) (Pipeline entries) new.picked
   pub unpicked : new.picked ≡ []
   pub legal : (place : ℕ) → IsLegalCall (client_of old) new.picked (Pipeline entries) (told_of place events)
-  pub each : (place : ℕ) → outcomes ≡ each_of (refusals_of events) dispatches (told_of place events)
+  pub each : (place : ℕ) → Tells (each_of (refusals_of events) dispatches (told_of place events))
 
 -- Nothing was sent, and the client stays, but for its log and picks, of which there are none: a check before
 -- sending was not met, or memory was refused.
-pub record NotSent (old new : World) (entries : List Entry) (refusal : Refusal) : Type 0 where
+pub record NotSent (old new : World) (planned : Result (List Dispatch) Refusal)
+    (refusal : Refusal) : Type 0 where
   pub stays : new ≡ with_log old [] []
-  pub refused : refusal ≢ by_cause Memory → plan (client_of old) [] (Pipeline entries) ≡ Err refusal
+  pub refused : refusal ≢ by_cause Memory → planned ≡ Err refusal
 
--- the call was made, and told each position's outcome, or why nothing was sent
-pub record EachMade (strategy : Option Strategy) (old new : World) (entries : List Entry)
+-- these commands went out, each whole, and the outcomes were told, or why nothing was sent
+pub record WholesMade (strategy : Option Strategy) (old new : World) (entries : List Entry)
+    (planned : Result (List Dispatch) Refusal)
+    (Tells : List (Result Tree Refusal) → List (Result Tree Refusal) → Type 0)
     (result : Result (List (Result Tree Refusal)) Refusal) : Type 0 where
   pub happened : Happened strategy old new (Pipeline entries)
-  pub told : MatchResult result (λ outcomes. EachAnswered strategy old new entries happened.events outcomes)
-      (λ refusal. NotSent old new entries refusal)
+  pub told : MatchResult result
+      (λ outcomes. EachAnswered strategy old new entries happened.events (λ each. Tells each outcomes))
+      (λ refusal. NotSent old new planned refusal)
+
+-- the call was made, with a split command in its parts, and told each position's outcome
+abbrev pub EachMade : Option Strategy → World → World → List Entry
+    → Result (List (Result Tree Refusal)) Refusal → Type 0
+EachMade strategy old new entries result = WholesMade strategy old new (in_parts entries)
+    (each_plan (client_of old) [] entries) (AreOutcomesOf (splits_in entries)) result
