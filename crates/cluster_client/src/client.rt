@@ -98,7 +98,7 @@ impl<L: ConnectionLike + Drop> ClusterClient<L> {
         ensures only { IfErr result (λ e. e ≡ by_cause RepeatedAddress) }
     {
         let links = Links { nodes: links };
-        if links.has_repeats() {
+        if links.has_repeats(alloc) {
             return Err(RedisError::from(Cause::RepeatedAddress));
         }
         Ok(ClusterClient {

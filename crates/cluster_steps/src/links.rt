@@ -1,6 +1,6 @@
 //! The links, found by the addresses of their nodes.
 ghost use Rattle.std.specs.List.{list_any};
-ghost use Rattle.std.specs.Prelude.{◌≡◌, ◌<◌, length, map, position, vec_len, IfSome, MatchOption, MatchResult, false};
+ghost use Rattle.std.specs.Prelude.{◌≡◌, ◌<◌, length, map, position, vec_len, IfOk, IfSome, MatchOption, MatchResult, false};
 ghost use Rattle.resp_core.specs.View.{view};
 ghost use Rattle.cluster_routing.specs.Address.{same_address};
 ghost use Rattle.cluster_routing.specs.Seen.{address};
@@ -8,9 +8,10 @@ ghost use Rattle.cluster_calls.specs.Links.World.{nodes, open_links, place_at, i
 ghost use Rattle.cluster_calls.specs.Links.Places.{IsOpenAt};
 
 use cluster_routing::NodeAddress;
+use indexmap::IndexSet;
 use resp_core::{RedisError, Value};
 use resp_link::ConnectionLike;
-use std::alloc::Global;
+use std::alloc::{AllocError, Global};
 
 /// The links of a client, one for each node.
 #[derive(Drop)]
@@ -44,11 +45,12 @@ impl<L: ConnectionLike> Links<L> {
         }
     }
 
-    /// Whether an address is given twice.
-    pub fn has_repeats(&self) -> bool
+    /// Whether an address is given twice. It takes some memory where that is there, and else the square of
+    /// the time.
+    pub fn has_repeats(&self, alloc: Global) -> bool
         ensures { result ≡ has_repeats (addresses_of (nodes L.seen self.now.nodes.items)) }
     {
-        has_repeats(&self.nodes)
+        has_repeats(alloc, &self.nodes)
     }
 
     /// One link call of the node at this place: it sends the bytes, drops `offset` replies, and
@@ -138,8 +140,8 @@ fn is_among<L: ConnectionLike>(links: &[(NodeAddress, L)], node: &NodeAddress) -
     place_of(links, node).is_some()
 }
 
-/// Whether an address is given twice.
-fn has_repeats<L: ConnectionLike>(links: &[(NodeAddress, L)]) -> bool
+/// Whether an address is given twice, by comparing each with all behind it. It takes no memory.
+fn repeats_behind<L: ConnectionLike>(links: &[(NodeAddress, L)]) -> bool
     ensures { result ≡ has_repeats (addresses_of (nodes L.seen links.now)) }
 {
     'links: for (which, link) in links.iter().enumerate() {
@@ -148,4 +150,30 @@ fn has_repeats<L: ConnectionLike>(links: &[(NodeAddress, L)]) -> bool
         }
     }
     false
+}
+
+/// The same by a set of those that were seen.
+fn repeats_seen<L: ConnectionLike>(
+    alloc: Global,
+    links: &[(NodeAddress, L)],
+) -> Result<bool, AllocError>
+    ensures { IfOk result (λ b. b ≡ has_repeats (addresses_of (nodes L.seen links.now))) }
+{
+    let mut seen = IndexSet::with_capacity(alloc, links.len())?;
+    'links: for link in links {
+        if !seen.insert(&link.0)? {
+            return Ok(true);
+        }
+    }
+    Ok(false)
+}
+
+/// Whether an address is given twice. Memory only makes it quick.
+fn has_repeats<L: ConnectionLike>(alloc: Global, links: &[(NodeAddress, L)]) -> bool
+    ensures { result ≡ has_repeats (addresses_of (nodes L.seen links.now)) }
+{
+    match repeats_seen(alloc, links) {
+        Ok(repeats) => repeats,
+        Err(_) => repeats_behind(links),
+    }
 }

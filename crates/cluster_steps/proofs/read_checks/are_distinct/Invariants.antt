@@ -6,4 +6,4 @@ use Rattle.cluster_steps.proofs.DistinctKeys.{are_new}
 use Rattle.cluster_steps.proofs.read_checks.are_distinct.Given as goal
 
 abbrev pub invariant-keys : goal.invariant-keys
-invariant-keys l = is_distinct bytes_eq (lent l.keys) ≡ are_new (lent l.seen.keys) (lent (drop l.key-index l.keys))
+invariant-keys l = is_distinct bytes_eq (lent l.keys) ≡ are_new bytes_eq (lent l.seen.keys) (lent (drop l.key-index l.keys))

@@ -1,4 +1,4 @@
-use Rattle.std.proofs.Common.{◌∙◌, sym, ap}
+use Rattle.std.proofs.Common.{◌∙◌, sym}
 use Rattle.cluster_routing.specs.Seen.{address}
 use Rattle.cluster_calls.specs.Links.World.{nodes}
 use Rattle.cluster_calls.proofs.LinkLaws.Nodes.{node_there}
