@@ -1,5 +1,5 @@
 -- A list of status codes, read as the code's and as the definitions' values.
-use Rattle.std.proofs.Common.{◌≡◌, ℤ, pos, negsuc, Bool, true, false, if◌then◌else◌, List, [], ◌∷◌, map, Option, Some, None, option_map, option_and_then, refl, ap, ◌∙◌}
+use Rattle.std.proofs.Common.{◌≡◌, pos, negsuc, Bool, true, false, if◌then◌else◌, List, [], ◌∷◌, map, Option, Some, None, option_map, option_and_then, refl, ap, ◌∙◌}
 use Rattle.std.specs.Ordering.{int_eq}
 use Rattle.resp_core.specs.Trees as trees
 use Rattle.resp_core.specs.Trees.{Tree}
@@ -10,7 +10,7 @@ use Rattle.stream_commands.specs.declared.records.status.XDelExStatusCode.{XDelE
 use Rattle.stream_commands.specs.declared.records.status.XDelExStatusCode.TheVariants.{IdNotFound, NotDeletedUnacknowledgedOrStillReferenced}
 use Rattle.stream_commands.specs.declared.records.status.XDelExStatusCode.TheVariants as codes
 use Rattle.stream_commands.specs.Shapes.{list_of}
-use Rattle.cluster_calls.specs.Calls.Answer.{Answer, Deletion, Deleted, not_found, deleted, still_referenced}
+use Rattle.cluster_calls.specs.Calls.Answer.{Deleted, not_found, deleted, still_referenced}
 use Rattle.cluster_calls.specs.Links.Typed.{deletion_of}
 
 abbrev codes_of : Tree → Option XDelExStatusCode

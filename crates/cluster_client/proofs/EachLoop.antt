@@ -1,7 +1,7 @@
 -- Groups of requests, one link call after another, each with the queue of its place.
 use Rattle.std.specs.Prelude.{nat_eq, ◌||◌, unwrap_or}
-use Rattle.std.specs.List.{list_any, AllByRecursion}
-use Rattle.std.proofs.Common.{◌≡◌, ◌≢◌, ◌<◌, ℕ, suc, ◌+◌, ◌==◌, Bool, true, false, cond, List, [], ◌∷◌, ◌++◌, map, length, length-append, Option, Some, None, Result, Ok, Err, refl, sym, ap, ◌∙◌, subst, inl, inr, append-nil, append_assoc, eqb-true, eq-eqb, arith}
+use Rattle.std.specs.List.{AllByRecursion}
+use Rattle.std.proofs.Common.{◌≡◌, ◌≢◌, ℕ, ◌+◌, ◌==◌, Bool, true, false, cond, List, [], ◌∷◌, ◌++◌, map, length, Some, None, Ok, Err, refl, sym, ap, ◌∙◌, subst, inl, inr, append-nil, append_assoc, eqb-true, eq-eqb, arith}
 use Rattle.std.proofs.lemmas.Bool.{false≢true}
 use Rattle.resp_core.specs.Trees.{Tree}
 use Rattle.resp_core.specs.Errors.{Refusal, by_cause, by_server, by_servers, at_position, cause_of}
@@ -9,8 +9,7 @@ use Rattle.resp_core.specs.declared.errors.redis_error.Cause.{Cause}
 use Rattle.resp_core.specs.declared.errors.redis_error.Cause.TheVariants.{Io, NotAsked}
 use Rattle.cluster_routing.specs.Lists.{among, IsDistinct}
 use Rattle.cluster_calls.specs.Links.EachMade.{told_at, told_of}
-use Rattle.cluster_calls.specs.Links.Events.{Event, Ending, answers, fails, lacks_memory, exchanges_at, exchanges_of, log_of}
-use Rattle.cluster_calls.specs.Links.Log.{Exchange, requests, has_lost, is_unanswered}
+use Rattle.cluster_calls.specs.Links.Events.{Event, Ending, answers, fails, lacks_memory, exchanges_of, log_of}
 use Rattle.cluster_calls.specs.Links.World.{World}
 use Rattle.cluster_steps.specs.Each.{cause_at}
 use Rattle.cluster_steps.specs.GroupRuns.{GroupByGroup, GroupExchanged, IsGroupPlaced, request_lists}

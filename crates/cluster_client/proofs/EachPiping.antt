@@ -1,9 +1,8 @@
 -- A pipeline that tells of each position, from the link calls of its groups and what was drawn from their queues.
-use Rattle.std.specs.Prelude.{filter, nat_eq, not, ◌||◌, ◌&&◌, unwrap_or, MatchBool}
-use Rattle.std.specs.List.{list_any, AllByRecursion}
-use Rattle.std.proofs.Common.{◌≡◌, ◌≢◌, ℕ, suc, ◌+◌, ◌==◌, Bool, true, false, cond, List, [], ◌∷◌, ◌++◌, map, length, Option, Some, None, Result, Ok, Err, refl, sym, ap, ◌∙◌, subst, append-nil, eqb-true, eq-eqb, arith}
-use Rattle.std.proofs.lemmas.Bool.{false≢true}
-use Rattle.std.proofs.lemmas.List.{length-map, map-append}
+use Rattle.std.specs.Prelude.{filter, nat_eq, not, ◌||◌, unwrap_or, MatchBool}
+use Rattle.std.specs.List.{AllByRecursion}
+use Rattle.std.proofs.Common.{◌≡◌, ◌≢◌, ℕ, suc, ◌+◌, ◌==◌, Bool, true, false, cond, List, [], ◌∷◌, ◌++◌, map, length, Option, Some, Result, Ok, Err, refl, sym, ap, ◌∙◌, subst, append-nil, eqb-true, eq-eqb, arith}
+use Rattle.std.proofs.lemmas.List.{length-map}
 use Rattle.std.proofs.lemmas.List.Elements.{filter-append}
 use Rattle.resp_core.specs.Trees.{Tree, nil}
 use Rattle.resp_core.specs.Errors.{Refusal, by_cause}
@@ -15,19 +14,18 @@ use Rattle.cluster_routing.specs.Choice.{Strategy}
 use Rattle.cluster_routing.specs.Lists.{among, firsts, rest, without_front_of, IsDistinct}
 use Rattle.cluster_steps.specs.declared.dispatch.Dispatch.{Dispatch as CodeDispatch}
 use Rattle.cluster_steps.specs.declared.each.Lost.{Lost}
-use Rattle.cluster_calls.specs.Links.EachMade.{EachMade, told_at, unanswered, told_of, refusal_by, refusals_of}
+use Rattle.cluster_calls.specs.Links.EachMade.{WholesMade, told_at, unanswered, told_of, refusal_by, refusals_of}
 use Rattle.cluster_calls.specs.Links.Events.{Event, Ending, answers, fails, lacks_memory, AllTo, LinkCalled, Runs, exchanges_at, is_memory_ending}
 use Rattle.cluster_calls.specs.Links.Happened.{client_of}
 use Rattle.cluster_calls.specs.Links.Log.{Exchange, requests, has_lost}
-use Rattle.cluster_calls.specs.Links.Request.{Request}
 use Rattle.cluster_calls.specs.Links.Run.{with_log}
 use Rattle.cluster_calls.specs.Links.World.{World, Node}
 use Rattle.cluster_calls.specs.Calls.Call.{Entry, Pipeline}
-use Rattle.cluster_calls.specs.Calls.Each.{reply_outcome, outcome_of, exchanges_with, first_exchange, without_first_with, each_exchange, nodes_of, each_of}
-use Rattle.cluster_calls.specs.Calls.Plan.{Dispatch}
+use Rattle.cluster_calls.specs.Calls.Each.{reply_outcome, outcome_of, exchanges_with, first_exchange, without_first_with, each_exchange}
+use Rattle.cluster_calls.specs.Calls.Plan.{Dispatch, plan}
 use Rattle.cluster_steps.specs.Dispatches.{IsPlaced, IsPlanned, dispatch_of}
 use Rattle.cluster_steps.specs.Each.{cause_at, next_outcome, told_each}
-use Rattle.cluster_steps.specs.GroupRuns.{GroupByGroup, group_node, group_nodes, request_lists}
+use Rattle.cluster_steps.specs.GroupRuns.{group_node, group_nodes}
 use Rattle.cluster_steps.specs.Groups.{Group, group_at, place_in, request_in}
 use Rattle.cluster_client.specs.Outcomes.{AreQueued, EachExchanged, IsQueued, result_by}
 use Rattle.cluster_calls.proofs.LinkLaws.Addresses.{same_true, same_refl}
@@ -263,8 +261,12 @@ module _ (xs : List Exchange) (refusals : Address → Refusal) (causes : ℕ →
 
 -- ---- the call
 
+-- commands that all go whole, each with the outcome of its exchange
+abbrev pub WholesTold : Option Strategy → World → World → List Entry → Result (List (Result Tree Refusal)) Refusal → Type 0
+WholesTold strategy old new entries result = WholesMade strategy old new entries (plan (client_of old) [] (Pipeline entries)) (λ each outcomes. outcomes ≡ each) result
+
 made_each : (strategy : Option Strategy) (old new : World) (entries : List Entry) (cds : List CodeDispatch) (queues : ℕ → List Tree) (lost : Option Lost) (outcomes : List (Result Tree Refusal)) → IsPlanned strategy (client_of old) (Pipeline entries) [] (Ok (map dispatch_of cds))
-    → AllByRecursion (IsPlaced old.nodes) cds → EachExchanged (with_log old [] []) new (pipe_groups cds) queues lost → outcomes ≡ told_each (map place_in cds) queues (cause_at lost) → EachMade strategy old new entries (Ok outcomes)
+    → AllByRecursion (IsPlaced old.nodes) cds → EachExchanged (with_log old [] []) new (pipe_groups cds) queues lost → outcomes ≡ told_each (map place_in cds) queues (cause_at lost) → WholesTold strategy old new entries (Ok outcomes)
 made_each strategy old new entries cds queues lost outcomes planned placed e told =
     let m = e.made in
     let result = result_by e.came lost in
@@ -292,13 +294,13 @@ told_for outcomes none ks places queues causes told empty same = told ∙ ap (λ
 -- the same from what the code says of its steps
 pub each_made : (strategy : Option Strategy) (old mid new : World) (entries : List Entry) (cds : List CodeDispatch) (gs : List Group) (queues : ℕ → List Tree) (lost : Option Lost) (outcomes : List (Result Tree Refusal))
     → mid ≡ with_log old [] [] → IsPlanned strategy (client_of old) (Pipeline entries) [] (Ok (map dispatch_of cds)) → AllByRecursion (IsPlaced mid.nodes) cds → gs ≡ pipe_groups cds → EachExchanged mid new gs queues lost
-    → outcomes ≡ told_each (map place_in cds) queues (cause_at lost) → EachMade strategy old new entries (Ok outcomes)
+    → outcomes ≡ told_each (map place_in cds) queues (cause_at lost) → WholesTold strategy old new entries (Ok outcomes)
 each_made strategy old mid new entries cds gs queues lost outcomes stays planned placed grouped e told =
     made_each strategy old new entries cds queues lost outcomes planned (subst (λ (w : World). AllByRecursion (IsPlaced w.nodes) cds) stays placed)
     (subst (λ (w : World). EachExchanged w new (pipe_groups cds) queues lost) stays (subst (λ hs. EachExchanged mid new hs queues lost) grouped e)) told
 
 -- nothing was sent
-pub each_unsent : (strategy : Option Strategy) (old new : World) (entries : List Entry) (refusal : Refusal) → new ≡ with_log old [] [] → (refusal ≢ by_cause Memory → IsPlanned strategy (client_of old) (Pipeline entries) [] (Err refusal)) → EachMade strategy old new entries (Err refusal)
+pub each_unsent : (strategy : Option Strategy) (old new : World) (entries : List Entry) (refusal : Refusal) → new ≡ with_log old [] [] → (refusal ≢ by_cause Memory → IsPlanned strategy (client_of old) (Pipeline entries) [] (Err refusal)) → WholesTold strategy old new entries (Err refusal)
 each_unsent strategy old new entries refusal stays why = record {
   happened = nothing_happened strategy old new (Pipeline entries) (relogged_untouched old new [] stays);
   told = record { stays = stays; refused = λ m. (why m).planned };

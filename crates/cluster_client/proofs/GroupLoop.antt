@@ -1,22 +1,18 @@
 -- Groups of requests, one link call after another.
 use Rattle.std.specs.Prelude.{◌||◌, ◌&&◌}
 use Rattle.std.specs.List.{list_any}
-use Rattle.std.proofs.Common.{◌≡◌, ◌≢◌, ◌<◌, ℕ, ◌+◌, Bool, true, false, List, [], ◌∷◌, ◌++◌, map, length, Option, Some, None, Result, Ok, Err, refl, sym, ap, ◌∙◌, subst, inl, inr, append-nil, append_assoc}
+use Rattle.std.proofs.Common.{◌≡◌, ◌≢◌, ◌<◌, ℕ, ◌+◌, Bool, false, List, [], ◌∷◌, ◌++◌, map, length, Option, Some, Ok, Err, refl, sym, ap, ◌∙◌, subst, inl, inr, append-nil, append_assoc}
 use Rattle.std.proofs.lemmas.List.{length-map, map-append}
-use Rattle.resp_core.specs.Trees.{Tree, ErrorText}
+use Rattle.resp_core.specs.Trees.{Tree}
 use Rattle.resp_core.specs.Errors.{Refusal, by_cause}
 use Rattle.resp_core.specs.declared.errors.redis_error.Cause.TheVariants.{Memory}
 use Rattle.resp_link.specs.Replies.{replies_of}
-use Rattle.cluster_routing.specs.Address.{Address}
 use Rattle.cluster_routing.specs.Lists.{concat}
-use Rattle.cluster_calls.specs.Links.Request.{Request}
-use Rattle.cluster_calls.specs.Links.Log.{Exchange, requests, is_unanswered, is_moved}
+use Rattle.cluster_calls.specs.Links.Log.{Exchange, is_moved}
 use Rattle.cluster_calls.specs.Links.World.{World, Node, addresses_of, is_linked, open_links}
-use Rattle.cluster_calls.specs.Links.Places.{IsOpenAt}
-use Rattle.cluster_calls.specs.Links.Faults.{LinkFault}
-use Rattle.cluster_calls.specs.Links.Events.{Event, Runs, LinkCalled, log_of, exchanges_at, exchanges_of, Agrees, is_memory_ending, is_answer_ending, lack_memory, answered_moved}
+use Rattle.cluster_calls.specs.Links.Events.{Event, Runs, LinkCalled, log_of, exchanges_at, exchanges_of, is_answer_ending, lack_memory, answered_moved}
 use Rattle.cluster_steps.specs.Groups.{Group}
-use Rattle.cluster_steps.specs.GroupRuns.{is_moved_tree, GroupExchanged, group_node, IsGroupPlaced, request_lists, group_nodes, GroupByGroup, AreGroupResults, GroupsAnswered, GroupsMade}
+use Rattle.cluster_steps.specs.GroupRuns.{is_moved_tree, GroupExchanged, group_node, IsGroupPlaced, request_lists, group_nodes, GroupByGroup, GroupsMade}
 use Rattle.cluster_calls.specs.Calls.Refusals.{pipeline_refusal}
 use Rattle.cluster_calls.proofs.LinkLaws.LinkRuns.{Runs-snoc, addresses}
 use Rattle.cluster_calls.proofs.LinkLaws.EventLists.{log-append, exchanged, exchanges-append, memory-append, moved-append, stops-had, stops-append, stops-one}

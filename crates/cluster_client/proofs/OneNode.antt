@@ -1,6 +1,6 @@
 -- A command to one node: from what the code says of its dispatch and of its reply to the whole call.
 use Rattle.std.specs.Prelude.{◌||◌, ◌⊎◌}
-use Rattle.std.proofs.Common.{◌≡◌, Bool, false, None, List, [], ◌∷◌, Option, inl, inr, Ok, Err, Result, refl, sym, ap, ◌∙◌, subst}
+use Rattle.std.proofs.Common.{◌≡◌, false, None, List, [], ◌∷◌, Option, inl, inr, Ok, Err, Result, refl, sym, ap, ◌∙◌, subst}
 use Rattle.resp_core.specs.Trees.{Tree}
 use Rattle.resp_core.specs.Errors.{Refusal, by_cause}
 use Rattle.resp_core.specs.View.{view}
@@ -26,7 +26,7 @@ use Rattle.cluster_calls.specs.Links.Request.{Request, skipped}
 use Rattle.cluster_calls.specs.Links.World.{World, open_links, one_reply, tree_result}
 use Rattle.cluster_steps.specs.declared.dispatch.Dispatch.{Dispatch as CodeDispatch}
 use Rattle.cluster_steps.specs.Dispatches.{IsPlaced}
-use Rattle.cluster_steps.specs.FirstPlaces.{node_by, node_with_link}
+use Rattle.cluster_steps.specs.FirstPlaces.{node_with_link}
 use Rattle.cluster_steps.specs.Groups.{request_in}
 use Rattle.cluster_calls.proofs.LinkLaws.OneNode.{at_made, placed_node, told, unpicked}
 use Rattle.cluster_calls.proofs.LinkLaws.AnyStrategy.{with_strategy}

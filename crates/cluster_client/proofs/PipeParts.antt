@@ -1,7 +1,7 @@
 -- The parts of a pipeline, one command after another, and its plan.
 use Rattle.std.specs.Prelude.{option_and_then, option_map, MatchOption, MatchBool}
 use Rattle.std.specs.List.{AllByRecursion}
-use Rattle.std.proofs.Common.{◌≡◌, ◌<◌, ℕ, suc, length, drop, drop-cons, get_or, Bool, true, false, List, [], ◌∷◌, ◌++◌, map, Option, Some, None, Result, Ok, Err, refl, sym, ap, ◌∙◌, subst, append-nil, append_assoc}
+use Rattle.std.proofs.Common.{◌≡◌, ◌<◌, ℕ, suc, length, drop, drop-cons, get_or, Bool, true, false, List, [], ◌∷◌, ◌++◌, Option, Some, None, Result, Ok, Err, refl, sym, ap, ◌∙◌, subst, append-nil, append_assoc}
 use Rattle.resp_core.specs.Errors.{Refusal, at_position}
 use Rattle.resp_args.specs.Packed.{sent}
 use Rattle.cluster_routing.specs.Address.{Address}
@@ -13,8 +13,8 @@ use Rattle.cluster_routing.specs.declared.route.SlotAddr.TheVariants.{Master}
 use Rattle.cluster_calls.specs.Links.World.{is_linked}
 use Rattle.cluster_steps.specs.Dispatches.{AreDispatched, IsPlanned}
 use Rattle.cluster_calls.specs.Calls.Call.{Entry, Pipeline}
-use Rattle.cluster_calls.specs.Calls.Parts.{Part, Target, at_slot, if_one_slot, parts_of, reads_several_slots, whole_part, with_whole, pipeline_parts}
-use Rattle.cluster_calls.specs.Calls.Plan.{Client, Dispatch, First, dispatches, first_by, first_of, plan, read_candidates, target_candidates}
+use Rattle.cluster_calls.specs.Calls.Parts.{Part, Target, if_one_slot, parts_of, reads_several_slots, whole_part, with_whole, pipeline_parts}
+use Rattle.cluster_calls.specs.Calls.Plan.{Client, Dispatch, First, first_by, first_of, read_candidates, target_candidates}
 use Rattle.cluster_calls.specs.Calls.Replies.{args_slot}
 use Rattle.cluster_calls.specs.Calls.Picks.{ArePartPicks, ArePicks, ArePicksOf, IsPick}
 use Rattle.cluster_steps.proofs.Dispatched.{plan_made, plan_refused, plan_unparted, picks_unparted}

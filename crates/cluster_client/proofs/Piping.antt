@@ -1,12 +1,11 @@
 -- A pipeline's call, from the link calls of its groups and the reply that is made of theirs.
 use Rattle.std.specs.Prelude.{filter, nat_eq, unwrap_or, ◌||◌}
-use Rattle.std.specs.List.{list_any, AllByRecursion}
-use Rattle.std.proofs.Common.{◌≡◌, ◌≢◌, ◌<◌, ℕ, suc, ◌==◌, Bool, true, false, cond, List, [], ◌∷◌, ◌++◌, map, length, Option, Some, None, Result, Ok, Err, refl, sym, ap, ◌∙◌, subst, append-nil}
+use Rattle.std.specs.List.{AllByRecursion}
+use Rattle.std.proofs.Common.{◌≡◌, ◌≢◌, ◌<◌, ℕ, ◌==◌, false, List, [], ◌∷◌, ◌++◌, map, length, Option, Result, Ok, Err, refl, sym, ap, ◌∙◌, subst}
 use Rattle.std.proofs.lemmas.Bool.{false≢true}
 use Rattle.std.proofs.lemmas.List.{length-map}
-use Rattle.resp_core.specs.Trees.{Tree, nil, ErrorText}
+use Rattle.resp_core.specs.Trees.{Tree, nil}
 use Rattle.resp_core.specs.Errors.{Refusal, by_cause}
-use Rattle.resp_core.specs.Parts.{first_error}
 use Rattle.resp_core.specs.declared.errors.redis_error.Cause.TheVariants.{Memory}
 use Rattle.resp_args.specs.Packed.{sent}
 use Rattle.cluster_routing.specs.Address.{Address, same_address}
@@ -15,21 +14,21 @@ use Rattle.cluster_routing.specs.Combine.{array_of}
 use Rattle.cluster_routing.specs.Info.{texts}
 use Rattle.cluster_routing.specs.Lists.{among, concat, draw, firsts, IsDistinct, Pairwise}
 use Rattle.cluster_calls.specs.Links.Request.{Request}
-use Rattle.cluster_calls.specs.Links.Log.{Exchange, requests, is_unanswered}
+use Rattle.cluster_calls.specs.Links.Log.{Exchange}
 use Rattle.cluster_calls.specs.Links.World.{World, Node, place_at}
-use Rattle.cluster_calls.specs.Links.Faults.{LinkFault, refusal_by_fault}
-use Rattle.cluster_calls.specs.Links.Events.{Event, log_of, exchanges_of, Agrees, faults_of}
+use Rattle.cluster_calls.specs.Links.Faults.{LinkFault}
+use Rattle.cluster_calls.specs.Links.Events.{Event, exchanges_of, faults_of}
 use Rattle.cluster_calls.specs.Links.PipeReplies.{errors_in, pipeline_result}
 use Rattle.cluster_calls.specs.Links.Converted.{value_answer}
-use Rattle.cluster_calls.specs.Links.Happened.{client_of, is_refresh, Happened, CallMade}
+use Rattle.cluster_calls.specs.Links.Happened.{client_of, Happened, CallMade}
 use Rattle.cluster_calls.specs.Links.Run.{with_log}
-use Rattle.cluster_calls.specs.Calls.Answer.{Answer, Value}
-use Rattle.cluster_calls.specs.Calls.Call.{Call, Entry, Pipeline}
+use Rattle.cluster_calls.specs.Calls.Answer.{Value}
+use Rattle.cluster_calls.specs.Calls.Call.{Entry, Pipeline}
 use Rattle.cluster_calls.specs.Calls.Legal.{IsLegalCall, node_groups}
 use Rattle.cluster_calls.specs.Calls.Parts.{Part, pipeline_parts, result_then}
 use Rattle.cluster_calls.specs.Calls.Picks.{ArePicks}
 use Rattle.cluster_calls.specs.Calls.Plan.{Client, Dispatch, dispatches, plan, unless}
-use Rattle.cluster_calls.specs.Calls.Refusals.{errors_from, errors_refusal, pipeline_refusal, with_error}
+use Rattle.cluster_calls.specs.Calls.Refusals.{errors_from, errors_refusal, pipeline_refusal}
 use Rattle.cluster_calls.specs.Calls.Replies.{args_slot, in_pipeline_order, not_ignored, pipeline_reply, reply_or_nil}
 use Rattle.cluster_calls.specs.Calls.Task.{pipeline_of}
 use Rattle.cluster_calls.proofs.LinkLaws.FaultsAgree.{agrees}
@@ -43,7 +42,7 @@ use Rattle.cluster_calls.proofs.LogLaws.Plans.{IsFor, dispatches_for}
 use Rattle.cluster_steps.specs.declared.dispatch.Dispatch.{Dispatch as CodeDispatch}
 use Rattle.cluster_steps.specs.Dispatches.{IsPlaced, IsPlanned, dispatch_of}
 use Rattle.cluster_steps.specs.Groups.{Group, group_at, place_in, request_in}
-use Rattle.cluster_steps.specs.GroupRuns.{GroupByGroup, AreGroupResults, GroupsMade, group_nodes, request_lists}
+use Rattle.cluster_steps.specs.GroupRuns.{GroupByGroup, AreGroupResults, GroupsMade, request_lists}
 use Rattle.cluster_steps.specs.Queues.{queued, no_queues}
 use Rattle.cluster_steps.proofs.GroupCalls.{all_replied}
 use Rattle.cluster_steps.proofs.PipeGroups.{all_both, all_mapped, all_unmapped, by_node, groups_are, groups_distinct, map_twice, node_of}

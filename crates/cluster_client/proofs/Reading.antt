@@ -1,7 +1,7 @@
 -- A read of streams in parts: its plan, and what is made of the replies to its parts.
 use Rattle.std.specs.Prelude.{bytes_eq, cond, is_none, ◌&&◌}
 use Rattle.std.proofs.lemmas.Bool.{and_parts}
-use Rattle.std.proofs.Common.{◌≡◌, ◌≢◌, ℕ, Bool, true, false, List, [], map, length, Option, Some, None, option_map, option_and_then, refl, sym, ap, ◌∙◌, subst, Result, Ok, Err}
+use Rattle.std.proofs.Common.{◌≡◌, ◌≢◌, ℕ, Bool, true, false, List, [], map, length, Option, Some, None, option_map, option_and_then, refl, sym, ap, ◌∙◌, Result, Ok, Err}
 use Rattle.std.proofs.lemmas.List.{length-map}
 use Rattle.std.proofs.lemmas.Simd.{map-map}
 use Rattle.resp_core.specs.Trees.{Tree}
@@ -30,7 +30,7 @@ use Rattle.cluster_calls.specs.Calls.TaskParts.{task_parts}
 use Rattle.cluster_calls.proofs.LinkLaws.ReadMade.{IsReadOfParts, happened, read_answered, rows_of_parts}
 use Rattle.cluster_calls.proofs.ServerLaws.ReadParts.{plan_reads}
 use Rattle.cluster_steps.specs.Dispatches.{AreDispatched, IsPlanned}
-use Rattle.cluster_steps.specs.Reads.{joined_at, read_places, rows_at}
+use Rattle.cluster_steps.specs.Reads.{read_places, rows_at}
 use Rattle.cluster_steps.proofs.Dispatched.{picks_made, plan_made, plan_refused}
 use Rattle.cluster_client.specs.Ended.{CommandEnded}
 

@@ -1,5 +1,5 @@
 -- A call on streams is its command's call, whose reply is read as a record.
-use Rattle.std.proofs.Common.{◌≡◌, ◌≢◌, ℕ, true, false, List, [], map, Option, Some, None, option_map, option_and_then, refl, sym, ap, ◌∙◌, subst, Result, Ok, Err}
+use Rattle.std.proofs.Common.{◌≡◌, ◌≢◌, ℕ, List, [], map, Option, Some, None, option_map, option_and_then, refl, sym, ap, ◌∙◌, subst, Result, Ok, Err}
 use Rattle.std.proofs.lemmas.Bool.{false≢true}
 use Rattle.std.proofs.lemmas.Simd.{map-map}
 use Rattle.resp_core.specs.Trees.{Tree}
@@ -15,17 +15,17 @@ use Rattle.stream_commands.specs.Commands.{plain_command}
 use Rattle.cluster_calls.specs.Links.Converted.{value_answer}
 use Rattle.cluster_calls.specs.Links.Events.{exchanges_of, log_of}
 use Rattle.cluster_calls.specs.Links.Faults.{LinkFault}
-use Rattle.cluster_calls.specs.Links.Happened.{client_of, BeginsLegal, Happened, Answered, CallMade}
+use Rattle.cluster_calls.specs.Links.Happened.{client_of, BeginsLegal, Happened, CallMade}
 use Rattle.cluster_calls.specs.Links.Log.{Exchange}
 use Rattle.cluster_calls.specs.Links.Nodes.{link_calls}
-use Rattle.cluster_calls.specs.Links.Request.{Request, requests_to}
+use Rattle.cluster_calls.specs.Links.Request.{requests_to}
 use Rattle.cluster_calls.specs.Links.Run.{with_log}
 use Rattle.cluster_calls.specs.Links.Typed.{IsReadBy, record_answer, streams_by}
 use Rattle.cluster_calls.specs.Links.World.{World}
 use Rattle.cluster_calls.specs.Calls.Answer.{Answer, Value, answer_of, reply_of, stream_answer}
 use Rattle.cluster_calls.specs.Calls.Call.{Call, Query, StreamCall, Xread, OnStreams}
 use Rattle.cluster_calls.specs.Calls.Legal.{IsLegalCall}
-use Rattle.cluster_calls.specs.Calls.Parts.{Part, result_then}
+use Rattle.cluster_calls.specs.Calls.Parts.{result_then}
 use Rattle.cluster_calls.specs.Calls.Picks.{ArePicks, ArePicksOf}
 use Rattle.cluster_calls.specs.Calls.Plan.{Client, Dispatch, call_parts, dispatches, in_order, order_of, plan, unless}
 use Rattle.cluster_calls.specs.Calls.Refusals.{sent_refusal}

@@ -5,3 +5,4 @@ pub mod NodeRuns
 pub mod Ended
 pub mod PreparedReads
 pub mod Outcomes
+pub mod InParts

@@ -1,5 +1,4 @@
 -- A client as plain data.
-use Rattle.std.specs.Prelude.{List}
 use Rattle.resp_link.specs.Call.{Seen}
 use Rattle.cluster_routing.specs.Seen.{addresses}
 use Rattle.cluster_routing.specs.Info.{texts}

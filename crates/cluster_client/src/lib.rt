@@ -5,6 +5,7 @@ mod client;
 mod fan_out;
 mod pipeline;
 mod pipeline_each;
+mod pipeline_in_parts;
 mod pipeline_parts;
 mod pipeline_query;
 mod pipeline_reply;

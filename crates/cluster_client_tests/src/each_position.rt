@@ -9,15 +9,15 @@ use std::test::Fail;
 const THIRDS: &[u8] =
     b"*3\r\n*3\r\n:0\r\n:5000\r\n*2\r\n$2\r\nn1\r\n:7001\r\n*3\r\n:5001\r\n:10000\r\n*2\r\n$2\r\nn2\r\n:7002\r\n*3\r\n:10001\r\n:16383\r\n*2\r\n$2\r\nn3\r\n:7003\r\n";
 
-/// What comes from each node behind the map, a `GET` of each of these keys, what has to be told of each
-/// (a number, or the number of its refusal behind a sign), which nodes are asked, whose links stay
-/// open, and whether a refresh is needed.
+/// What comes from each node behind the map, commands as words, what has to be told of each (its value, or
+/// the number of its refusal and the code of a server's error), which nodes are asked, whose links stay open,
+/// and whether a refresh is needed.
 #[derive(Drop)]
 struct Row {
     n1: &'static [u8],
     n2: &'static [u8],
     n3: &'static [u8],
-    keys: &'static [&'static str],
+    commands: &'static [&'static str],
     told: &'static str,
     asked: &'static str,
     open: &'static str,
@@ -29,7 +29,7 @@ const TWO_NODES: Row = Row {
     n1: b":1\r\n-ERR x\r\n",
     n2: b"",
     n3: b":5\r\n*2\r\n:6\r\n-ERR y\r\n-MOVED 15495 n1:7001\r\n-ASK 15495 n1:7001\r\n",
-    keys: &["a", "b", "a", "a", "b", "a"],
+    commands: &["GET a", "GET b", "GET a", "GET a", "GET b", "GET a"],
     told: "5, 1, [6, ERR y], 13 MOVED, 13 ERR, 13 ASK",
     asked: "n3 n3 n3 n3 n1 n1",
     open: "n1 n2 n3",
@@ -42,7 +42,7 @@ const SECOND_FAILS: Row = Row {
     n1: b":1\r\n:2\r\n",
     n2: b"-MOVED 7365 n1:7001\r\n",
     n3: b":5\r\n",
-    keys: &["b", "c", "a", "c", "b", "a"],
+    commands: &["GET b", "GET c", "GET a", "GET c", "GET b", "GET a"],
     told: "1, 14, 20, 14, 2, 20",
     asked: "n1 n1 n2 n2",
     open: "n1 n3",
@@ -54,7 +54,7 @@ const FIRST_FAILS: Row = Row {
     n1: b":1\r\n?\r\n",
     n2: b":7\r\n",
     n3: b":5\r\n",
-    keys: &["b", "a", "b", "c"],
+    commands: &["GET b", "GET a", "GET b", "GET c"],
     told: "15, 20, 15, 20",
     asked: "n1 n1",
     open: "n2 n3",
@@ -66,10 +66,47 @@ const LAST_FAILS: Row = Row {
     n1: b":1\r\n",
     n2: b":7\r\n",
     n3: b"",
-    keys: &["c", "b", "a"],
+    commands: &["GET c", "GET b", "GET a"],
     told: "7, 1, 14",
     asked: "n2 n1 n3",
     open: "n1 n2",
+    needs_refresh: false,
+};
+
+/// Commands of several slots go out as their parts, and their values are made of those of the parts.
+const IN_PARTS: Row = Row {
+    n1: b"*1\r\n:1\r\n:3\r\n+OK\r\n",
+    n2: b"*1\r\n:7\r\n:1\r\n+OK\r\n",
+    n3: b"*2\r\n:5\r\n:6\r\n:1\r\n",
+    commands: &["MGET a b c a", "GET b", "DEL a c", "MSET b 1 c 2"],
+    told: "[5, 1, 7, 6], 3, 2, OK",
+    asked: "n3 n3 n1 n1 n1 n2 n2 n2",
+    open: "n1 n2 n3",
+    needs_refresh: false,
+};
+
+/// One part is moved and the other read; both are moved; one is an error; one is another shape.
+const PARTS_SENT_ON: Row = Row {
+    n1: b"*1\r\n:1\r\n-ASK 3300 n2:7002\r\n:1\r\n:1\r\n",
+    n2: b"",
+    n3: b"-MOVED 15495 n1:7001\r\n-MOVED 15495 n1:7001\r\n-ERR x\r\n+OK\r\n",
+    commands: &["MGET a b", "MGET a b", "DEL a b", "DEL a b"],
+    told: "16, 13 MOVED, 13 ERR, 16",
+    asked: "n3 n3 n3 n3 n1 n1 n1 n1",
+    open: "n1 n2 n3",
+    needs_refresh: true,
+};
+
+/// The second node fails, and the third is not asked: a command with a part at the second may have been done,
+/// one with parts at the first and the third is done in part, and one of the third alone is not done.
+const PARTS_FAIL: Row = Row {
+    n1: b"*1\r\n:1\r\n",
+    n2: b"",
+    n3: b"*1\r\n:5\r\n*1\r\n:6\r\n",
+    commands: &["MGET a c", "MGET a b", "MGET c b", "DEL b", "DEL b hello"],
+    told: "14, 16, 14, 20, 20",
+    asked: "n3 n3 n2 n2",
+    open: "n1 n3",
     needs_refresh: false,
 };
 
@@ -78,7 +115,7 @@ const NOTHING: Row = Row {
     n1: b"",
     n2: b"",
     n3: b"",
-    keys: &[],
+    commands: &[],
     told: "",
     asked: "",
     open: "n1 n2 n3",
@@ -97,11 +134,18 @@ fn client(alloc: Global, row: &Row) -> Result<Client, RedisError> {
     Ok(client)
 }
 
-fn gets(alloc: Global, keys: &[&str]) -> Result<ClusterPipeline, AllocError> {
+fn command_of(alloc: Global, words: &str) -> Result<Cmd, AllocError> {
+    let mut command = Cmd::new(alloc);
+    for word in words.split(' ') {
+        command.arg(word)?;
+    }
+    Ok(command)
+}
+
+fn pipeline_of(alloc: Global, commands: &[&str]) -> Result<ClusterPipeline, AllocError> {
     let mut pipeline = cluster_pipe(alloc);
-    for key in keys {
-        pipeline.cmd(alloc, "GET")?;
-        pipeline.arg(*key)?;
+    for words in commands {
+        pipeline.add_command(command_of(alloc, words)?)?;
     }
     Ok(pipeline)
 }
@@ -119,6 +163,7 @@ fn value_text(alloc: Global, value: &Value) -> Result<String, RedisError> {
     Ok(match value {
         Value::Int(number) => format!(in alloc; "{number}")?,
         Value::ServerError(error) => format!(in alloc; "{error}")?,
+        Value::Okay => format!(in alloc; "OK")?,
         _ => format!(in alloc; "another")?,
     })
 }
@@ -178,7 +223,7 @@ fn open_links(alloc: Global, client: &Client) -> Result<String, AllocError> {
 
 fn plays<R: Abort>(rt: &R, alloc: Global, row: &Row) -> Result<(), Fail> {
     let mut client = client(alloc, row)?;
-    let pipeline = gets(alloc, row.keys)?;
+    let pipeline = pipeline_of(alloc, row.commands)?;
     assert_eq!(rt; told(alloc, &mut client, &pipeline)?.as_str(), row.told);
     assert_eq!(rt; asked(alloc, &client)?.as_str(), row.asked);
     assert_eq!(rt; open_links(alloc, &client)?.as_str(), row.open);
@@ -194,6 +239,15 @@ fn each_position_is_told(rt: HostRuntime) -> Result<(), Fail> {
     plays(&rt, alloc, &FIRST_FAILS)?;
     plays(&rt, alloc, &LAST_FAILS)?;
     plays(&rt, alloc, &NOTHING)?;
+    Ok(())
+}
+
+#[test]
+fn a_split_command_goes_out_in_its_parts(rt: HostRuntime) -> Result<(), Fail> {
+    let alloc = rt.alloc();
+    plays(&rt, alloc, &IN_PARTS)?;
+    plays(&rt, alloc, &PARTS_SENT_ON)?;
+    plays(&rt, alloc, &PARTS_FAIL)?;
     Ok(())
 }
 
@@ -213,12 +267,10 @@ fn refused_position(
 fn a_position_is_refused_before_the_first_byte(rt: HostRuntime) -> Result<(), Fail> {
     let alloc = rt.alloc();
     let mut client = client(alloc, &TWO_NODES)?;
-    let mut pipeline = gets(alloc, &["a", "b"])?;
-    let mut delete = command::cmd(alloc, "DEL")?;
-    delete.arg("a")?;
-    delete.arg("b")?;
-    pipeline.add_command(delete)?;
-    assert_eq!(rt; refused_position(alloc, &mut client, &pipeline), Some(2));
+    for last in ["DBSIZE", "MSET a 1 b", "XREAD STREAMS a b 0 0"] {
+        let pipeline = pipeline_of(alloc, &["GET a", "DEL a b", last])?;
+        assert_eq!(rt; refused_position(alloc, &mut client, &pipeline), Some(2));
+    }
     assert_eq!(rt; client.asked().len(), 0);
     assert!(rt; has_sent(alloc, &client, "n3:7003", b"")?);
     Ok(())

@@ -1,23 +1,22 @@
 -- The exchange of one group of requests is one link call, and what its replies are.
-use Rattle.std.specs.Prelude.{slice_get, drop, take, is_none, ◌||◌, ◌&&◌, MatchBool, ⊤, ◌⊎◌}
+use Rattle.std.specs.Prelude.{slice_get, drop, take, is_none, ◌||◌, MatchBool, ◌⊎◌}
 use Rattle.std.specs.List.{list_any, AllByRecursion}
-use Rattle.std.proofs.Common.{◌≡◌, ◌≢◌, ℕ, suc, ◌+◌, Bool, true, false, cond, List, [], ◌∷◌, ◌++◌, map, length, Option, Some, None, Result, Ok, Err, refl, sym, ap, ◌∙◌, subst, inl, inr, append-nil, arith}
+use Rattle.std.proofs.Common.{◌≡◌, ◌≢◌, ℕ, suc, ◌+◌, Bool, true, false, cond, List, [], ◌∷◌, ◌++◌, map, length, Some, None, Result, Ok, Err, refl, sym, ap, ◌∙◌, subst, inl, inr, append-nil, arith}
 use Rattle.std.proofs.lemmas.Bool.{false≢true}
-use Rattle.std.proofs.lemmas.List.{length-map}
 use Rattle.resp_core.specs.Trees.{Tree, ErrorText}
 use Rattle.resp_core.specs.Errors.{Refusal, by_cause}
 use Rattle.resp_core.specs.declared.errors.redis_error.Cause.TheVariants.{Memory}
 use Rattle.resp_link.specs.Call.{Seen}
 use Rattle.resp_link.specs.Replies.{replies_of}
-use Rattle.cluster_routing.specs.Address.{Address, same_address}
+use Rattle.cluster_routing.specs.Address.{Address}
 use Rattle.cluster_calls.specs.Links.Request.{Request, bytes_of, skipped}
-use Rattle.cluster_calls.specs.Links.Log.{Exchange, requests, is_unanswered, is_moved, is_moved_reply, has_lost}
+use Rattle.cluster_calls.specs.Links.Log.{Exchange, requests, is_unanswered, is_moved}
 use Rattle.cluster_calls.specs.Links.World.{Node, Called, Calls, link_at, is_usable, open_links}
 use Rattle.cluster_calls.specs.Links.Exchanges.{Exchanges, not_begun, made}
 use Rattle.cluster_calls.specs.Links.Faults.{LinkFault, refusal_by_fault}
 use Rattle.cluster_calls.specs.Links.Events.{Event, Ending, answers, fails, lacks_memory, EndsBy, reply_count, AllTo, LinkCalled, AgreesAt, is_memory_ending, is_answer_ending, exchanges_at, pair_up}
 use Rattle.cluster_steps.specs.Groups.{Group}
-use Rattle.cluster_steps.specs.GroupRuns.{is_moved_tree, moved_by, group_node, IsGroupPlaced, GroupByGroup}
+use Rattle.cluster_steps.specs.GroupRuns.{is_moved_tree, group_node, IsGroupPlaced, GroupByGroup}
 use Rattle.cluster_calls.specs.Calls.Refusals.{pipeline_refusal}
 use Rattle.cluster_calls.proofs.LinkLaws.Pairing.{some_lost}
 use Rattle.cluster_calls.proofs.LinkLaws.PipeErrors.{lost_unanswered}

@@ -10,6 +10,7 @@ pub mod Dispatched
 pub mod SplitCommands
 mod Directions
 pub mod PartReplies
+pub mod Joining
 pub mod OneSlot
 pub mod DistinctKeys
 pub mod ReadStreams

@@ -1,10 +1,12 @@
 -- The reply to a command from those of its parts, where its plan is there.
 use Rattle.std.specs.List.{AllByRecursion, list_all, list_any}
-use Rattle.std.specs.Prelude.{◌&&◌, ◌||◌, filter_map, slice_get, nat_lt, IfSome}
+use Rattle.std.specs.Prelude.{filter_map, slice_get, nat_lt, IfSome}
 use Rattle.std.proofs.lemmas.Bool.Decides.{nat_tests}
 use Rattle.std.proofs.lemmas.List.{length-map}
 use Rattle.std.proofs.Common.{◌≡◌, ℕ, zero, suc, Bool, true, false, cond, List, [], ◌∷◌, map, length, Option, Some, None, option_map, refl, sym, ap, ◌∙◌, subst, Result, Ok, Err, nat_eq, arith}
 use Rattle.resp_core.specs.Trees.{Tree}
+use Rattle.resp_core.specs.View.{view}
+use Rattle.resp_core.specs.declared.value.Value.{Value}
 use Rattle.resp_core.specs.Errors.{Refusal, by_cause}
 use Rattle.resp_core.specs.declared.errors.redis_error.Cause.TheVariants.{NoResponse, CursorInSplit, BadOrder}
 use Rattle.resp_args.specs.Command.{Command}
@@ -12,10 +14,10 @@ use Rattle.resp_args.specs.Packed.{sent}
 use Rattle.cluster_routing.specs.Address.{Address}
 use Rattle.cluster_routing.specs.Choice.{Strategy}
 use Rattle.cluster_routing.specs.Info.{shown_part, shown_split}
-use Rattle.cluster_routing.specs.Combine.{PartReply, IsCutInto, combine, part_replies, slots_by}
+use Rattle.cluster_routing.specs.Combine.{IsCutInto, combine, part_replies, slots_by}
 use Rattle.cluster_routing.specs.Lists.{Pairwise, among, is_distinct, is_permutation, numbers_below}
 use Rattle.cluster_routing.specs.Parts.{argument_slots, places_from, tuple_slot}
-use Rattle.cluster_routing.specs.Policies.{or_bad_reply}
+use Rattle.cluster_routing.specs.Policies.{or_bad_reply, tree_or_refusal}
 use Rattle.cluster_routing.specs.Routing.{Destination, destination, name_of, route_to}
 use Rattle.cluster_routing.specs.declared.route.Route.{Route}
 use Rattle.cluster_routing.specs.declared.split.SplitParts.{SplitParts}
@@ -27,6 +29,7 @@ use Rattle.cluster_calls.specs.Calls.Parts.{Part, fits_order, if_ordered, is_gap
 use Rattle.cluster_calls.specs.Calls.Plan.{Client, Dispatch, in_order, plan}
 use Rattle.cluster_calls.specs.Calls.Replies.{args_slot, reply_by_split, reply_of_parts}
 use Rattle.cluster_steps.specs.Dispatches.{AreDispatched}
+use Rattle.cluster_calls.specs.Links.World.{tree_result}
 use Rattle.cluster_calls.specs.Links.Orders.{command_call, routes_in_order}
 use Rattle.cluster_calls.specs.Links.PartRuns.{replies_with_slots}
 use Rattle.cluster_steps.proofs.Dispatched.{command_task}
@@ -37,7 +40,7 @@ use Rattle.cluster_calls.proofs.LogLaws.Plans.{IsFor, dispatches_for, firsts_amo
 use Rattle.cluster_calls.proofs.LogLaws.SentOnce.{pair_length}
 
 -- a command with parts is cut as its arguments on the wire are
-cut_so : (read_only : List (List ℕ)) (command : Command) (number : ℕ) (parts : List Part) → parts_of read_only command number ≡ Ok parts → parts_by_place command.args read_only ≡ option_map (split_by_place read_only) (split_of (sent command))
+pub cut_so : (read_only : List (List ℕ)) (command : Command) (number : ℕ) (parts : List Part) → parts_of read_only command number ≡ Ok parts → parts_by_place command.args read_only ≡ option_map (split_by_place read_only) (split_of (sent command))
 cut_so read_only command number parts e = by command.no_response (has_split_word command.args) refl (list_any is_gap command.args) refl e
   where
     Goal : Type 0
@@ -271,3 +274,25 @@ recut args split order splitting ps qs n m c e f = record {
   are_places = sym e ∙ c.are_places;
   are_counted = sym f ∙ c.are_counted;
 }
+
+-- a split command whose parts stand in order is cut into them
+pub cut_whole : (args : List (List ℕ)) (split : Split) (made : PartsByPlace) (read_only : List (List ℕ)) (n : ℕ) → split_of args ≡ Some split → made ≡ split_by_place read_only split → n ≡ length (part_slots split.tuples)
+    → IsCutInto args split (numbers_below (length (part_slots split.tuples))) made.splitting (map (λ (r : Route × List ℕ). r.1) made.routes) n
+cut_whole args split made read_only n s same count =
+    let slots = every_place (part_slots split.tuples) in
+    record {
+      is_split = s;
+      is_made = sym (ap (λ (m : PartsByPlace). m.splitting) same);
+      is_order = all_in_order (length (part_slots split.tuples));
+      are_places = ap (λ (m : PartsByPlace). map (λ (r : Route × List ℕ). r.1) m.routes) same ∙ places_of _ split (part_slots split.tuples)
+          ∙ ap (map (λ slot. places_from slot 0 (argument_slots split.tuples))) (sym slots);
+      are_counted = count ∙ ap length (sym slots);
+    }
+
+-- and its slots are all in order
+pub all_slots : (split : Split) → slots_by (numbers_below (length (part_slots split.tuples))) split ≡ part_slots split.tuples
+all_slots split = every_place (part_slots split.tuples)
+
+pub same_tree : (r : Result Value Refusal) → tree_result view r ≡ tree_or_refusal r
+same_tree (Ok value) = refl
+same_tree (Err refusal) = refl

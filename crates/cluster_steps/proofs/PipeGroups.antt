@@ -1,7 +1,7 @@
 -- The groups of a pipeline by the places of links are those by nodes.
 use Rattle.std.specs.Prelude.{not, filter, nat_eq, slice_get, take, drop, option_map, MatchBool}
 use Rattle.std.specs.List.{list_any, AllByRecursion}
-use Rattle.std.proofs.Common.{◌≡◌, ◌≢◌, ◌<◌, ℕ, suc, ◌+◌, ◌==◌, Bool, true, false, cond, List, [], ◌∷◌, map, length, Option, Some, None, refl, sym, ap, ◌∙◌, subst, arith, eqb-true, eq-eqb}
+use Rattle.std.proofs.Common.{◌≡◌, ◌≢◌, ℕ, suc, ◌+◌, ◌==◌, Bool, true, false, cond, List, [], ◌∷◌, map, length, Option, Some, None, refl, sym, ap, ◌∙◌, subst, arith, eqb-true, eq-eqb}
 use Rattle.std.proofs.lemmas.Bool.{false≢true}
 use Rattle.std.proofs.lemmas.List.{length-map}
 use Rattle.cluster_routing.specs.Address.{Address, same_address}
@@ -9,7 +9,6 @@ use Rattle.cluster_routing.specs.Info.{texts}
 use Rattle.cluster_routing.specs.Lists.{firsts, IsDistinct}
 use Rattle.cluster_routing.specs.Seen.{address}
 use Rattle.cluster_steps.specs.declared.dispatch.Dispatch.{Dispatch as CodeDispatch}
-use Rattle.cluster_calls.specs.Links.Request.{Request}
 use Rattle.cluster_calls.specs.Links.Log.{Exchange, requests, is_unanswered}
 use Rattle.cluster_calls.specs.Links.World.{Node, addresses_of, place_at}
 use Rattle.cluster_calls.specs.Links.Events.{AllTo}

@@ -1,19 +1,18 @@
 -- What came from each place, drawn for one command after another, are the replies in the pipeline's order.
 use Rattle.std.specs.Prelude.{filter, nat_eq, ◌||◌}
 use Rattle.std.specs.List.{AllByRecursion}
-use Rattle.std.proofs.Common.{◌≡◌, ℕ, ◌==◌, Bool, true, false, cond, List, [], ◌∷◌, ◌++◌, map, length, Option, Some, refl, sym, ap, ◌∙◌, subst, arith, eqb-true, eq-eqb, append_assoc}
+use Rattle.std.proofs.Common.{◌≡◌, ℕ, ◌==◌, Bool, true, false, cond, List, [], ◌∷◌, ◌++◌, map, length, Some, refl, sym, ap, ◌∙◌, subst, arith, eqb-true, eq-eqb}
 use Rattle.std.proofs.lemmas.Bool.{false≢true}
 use Rattle.std.proofs.lemmas.List.{length-map, map-append}
 use Rattle.resp_core.specs.Trees.{Tree}
 use Rattle.resp_args.specs.Packed.{sent}
-use Rattle.cluster_routing.specs.Lists.{among, concat, draw, firsts, front, group_by_group, IsDistinct, Pairwise, rest, without_front_of}
-use Rattle.cluster_calls.specs.Links.Request.{Request}
-use Rattle.cluster_calls.specs.Links.Log.{Exchange, requests}
+use Rattle.cluster_routing.specs.Lists.{among, concat, draw, firsts, group_by_group, IsDistinct, Pairwise}
+use Rattle.cluster_calls.specs.Links.Log.{Exchange}
 use Rattle.cluster_steps.specs.declared.drawn.Answered.{Answered as CodeAnswered}
 use Rattle.cluster_steps.specs.GroupRuns.{answered_at}
 use Rattle.cluster_steps.specs.Queues.{items_at, queued, no_queues}
 use Rattle.cluster_calls.specs.Calls.Call.{Entry}
-use Rattle.cluster_calls.specs.Calls.Replies.{args_slot, exchange_slot, in_pipeline_order, reply_or_nil, with_slot}
+use Rattle.cluster_calls.specs.Calls.Replies.{args_slot, in_pipeline_order, reply_or_nil, with_slot}
 use Rattle.cluster_steps.proofs.PipeGroups.{map_twice, all_both}
 use Rattle.cluster_calls.proofs.ServerLaws.Distinct.{firsts_distinct, among-firsts}
 use Rattle.cluster_calls.proofs.ServerLaws.Draw.{draw_each, drawn_same, draw-map, draw_self}

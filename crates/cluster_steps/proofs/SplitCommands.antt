@@ -1,7 +1,7 @@
 -- The parts of a command whose word is split by its keys, as the code finds them.
 use Rattle.std.specs.List.{list_any, zip}
 use Rattle.std.specs.Prelude.{is_some}
-use Rattle.std.proofs.Common.{◌≡◌, ℕ, true, false, List, [], ◌∷◌, map, append-nil, Option, Some, None, option_map, option_and_then, refl, sym, ap, ◌∙◌, subst, Result, Ok, Err}
+use Rattle.std.proofs.Common.{◌≡◌, ℕ, true, false, List, [], ◌∷◌, map, Option, Some, None, option_map, option_and_then, refl, sym, ap, ◌∙◌, Ok, Err}
 use Rattle.resp_core.specs.Errors.{by_cause}
 use Rattle.resp_core.specs.declared.errors.redis_error.Cause.TheVariants.{BrokenTuples, CursorInSplit}
 use Rattle.resp_args.specs.Command.{Command, new_command}
@@ -9,17 +9,17 @@ use Rattle.resp_args.specs.Packed.{sent, wire}
 use Rattle.resp_args.specs.declared.cmd.Arg.TheVariants.{Simple, Cursor}
 use Rattle.cluster_routing.specs.Command.{Args, all_bytes}
 use Rattle.cluster_routing.specs.Routing.{name_of, role_of, route_to}
-use Rattle.cluster_routing.specs.Split.{Split, Splitting, PartsByPlace, splitting_of, with_tuples, shared_by, cut, split_of, has_split_word, part_slots, part_places, split_routes, split_by_place, parts_by_place, sub, sub_at, with_texts}
+use Rattle.cluster_routing.specs.Split.{Split, Splitting, PartsByPlace, splitting_of, with_tuples, shared_by, cut, split_of, has_split_word, part_slots, part_places, split_by_place, parts_by_place, sub_at, with_texts}
 use Rattle.cluster_routing.specs.declared.route.Route.{Route}
 use Rattle.cluster_routing.specs.declared.route.SlotAddr.{SlotAddr}
 use Rattle.cluster_routing.proofs.SplitWords.{split_words_are_names}
 use Rattle.cluster_routing.proofs.PartPlaces.{subs_are_at_their_places}
-use Rattle.cluster_calls.specs.Calls.Parts.{Part, is_gap, role_by, slot_part, split_parts, parts_of}
+use Rattle.cluster_calls.specs.Calls.Parts.{is_gap, role_by, slot_part, split_parts, parts_of}
 use Rattle.cluster_steps.specs.CodeParts.{part_at}
 
 -- ---- arguments without a gap
 
-all_of : (cursor : ℕ) (args : Args) → list_any is_gap args ≡ false → all_bytes args ≡ Some (wire cursor args)
+pub all_of : (cursor : ℕ) (args : Args) → list_any is_gap args ≡ false → all_bytes args ≡ Some (wire cursor args)
 all_of cursor [] e = refl
 all_of cursor (Simple bytes ∷ args) e = ap (option_map (λ rest. bytes ∷ rest)) (all_of cursor args e)
 all_of cursor (Cursor ∷ args) e = cc

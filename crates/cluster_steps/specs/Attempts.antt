@@ -7,7 +7,6 @@ use Rattle.resp_core.specs.Trees.{Tree}
 use Rattle.resp_core.specs.View.{view}
 use Rattle.resp_core.specs.declared.value.Value.{Value}
 use Rattle.resp_args.specs.Command.{Command}
-use Rattle.cluster_routing.specs.Address.{Address}
 use Rattle.cluster_routing.specs.Seen.{address}
 use Rattle.cluster_calls.specs.Calls.OneSlot.{args_of}
 use Rattle.cluster_calls.specs.Calls.Plan.{Dispatch}

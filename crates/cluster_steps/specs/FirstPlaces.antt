@@ -3,14 +3,12 @@ use Rattle.std.specs.Prelude.{◌≡◌, ℕ, Bool, true, false, if◌then◌els
 use Rattle.resp_core.specs.Errors.{Refusal, by_cause}
 use Rattle.resp_core.specs.declared.errors.redis_error.Cause.TheVariants.{NoNode, NoLink, NoRoute}
 use Rattle.cluster_routing.specs.Address.{Address}
-use Rattle.cluster_routing.specs.Seen.{address}
 use Rattle.cluster_routing.specs.Info.{texts}
 use Rattle.cluster_routing.specs.Candidates.{Candidates}
 use Rattle.cluster_routing.specs.Choice.{Strategy, IsAdmitted}
 use Rattle.cluster_routing.specs.declared.direction.Direction.{Direction}
 use Rattle.cluster_routing.specs.declared.direction.Direction.TheVariants.{SplitByKeys, Slot, AnyNode}
 use Rattle.cluster_routing.specs.SlotMap.{SlotEntries}
-use Rattle.cluster_steps.specs.declared.place.Place.{Place}
 use Rattle.cluster_steps.specs.declared.route.Target.{Target as CodeTarget}
 use Rattle.cluster_steps.specs.declared.route.Target.TheVariants as targets
 use Rattle.cluster_steps.specs.declared.route.Part.{Part as CodePart}

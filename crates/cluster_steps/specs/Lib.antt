@@ -9,4 +9,5 @@ pub mod Groups
 pub mod GroupRuns
 pub mod Queues
 pub mod Each
+pub mod Joins
 pub mod Reads

@@ -3,7 +3,6 @@ use Rattle.std.specs.Prelude.{◌≡◌, ◌<◌, Bool, true, false, List, lengt
 use Rattle.resp_core.specs.Errors.{Refusal}
 use Rattle.resp_core.specs.Trees.{Tree}
 use Rattle.resp_core.specs.View.{view}
-use Rattle.cluster_routing.specs.Address.{Address}
 use Rattle.cluster_routing.specs.Seen.{address}
 use Rattle.cluster_steps.specs.declared.place.Place.{Place}
 use Rattle.cluster_steps.specs.declared.turn.Onward.{Onward}

@@ -10,6 +10,7 @@ pub mod drawn;
 pub mod each;
 pub mod exchange;
 pub mod grouped;
+pub mod join;
 pub mod links;
 pub mod order;
 pub mod pipeline_reads;

@@ -1,4 +1,4 @@
-use Rattle.std.proofs.Common.{◌≡◌, map, option_map, drop}
+use Rattle.std.proofs.Common.{map, option_map, drop}
 use Rattle.cluster_client.specs.Shown.{call_in, shown}
 use Rattle.cluster_client.specs.Whole.{whole}
 use Rattle.cluster_calls.proofs.LinkLaws.PlayLoop.{PlayLoop}

@@ -1,4 +1,4 @@
-use Rattle.std.proofs.Common.{◌≡◌, ◌++◌, ◌∷◌, [], map, take}
+use Rattle.std.proofs.Common.{◌≡◌, ◌∷◌, map, take}
 use Rattle.cluster_routing.specs.Seen.{address}
 use Rattle.cluster_calls.specs.Links.Request.{multi}
 use Rattle.cluster_calls.specs.Calls.OneSlot.{args_of}

@@ -1,4 +1,4 @@
-use Rattle.std.proofs.Common.{◌∙◌, map, sym, ap}
+use Rattle.std.proofs.Common.{◌∙◌, map, sym}
 use Rattle.resp_core.specs.View.{view}
 use Rattle.cluster_steps.specs.Attempts.{heard}
 use Rattle.cluster_steps.proofs.AttemptReplies.{answered_so, refused_so}

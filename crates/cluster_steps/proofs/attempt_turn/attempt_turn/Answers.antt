@@ -1,4 +1,4 @@
-use Rattle.std.proofs.Common.{◌≡◌, map, subst}
+use Rattle.std.proofs.Common.{map, subst}
 use Rattle.resp_core.specs.View.{view}
 use Rattle.cluster_steps.specs.Attempts.{AttemptTurnsBy, heard}
 use Rattle.cluster_steps.proofs.attempt_turn.attempt_turn.Goals as goal

@@ -1,5 +1,5 @@
 use Rattle.std.specs.Prelude.{option_map}
-use Rattle.std.proofs.Common.{◌<◌, ◌∙◌, map, length, refl, sym, ap, subst}
+use Rattle.std.proofs.Common.{◌<◌, ◌∙◌, map, refl, sym, ap, subst}
 use Rattle.std.proofs.lemmas.List.{length-map, map-set}
 use Rattle.std.proofs.lemmas.Option.{slice_get-map, slice_get_read}
 use Rattle.cluster_steps.specs.Queues.{queue_in}

@@ -1,4 +1,4 @@
-use Rattle.std.proofs.Common.{◌<◌, ◌∙◌, ◌==◌, cond, map, length, sym, ap, subst}
+use Rattle.std.proofs.Common.{◌<◌, ◌∙◌, ◌==◌, cond, map, sym, ap, subst}
 use Rattle.std.proofs.lemmas.List.{length-map, map-set}
 use Rattle.cluster_steps.specs.Queues.{queue_in}
 use Rattle.cluster_steps.proofs.Queueing.{queue_set}

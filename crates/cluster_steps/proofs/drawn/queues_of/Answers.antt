@@ -1,5 +1,5 @@
 use Rattle.std.specs.Vec.Iter.{into_iter_items}
-use Rattle.std.proofs.Common.{◌≡◌, ◌∙◌, ◌∷◌, ◌==◌, cond, map, ap}
+use Rattle.std.proofs.Common.{◌≡◌, ◌∙◌, ◌∷◌, ◌==◌, cond, map}
 use Rattle.cluster_steps.specs.Queues.{items_at, queue_in}
 use Rattle.cluster_steps.proofs.Queueing.{queued_same}
 use Rattle.cluster_steps.proofs.drawn.queues_of.Goals as goal

@@ -1,5 +1,5 @@
 use Rattle.std.specs.Prelude.{option_map, Some}
-use Rattle.std.proofs.Common.{◌≡◌, ◌∙◌, ap, map, sym}
+use Rattle.std.proofs.Common.{◌∙◌, ap, map, sym}
 use Rattle.cluster_routing.specs.Info.{shown_part, shown_split}
 use Rattle.cluster_calls.specs.Links.Orders.{routes_in_order}
 use Rattle.cluster_calls.proofs.LinkLaws.Ordering.{made_in_order}

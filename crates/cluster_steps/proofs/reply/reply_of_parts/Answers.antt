@@ -1,19 +1,13 @@
-use Rattle.std.proofs.Common.{ℕ, List, ◌≡◌, ◌≢◌, ◌∙◌, ap, map, refl, sym, length, Ok, Err, Result, Some}
+use Rattle.std.proofs.Common.{ℕ, List, ◌∙◌, ap, map, sym}
 use Rattle.std.proofs.lemmas.List.{length-map}
-use Rattle.resp_core.specs.Errors.{Refusal}
 use Rattle.resp_core.specs.View.{view}
-use Rattle.resp_core.specs.declared.value.Value.{Value}
 use Rattle.resp_args.specs.Packed.{sent}
 use Rattle.cluster_routing.specs.Info.{shown_part, shown_split}
-use Rattle.cluster_routing.specs.Policies.{or_bad_reply, tree_or_refusal}
+use Rattle.cluster_routing.specs.Policies.{or_bad_reply}
 use Rattle.cluster_routing.specs.declared.route.Route.{Route}
 use Rattle.cluster_calls.specs.Links.World.{tree_result}
-use Rattle.cluster_steps.proofs.PartReplies.{joined_reply, recut, whole_reply}
+use Rattle.cluster_steps.proofs.PartReplies.{joined_reply, recut, same_tree, whole_reply}
 use Rattle.cluster_steps.proofs.reply.reply_of_parts.Goals as goal
-
-same_tree : (r : Result Value Refusal) → tree_result view r ≡ tree_or_refusal r
-same_tree (Ok value) = refl
-same_tree (Err refusal) = refl
 
 pub returns-in-None : goal.returns-in-None
 returns-in-None c client picks command order number ds is_plan split count m =

@@ -1,5 +1,5 @@
 use Rattle.std.specs.List.{list_any, zip}
-use Rattle.std.proofs.Common.{◌≡◌, ◌∙◌, false, map, Some, None, Ok, Err, ap, refl, sym}
+use Rattle.std.proofs.Common.{◌≡◌, ◌∙◌, false, map, Some, None, Ok, Err, ap, sym}
 use Rattle.cluster_routing.specs.Info.{shown_parts, shown_split, texts}
 use Rattle.cluster_routing.specs.Split.{parts_by_place}
 use Rattle.cluster_calls.specs.Calls.Parts.{is_gap}

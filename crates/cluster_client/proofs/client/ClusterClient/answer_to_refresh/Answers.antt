@@ -1,4 +1,3 @@
-use Rattle.std.proofs.Common.{◌≡◌, Err}
 use Rattle.std.proofs.lemmas.Result.{err_from_is_err_and}
 use Rattle.cluster_calls.proofs.LinkLaws.AnyStrategy.{refresh_for_every}
 use Rattle.cluster_client.proofs.client.ClusterClient.answer_to_refresh.Goals as goal

@@ -1,10 +1,8 @@
-use Rattle.std.proofs.Common.{◌<◌, length, sym, subst}
+use Rattle.std.proofs.Common.{◌<◌, length}
 use Rattle.std.proofs.lemmas.List.{length-map}
 use Rattle.std.proofs.lemmas.Result.{err_from_is_err_and}
 use Rattle.resp_core.specs.View.{view}
-use Rattle.cluster_routing.specs.Seen.{address}
-use Rattle.cluster_calls.specs.Links.Places.{IsOpenAt}
-use Rattle.cluster_calls.specs.Links.World.{nodes, tree_result}
+use Rattle.cluster_calls.specs.Links.World.{tree_result}
 use Rattle.cluster_calls.proofs.LinkLaws.PartLoop.{from_place}
 use Rattle.cluster_steps.specs.Dispatches.{dispatch_of}
 use Rattle.cluster_client.specs.Whole.{whole}

@@ -1,7 +1,7 @@
 use Rattle.std.specs.Prelude.{Some}
 use Rattle.std.proofs.Common.{◌≡◌, ◌<◌, ◌∙◌, length, sym, ap}
 use Rattle.cluster_routing.specs.Seen.{address}
-use Rattle.cluster_calls.specs.Links.World.{Node, nodes, place_at}
+use Rattle.cluster_calls.specs.Links.World.{Node, nodes}
 use Rattle.cluster_calls.proofs.LinkLaws.Nodes.{node_there}
 use Rattle.cluster_calls.proofs.LinkLaws.LinkPlaces.{found, nowhere}
 use Rattle.cluster_client.proofs.client.ClusterClient.link.Goals as goal

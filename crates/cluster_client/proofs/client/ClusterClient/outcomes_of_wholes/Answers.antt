@@ -13,7 +13,7 @@ use Rattle.cluster_steps.proofs.RequestCounts.{requests_within}
 use Rattle.cluster_client.proofs.EachPiping.{each_made, each_unsent, told_for}
 use Rattle.cluster_client.proofs.Logged.{room_for_fewer}
 use Rattle.cluster_client.proofs.Piping.{dispatches_within, places_within, whiches}
-use Rattle.cluster_client.proofs.client.ClusterClient.outcomes_of_pipeline.Goals as goal
+use Rattle.cluster_client.proofs.client.ClusterClient.outcomes_of_wholes.Goals as goal
 
 pub returns-in_err-dispatches : goal.returns-in_err-dispatches
 returns-in_err-dispatches g c strategy =

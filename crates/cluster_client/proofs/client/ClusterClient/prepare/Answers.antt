@@ -1,11 +1,10 @@
 use Rattle.std.specs.Prelude.{option_map}
-use Rattle.std.proofs.Common.{ℕ, true, false, List, Bor, [], ◌∷◌, ◌≡◌, ◌∙◌, sym, ap, Err}
+use Rattle.std.proofs.Common.{ℕ, true, false, List, Bor, [], ◌∷◌, ◌≡◌, ◌∙◌, sym, ap}
 use Rattle.std.proofs.lemmas.Result.{err_from_is_err_and}
 use Rattle.cluster_calls.specs.Calls.Parts.{fits_order}
 use Rattle.cluster_calls.specs.Links.Happened.{client_of}
 use Rattle.cluster_calls.specs.Links.Orders.{routes_in_order}
 use Rattle.cluster_calls.proofs.LinkLaws.Ordering.{one_in_order}
-use Rattle.cluster_steps.proofs.Dispatched.{command_unparted}
 use Rattle.cluster_steps.proofs.SplitCommands.{unsplit}
 use Rattle.cluster_client.specs.Whole.{whole}
 use Rattle.cluster_client.proofs.Prepared.{prepared_planned, prepared_unfit, prepared_unplaced}

@@ -1,6 +1,6 @@
 use Rattle.std.specs.Prelude.{option_map}
 use Rattle.std.specs.List.{AllByRecursion}
-use Rattle.std.proofs.Common.{arith, ℕ, true, false, List, Bor, ◌≡◌, ◌≢◌, ◌∙◌, length, sym, ap, subst, Ok, Err}
+use Rattle.std.proofs.Common.{arith, ℕ, true, false, List, Bor, ◌≡◌, ◌∙◌, length, sym, ap, subst}
 use Rattle.std.proofs.lemmas.Result.{err_from_is_err_and}
 use Rattle.cluster_calls.specs.Calls.Parts.{fits_order}
 use Rattle.cluster_steps.specs.Dispatches.{IsPlaced}

@@ -1,16 +1,12 @@
-use Rattle.std.proofs.Common.{◌≡◌, ◌∙◌, refl, sym, ap, length, map, subst}
-use Rattle.std.specs.Prelude.{bytes_eq, option_map, Err}
+use Rattle.std.proofs.Common.{◌≡◌, ◌∙◌, refl, sym, ap, length, map}
 use Rattle.std.proofs.lemmas.List.{length-map}
 use Rattle.std.proofs.lemmas.Result.{err_from_is_err_and}
 use Rattle.resp_core.specs.View.{view}
 use Rattle.stream_commands.specs.Joining.{positions}
 use Rattle.cluster_calls.specs.Calls.Task.{stream_keys}
-use Rattle.cluster_calls.specs.Links.Happened.{client_of}
 use Rattle.cluster_calls.proofs.LinkLaws.ManyParts.{as_many_replies}
 use Rattle.cluster_calls.proofs.LinkLaws.OneCommand.{relogged_untouched}
-use Rattle.cluster_steps.specs.Dispatches.{dispatch_of}
 use Rattle.cluster_steps.specs.Reads.{read_places, streams_in}
-use Rattle.cluster_client.specs.Whole.{whole}
 use Rattle.cluster_client.proofs.Ending.{unsent_ended}
 use Rattle.cluster_client.proofs.Reading.{count_planned, keys_differ, read_ended, read_stopped}
 use Rattle.cluster_client.proofs.client.ClusterClient.read_with_picks.Goals as goal

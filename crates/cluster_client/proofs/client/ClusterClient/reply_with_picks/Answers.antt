@@ -1,5 +1,5 @@
 use Rattle.std.specs.Prelude.{option_map}
-use Rattle.std.proofs.Common.{ℕ, List, Bor, ◌≡◌, ◌≢◌, ◌∙◌, refl, sym, ap, Err, Ok}
+use Rattle.std.proofs.Common.{ℕ, List, Bor, ◌∙◌, refl, sym, ap}
 use Rattle.std.proofs.lemmas.List.{length-map}
 use Rattle.std.proofs.lemmas.Result.{err_from_is_err_and}
 use Rattle.resp_core.specs.View.{view}

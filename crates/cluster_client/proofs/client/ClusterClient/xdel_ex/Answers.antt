@@ -1,4 +1,4 @@
-use Rattle.std.proofs.Common.{map, refl, ap, subst}
+use Rattle.std.proofs.Common.{map, refl, ap}
 use Rattle.std.proofs.lemmas.List.{map-id}
 use Rattle.cluster_calls.specs.Calls.Answer.{Deleted}
 use Rattle.cluster_calls.specs.Calls.Call.{XdelEx}

@@ -1,13 +1,11 @@
 use Rattle.std.specs.Prelude.{cond}
-use Rattle.std.proofs.Common.{◌≡◌, IfOk, List, refl, sym, ap, ◌∙◌, subst}
+use Rattle.std.proofs.Common.{◌≡◌, IfOk, refl, ap, subst}
 use Rattle.resp_core.specs.Errors.{by_cause}
 use Rattle.stream_commands.specs.Commands.{plain_command}
-use Rattle.stream_commands.specs.RecordViews.{rows_view}
 use Rattle.cluster_calls.specs.Calls.Answer.{Read}
-use Rattle.cluster_calls.specs.Calls.Call.{OnStreams, Stream, Xread}
-use Rattle.cluster_calls.specs.Calls.Task.{is_by_key, read_of, read_refusal, sentence_task, stream_keys}
-use Rattle.cluster_calls.specs.Links.Happened.{CallMade}
-use Rattle.cluster_calls.specs.Links.Typed.{record_answer, streams_by}
+use Rattle.cluster_calls.specs.Calls.Call.{Xread}
+use Rattle.cluster_calls.specs.Calls.Task.{read_of, sentence_task}
+use Rattle.cluster_calls.specs.Links.Typed.{streams_by}
 use Rattle.cluster_steps.specs.Reads.{streams_in}
 use Rattle.cluster_client.proofs.TypedCalls.{read_sentence_by, refused_early, unwritten}
 use Rattle.cluster_client.proofs.client.ClusterClient.xread.Goals as goal

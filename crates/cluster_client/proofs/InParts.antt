@@ -1,0 +1,361 @@
+-- A pipeline in which split commands stand as their parts, from the run of these parts.
+use Rattle.std.specs.Prelude.{◌+◌, ◌≤◌, ◌||◌, cond, is_some, IfSome, MatchOption}
+use Rattle.std.specs.List.{list_any, AllByRecursion}
+use Rattle.std.proofs.Common.{◌≡◌, ◌≢◌, ℕ, zero, suc, Bool, true, false, List, [], ◌∷◌, ◌++◌, map, take, drop, length, length-append, append-nil, append_assoc, Option, Some, None, option_map, Result, Ok, Err, refl, sym, ap, ◌∙◌, subst, arith}
+use Rattle.std.proofs.lemmas.List.{length-map}
+use Rattle.resp_core.specs.Trees.{Tree, nil}
+use Rattle.resp_core.specs.Trees as trees
+use Rattle.resp_core.specs.Errors.{Refusal, by_cause, at_position}
+use Rattle.resp_core.specs.declared.errors.redis_error.Cause.TheVariants.{Memory, NoResponse, CursorInSplit}
+use Rattle.resp_args.specs.Command.{Command, new_command}
+use Rattle.resp_args.specs.Packed.{sent}
+use Rattle.cluster_routing.specs.Address.{Address, same_address}
+use Rattle.cluster_routing.specs.Choice.{Strategy}
+use Rattle.cluster_routing.specs.Command.{all_bytes}
+use Rattle.cluster_routing.specs.Routing.{Destination, to_any_node, to_any_primary, to_route, to_address, to_all_nodes, to_all_primaries, to_parts, route_to, role_of, name_of, destination}
+use Rattle.cluster_routing.specs.Split.{Split, PartsByPlace, split_of, split_by_place, parts_by_place, has_split_word, part_places, part_slots, sub_at, with_texts}
+use Rattle.cluster_routing.specs.declared.route.Route.{Route}
+use Rattle.cluster_routing.specs.declared.route.SlotAddr.{SlotAddr}
+use Rattle.cluster_routing.proofs.PartPlaces.{subs_are_at_their_places}
+use Rattle.cluster_calls.specs.Calls.Call.{Entry, Pipeline}
+use Rattle.cluster_calls.specs.Calls.Each.{each_exchange, each_of, exchanges_with, nodes_of, outcome_of, position_exchanges, reply_in, reply_outcome, without_first_with}
+use Rattle.cluster_calls.specs.Calls.EachInParts.{AreOutcomesOf, if_several, IsMadeOf, each_plan, entries_by, first_unplaced, goes_to_slots, in_parts, part_entry, refusal_of_parts, reply_in_parts, split_at, splits_in}
+use Rattle.cluster_calls.specs.Calls.Parts.{Part, is_gap, only_part, parts_of, pipeline_parts, result_then, role_by, split_parts, with_whole}
+use Rattle.cluster_calls.specs.Calls.Plan.{Client, Dispatch, dispatches, plan, unless}
+use Rattle.cluster_calls.specs.Calls.Replies.{reply_or_nil}
+use Rattle.cluster_calls.specs.Links.EachMade.{EachMade, refusal_by, refusals_of, told_of}
+use Rattle.cluster_calls.specs.Links.Events.{Event, Ending, answers, fails, lacks_memory}
+use Rattle.cluster_calls.specs.Links.Faults.{LinkFault, io, grammar, refusal_by_fault}
+use Rattle.cluster_calls.specs.Links.Happened.{Happened, client_of}
+use Rattle.cluster_calls.specs.Links.Log.{Exchange, has_lost}
+use Rattle.cluster_calls.specs.Links.Run.{with_log}
+use Rattle.cluster_calls.specs.Links.World.{World}
+use Rattle.cluster_steps.specs.Joins.{AreOutcomesBy, HasRoom, IsJoinedBy, IsTold, width_by, width_of_all}
+use Rattle.cluster_steps.specs.FirstPlaces.{part_of}
+use Rattle.cluster_steps.specs.declared.join.Join.{Join}
+use Rattle.cluster_steps.specs.declared.route.Part.{Part as CodePart}
+use Rattle.cluster_client.specs.InParts.{AreInParts, AreReady, IsAdded, places_of, shown_joins}
+use Rattle.cluster_client.specs.declared.pipeline_in_parts.InParts.{InParts}
+use Rattle.cluster_calls.proofs.LinkLaws.OneCommand.{nothing_happened, relogged_untouched}
+use Rattle.cluster_calls.proofs.LogLaws.EachInParts.{entry_part, split_is, wholes_stay_whole, whole_told_so}
+use Rattle.cluster_calls.proofs.LogLaws.Fates.{pairwise_length, pipe_dispatches}
+use Rattle.cluster_calls.proofs.ServerLaws.Pipes.{IsEntryDispatch}
+use Rattle.cluster_steps.proofs.PartReplies.{cut_so}
+use Rattle.cluster_steps.proofs.SplitCommands.{all_of}
+use Rattle.cluster_client.proofs.EachPiping.{WholesTold}
+
+abbrev Outcome : Type 0
+Outcome = Result Tree Refusal
+
+-- ---- outcomes by places are those of the commands
+
+taken_length : {A : Type 0} (n m : ℕ) (xs : List A) → n + m ≡ length xs → (length (take n xs) ≡ n) × (m ≡ length (drop n xs))
+taken_length zero m xs e = (refl, let k : m ≡ length xs = omega (arith, e) in k)
+taken_length (suc n) m [] e = absurd (let f : ⊥ = omega (arith, e) in f)
+taken_length (suc n) m (x ∷ xs) e =
+    let r = taken_length n m xs (let k : n + m ≡ length xs = omega (arith, e) in k) in (ap suc r.0, r.1)
+
+joined_so : (e : Entry) (s : Split) → split_at e ≡ Some s → (os : List Outcome) (outcome : Outcome) → length os ≡ length (part_slots s.tuples) → IsJoinedBy (split_by_place [] s) os outcome → IsMadeOf s os outcome
+joined_so e s is os outcome len joined = by (refusal_of_parts os) joined
+  where
+    by : (o : Option Refusal)
+        → MatchOption o ((args : List (List ℕ)) (t : Split) → split_of args ≡ Some t → split_by_place [] s ≡ split_by_place [] t → length os ≡ length (part_slots t.tuples) → outcome ≢ Err (by_cause Memory) → outcome ≡ reply_in_parts t (map reply_in os)) (λ refusal. outcome ≡ Err refusal)
+        → MatchOption o (outcome ≢ Err (by_cause Memory) → outcome ≡ reply_in_parts s (map reply_in os)) (λ refusal. outcome ≡ Err refusal)
+    by None j = λ m. j (sent e.command) s (split_is (parts_of [] e.command 0) (split_of (sent e.command)) s is) refl len m
+    by (Some refusal) j = j
+
+pub outcomes_by_places : (entries : List Entry) (told outcomes : List Outcome) → width_of_all (map places_of (splits_in entries)) ≡ length told → AreOutcomesBy (map places_of (splits_in entries)) told outcomes → AreOutcomesOf (splits_in entries) told outcomes
+outcomes_by_places [] told [] w h = h
+outcomes_by_places [] told (o ∷ os) w h = absurd h
+outcomes_by_places (e ∷ es) told [] w h = absurd h
+outcomes_by_places (e ∷ es) told (o ∷ os) w h = by (split_at e) refl w h (λ k i. outcomes_by_places es k os i)
+  where
+    rest : ℕ
+    rest = width_of_all (map places_of (splits_in es))
+
+    by : (s : Option Split) → split_at e ≡ s → width_by (places_of s) + rest ≡ length told → AreOutcomesBy (places_of s ∷ map places_of (splits_in es)) told (o ∷ os)
+        → ((k : List Outcome) → rest ≡ length k → AreOutcomesBy (map places_of (splits_in es)) k os → AreOutcomesOf (splits_in es) k os) → AreOutcomesOf (s ∷ splits_in es) told (o ∷ os)
+    by None is v k ih = (k.0, ih (drop 1 told) (taken_length 1 rest told v).1 k.1)
+    by (Some s) is v k ih =
+        let n : width_by (places_of (Some s)) ≡ length (part_slots s.tuples) = length-map (part_slots s.tuples) _ in
+        let t = taken_length (length (part_slots s.tuples)) rest told (subst (λ m. m + rest ≡ length told) n v) in
+        let both = subst (λ m. IsJoinedBy (split_by_place [] s) (take m told) o × AreOutcomesBy (map places_of (splits_in es)) (drop m told) os) n k in
+        (joined_so e s is (take (length (part_slots s.tuples)) told) o t.0 both.0, ih (drop (length (part_slots s.tuples)) told) t.1 both.1)
+
+-- ---- as many outcomes as commands that go out
+
+pub widths : (entries : List Entry) → width_of_all (map places_of (splits_in entries)) ≡ length (in_parts entries)
+widths [] = refl
+widths (e ∷ es) = by (split_at e) (widths es)
+  where
+    by : (s : Option Split) → width_of_all (map places_of (splits_in es)) ≡ length (in_parts es) → width_by (places_of s) + width_of_all (map places_of (splits_in es)) ≡ length (entries_by e s ++ in_parts es)
+    by None ih = let k : 1 + width_of_all (map places_of (splits_in es)) ≡ suc (length (in_parts es)) = omega (arith, ih) in k
+    by (Some s) ih =
+        ap (λ n. n + width_of_all (map places_of (splits_in es))) (length-map (part_slots s.tuples) _ ∙ sym (length-map (part_slots s.tuples) (part_entry s)))
+        ∙ ap (λ n. length (map (part_entry s) (part_slots s.tuples)) + n) ih ∙ sym (length-append (map (part_entry s) (part_slots s.tuples)) (in_parts es))
+
+each_length : (nodes : List Address) (queues : Address → List Exchange) → length (each_exchange nodes queues) ≡ length nodes
+each_length [] queues = refl
+each_length (node ∷ nodes) queues = ap suc (each_length nodes (without_first_with node queues))
+
+pub told_length : (client : Client) (picks : List Address) (entries : List Entry) (ds : List Dispatch) (refusals : Address → Refusal) (xs : List Exchange) → plan client picks (Pipeline entries) ≡ Ok ds → length (each_of refusals ds xs) ≡ length entries
+told_length client picks entries ds refusals xs planned =
+    length-map (position_exchanges ds xs) (outcome_of refusals xs) ∙ each_length (nodes_of ds) (exchanges_with xs) ∙ length-map ds (λ (d : Dispatch). d.node)
+    ∙ pairwise_length IsEntryDispatch entries ds (pipe_dispatches client picks entries ds planned).1
+
+-- ---- what is told of each
+
+reply_told : (tree : Tree) → IsTold (reply_outcome tree)
+reply_told (trees.server_error e) = tt
+reply_told nil = tt
+reply_told (trees.int n) = tt
+reply_told (trees.bulk v) = tt
+reply_told (trees.array ts) = tt
+reply_told (trees.simple s) = tt
+reply_told trees.okay = tt
+reply_told (trees.map ps) = tt
+reply_told (trees.attribute t ps) = tt
+reply_told (trees.set ts) = tt
+reply_told (trees.double s) = tt
+reply_told (trees.boolean b) = tt
+reply_told (trees.verbatim f s) = tt
+reply_told (trees.big_number s) = tt
+reply_told (trees.push k ts) = tt
+
+fault_told : (fault : LinkFault) → IsTold (Err (refusal_by_fault fault))
+fault_told io = tt
+fault_told grammar = tt
+
+refusals_told : (events : List Event) (a : Address) → IsTold (Err (refusals_of events a))
+refusals_told [] a = tt
+refusals_told (x ∷ xs) a = by (same_address x.node a) x.ending (refusals_told xs a)
+  where
+    by : (b : Bool) (e : Ending) → IsTold (Err (refusals_of xs a)) → IsTold (Err (cond b (refusal_by e (refusals_of xs a)) (refusals_of xs a)))
+    by false e later = later
+    by true (answers replies) later = later
+    by true (fails fault) later = fault_told fault
+    by true lacks_memory later = tt
+
+each_told : (refusals : Address → Refusal) → ((a : Address) → IsTold (Err (refusals a))) → (xs : List Exchange) (its : List (Option Exchange)) → AllByRecursion IsTold (map (outcome_of refusals xs) its)
+each_told refusals told xs [] = tt
+each_told refusals told xs (None ∷ its) = (tt, each_told refusals told xs its)
+each_told refusals told xs (Some x ∷ its) = (by (has_lost x.request.node xs), each_told refusals told xs its)
+  where
+    by : (b : Bool) → IsTold (cond b (Err (refusals x.request.node)) (reply_outcome (reply_or_nil x)))
+    by true = told x.request.node
+    by false = reply_told (reply_or_nil x)
+
+-- what stands behind commands that went whole
+pub record Told (entries : List Entry) (told : List Outcome) : Type 0 where
+  pub each : AllByRecursion IsTold told
+  pub count : length told ≡ length entries
+
+pub wholes_are_told : (strategy : Option Strategy) (old new : World) (entries : List Entry) (told : List Outcome) → WholesTold strategy old new entries (Ok told) → Told entries told
+wholes_are_told strategy old new entries told w =
+    let events = w.happened.events in
+    let xs = told_of 0 events in
+    let is = w.told.each 0 in
+    record {
+      each = subst (AllByRecursion IsTold) (sym is) (each_told (refusals_of events) (refusals_told events) xs (position_exchanges w.told.dispatches xs));
+      count = ap length is ∙ told_length (client_of old) new.picked entries w.told.dispatches (refusals_of events) xs w.told.planned;
+    }
+
+-- ---- behind an emptied log
+
+abbrev happened_before : (strategy : Option Strategy) (old new : World) (entries : List Entry) → Happened strategy (with_log old [] []) new (Pipeline entries) → Happened strategy old new (Pipeline entries)
+happened_before strategy old new entries h = record {
+  events = h.events;
+  runs = h.runs;
+  stops = h.stops;
+  logged = h.logged;
+  calls = h.calls;
+  picks = h.picks;
+  begins = h.begins;
+  settings = h.settings;
+  map_stays = h.map_stays;
+  flag = h.flag;
+}
+
+pub each_before : (strategy : Option Strategy) (old mid new : World) (entries : List Entry) (result : Result (List Outcome) Refusal) → mid ≡ with_log old [] [] → EachMade strategy mid new entries result → EachMade strategy old new entries result
+each_before strategy old mid new entries result stays made = by result (subst (λ (w : World). EachMade strategy w new entries result) stays made)
+  where
+    by : (r : Result (List Outcome) Refusal) → EachMade strategy (with_log old [] []) new entries r → EachMade strategy old new entries r
+    by (Ok outcomes) m = record {
+      happened = happened_before strategy old new (in_parts entries) m.happened;
+      told = record { dispatches = m.told.dispatches; planned = m.told.planned; picks = m.told.picks; unpicked = m.told.unpicked; legal = m.told.legal; each = m.told.each };
+    }
+    by (Err refusal) m = record {
+      happened = happened_before strategy old new (in_parts entries) m.happened;
+      told = record { stays = m.told.stays; refused = m.told.refused };
+    }
+
+-- ---- the call
+
+pub unsent : (strategy : Option Strategy) (old new : World) (entries : List Entry) (refusal : Refusal) → new ≡ with_log old [] [] → (refusal ≢ by_cause Memory → each_plan (client_of old) [] entries ≡ Err refusal) → EachMade strategy old new entries (Err refusal)
+unsent strategy old new entries refusal stays why = record {
+  happened = nothing_happened strategy old new (Pipeline (in_parts entries)) (relogged_untouched old new [] stays);
+  told = record { stays = stays; refused = why };
+}
+
+-- a command is at no slot
+pub unplaced : (strategy : Option Strategy) (old new : World) (entries : List Entry) (refusal : Refusal) → new ≡ with_log old [] [] → (refusal ≢ by_cause Memory → first_unplaced 0 entries ≡ Some refusal) → EachMade strategy old new entries (Err refusal)
+unplaced strategy old new entries refusal stays why =
+    unsent strategy old new entries refusal stays (λ m. ap (λ o. unless o (plan (client_of old) [] (Pipeline (in_parts entries)))) (why m))
+
+-- all commands go out whole or in parts
+module _ (strategy : Option Strategy) (old new : World) (entries : List Entry) (placed : first_unplaced 0 entries ≡ None) where
+  pub told_in_parts : (told outcomes : List Outcome) → WholesTold strategy old new (in_parts entries) (Ok told) → AreOutcomesOf (splits_in entries) told outcomes → EachMade strategy old new entries (Ok outcomes)
+  told_in_parts told outcomes w are = record {
+    happened = w.happened;
+    told = record {
+      dispatches = w.told.dispatches;
+      planned = w.told.planned;
+      picks = w.told.picks;
+      unpicked = w.told.unpicked;
+      legal = w.told.legal;
+      each = λ place. subst (λ os. AreOutcomesOf (splits_in entries) os outcomes) (w.told.each place) are;
+    };
+  }
+
+  pub refused_in_parts : (refusal : Refusal) → WholesTold strategy old new (in_parts entries) (Err refusal) → EachMade strategy old new entries (Err refusal)
+  refused_in_parts refusal w = unsent strategy old new entries refusal w.told.stays
+      (λ m. ap (λ o. unless o (plan (client_of old) [] (Pipeline (in_parts entries)))) placed ∙ w.told.refused m)
+
+-- ---- all commands go whole
+
+parts_there : (client : Client) (picks : List Address) (r : Result (List Part) Refusal) (ds : List Dispatch) → result_then r (λ parts. result_then (dispatches client picks parts) (λ ds. Ok ds)) ≡ Ok ds → (parts : List Part) × (r ≡ Ok parts)
+parts_there client picks (Ok parts) ds e = (parts, refl)
+parts_there client picks (Err refusal) ds e = cc
+
+pub told_whole : (strategy : Option Strategy) (old new : World) (entries : List Entry) (told : List Outcome) → WholesTold strategy old new entries (Ok told) → EachMade strategy old new entries (Ok told)
+told_whole strategy old new entries told w =
+    let found = parts_there (client_of old) new.picked (pipeline_parts 0 entries) w.told.dispatches w.told.planned in
+    let whole = wholes_stay_whole entries found.0 found.1 in
+    let count = (wholes_are_told strategy old new entries told w).count in
+    told_in_parts strategy old new entries whole.1 told told (subst (λ es. WholesTold strategy old new es (Ok told)) (sym whole.0) w) (whole_told_so entries found.0 found.1 told count)
+
+-- a pipeline without parts tells a position
+refused_at : (entries : List Entry) (position : ℕ) (refusal : Refusal) → pipeline_parts position entries ≡ Err refusal → (n : ℕ) × (refusal ≡ at_position n)
+refused_at [] position refusal e = cc
+refused_at (e ∷ es) position refusal k = by (entry_part e) (pipeline_parts (suc position) es) refl k (λ f. refused_at es (suc position) refusal f)
+  where
+    by : (o : Option Part) (r : Result (List Part) Refusal) → pipeline_parts (suc position) es ≡ r → with_whole position o r ≡ Err refusal → (pipeline_parts (suc position) es ≡ Err refusal → (n : ℕ) × (refusal ≡ at_position n)) → (n : ℕ) × (refusal ≡ at_position n)
+    by None r f k ih = (position, cc)
+    by (Some part) (Ok parts) f k ih = cc
+    by (Some part) (Err other) f k ih = let same : other ≡ refusal = cc in ih (f ∙ ap (λ q. Err q) same)
+
+pub refused_whole : (strategy : Option Strategy) (old new : World) (entries : List Entry) (refusal : Refusal) → ((n : ℕ) → refusal ≢ at_position n) → WholesTold strategy old new entries (Err refusal) → EachMade strategy old new entries (Err refusal)
+refused_whole strategy old new entries refusal other w = by (pipeline_parts 0 entries) refl
+  where
+    by : (r : Result (List Part) Refusal) → pipeline_parts 0 entries ≡ r → EachMade strategy old new entries (Err refusal)
+    by (Ok parts) p =
+        let whole = wholes_stay_whole entries parts p in
+        refused_in_parts strategy old new entries whole.1 refusal (subst (λ es. WholesTold strategy old new es (Err refusal)) (sym whole.0) w)
+    by (Err found) p = unsent strategy old new entries refusal w.told.stays
+        (λ m.
+        let at = refused_at entries 0 found p in
+        let is : Err found ≡ Err refusal = sym (ap (λ r. result_then r (λ parts. result_then (dispatches (client_of old) [] parts) (λ ds. Ok ds))) p) ∙ w.told.refused m in
+        let same : found ≡ refusal = cc in
+        absurd (other at.0 (sym same ∙ at.1)))
+
+-- ---- what goes out, command by command
+
+-- a command with several parts is split as its parts are
+pub several_split : (e : Entry) (list : List Part) → parts_of [] e.command 0 ≡ Ok list → 2 ≤ length list → parts_by_place e.command.args [] ≡ places_of (split_at e)
+several_split e [] p w = absurd (let f : ⊥ = omega (arith, w) in f)
+several_split e (a ∷ []) p w = absurd (let f : ⊥ = omega (arith, w) in f)
+several_split e (a ∷ b ∷ more) p w = cut_so [] e.command 0 (a ∷ b ∷ more) p ∙ ap (λ r. places_of (if_several r (split_of (sent e.command)))) (sym p)
+
+pub none_split : (e : Entry) (refusal : Refusal) → Err refusal ≡ parts_of [] e.command 0 → None ≡ places_of (split_at e)
+none_split e refusal p = ap (λ r. places_of (if_several r (split_of (sent e.command)))) p
+
+pub no_split : (o : Option Split) → None ≡ places_of o → o ≡ None
+no_split None h = refl
+no_split (Some s) h = cc
+
+pub ready_more : (joins : List (Option Join)) (join : Option Join) → AreReady joins → IfSome join HasRoom → AreReady (joins ++ join ∷ [])
+ready_more [] join r h = (h, tt)
+ready_more (j ∷ joins) join r h = (r.0, ready_more joins join r.1 h)
+
+pub goes_as : (e : Entry) (o : Option CodePart) (b : Bool) → None ≡ places_of (split_at e) → option_map part_of o ≡ entry_part e → is_some o ≡ b → goes_to_slots e ≡ b
+goes_as e o b split part is = ap (λ q. is_some q || is_some (entry_part e)) (no_split (split_at e) split) ∙ ap is_some (sym part) ∙ same o ∙ is
+  where
+    same : (o : Option CodePart) → is_some (option_map part_of o) ≡ is_some o
+    same None = refl
+    same (Some part) = refl
+
+-- the commands of a split command's parts
+
+gap_free : (command : Command) (s : Split) → if_several (parts_of [] command 0) (split_of (sent command)) ≡ Some s → all_bytes command.args ≡ Some (sent command)
+gap_free command s is = by command.no_response (has_split_word command.args) (list_any is_gap command.args) refl is
+  where
+    split : Option Split
+    split = split_of (sent command)
+
+    routed : (o : Option Destination) → if_several (only_part (sent command) 0 o) split ≡ Some s → all_bytes command.args ≡ Some (sent command)
+    routed None e = cc
+    routed (Some (to_route route)) e = cc
+    routed (Some to_any_node) e = cc
+    routed (Some to_any_primary) e = cc
+    routed (Some (to_address a)) e = cc
+    routed (Some (to_all_nodes q)) e = cc
+    routed (Some (to_all_primaries q)) e = cc
+    routed (Some (to_parts ps pattern q)) e = cc
+
+    by : (a b c : Bool) → list_any is_gap command.args ≡ c
+        → if_several (cond a (Err (by_cause NoResponse)) (cond b (cond c (Err (by_cause CursorInSplit)) (split_parts (role_by (name_of command.args) []) split)) (only_part (sent command) 0 (destination command.args [])))) split ≡ Some s
+        → all_bytes command.args ≡ Some (sent command)
+    by true b c g e = cc
+    by false true true g e = cc
+    by false true false g e = all_of _ command.args g
+    by false false c g e = routed (destination command.args []) e
+
+abbrev unignored : Command → Entry
+unignored command = record { command = command; ignored = false }
+
+pub parts_stand : (e : Entry) (made : PartsByPlace) → Some made ≡ places_of (split_at e)
+    → (goes_to_slots e ≡ true) × (map unignored (map (λ (p : Route × List ℕ). with_texts new_command (sub_at e.command.args p.1)) made.routes) ≡ entries_by e (split_at e))
+parts_stand e made some = by (split_at e) refl some
+  where
+    each : (s : Split) → split_at e ≡ Some s → (role : SlotAddr) (slots : List ℕ)
+        → map unignored (map (λ (p : Route × List ℕ). with_texts new_command (sub_at e.command.args p.1)) (map (λ slot. (route_to role slot, part_places slot s.tuples)) slots)) ≡ map (part_entry s) slots
+    each s is role [] = refl
+    each s is role (slot ∷ slots) =
+        ap (λ texts. unignored (with_texts new_command texts) ∷ map unignored (map (λ (p : Route × List ℕ). with_texts new_command (sub_at e.command.args p.1)) (map (λ slot. (route_to role slot, part_places slot s.tuples)) slots)))
+        (subs_are_at_their_places e.command.args (sent e.command) s slot (gap_free e.command s is) (split_is (parts_of [] e.command 0) (split_of (sent e.command)) s is))
+        ∙ ap (λ es. part_entry s slot ∷ es) (each s is role slots)
+
+    by : (o : Option Split) → split_at e ≡ o → Some made ≡ places_of o
+        → (goes_to_slots e ≡ true) × (map unignored (map (λ (p : Route × List ℕ). with_texts new_command (sub_at e.command.args p.1)) made.routes) ≡ entries_by e o)
+    by None is k = cc
+    by (Some s) is k =
+        let same : made ≡ split_by_place [] s = cc in
+        (ap (λ o. is_some o || is_some (entry_part e)) is, ap (λ (m : PartsByPlace). map unignored (map (λ (p : Route × List ℕ). with_texts new_command (sub_at e.command.args p.1)) m.routes)) same ∙ each s is (role_of s.word []) (part_slots s.tuples))
+
+-- ---- one command after another
+
+-- what is known behind so many commands
+pub record Added (entries : List Entry) (position : ℕ) (rest : List Entry) (p : InParts) : Type 0 where
+  pub placed : first_unplaced position rest ≡ first_unplaced 0 entries
+  pub commands : p.commands.items ++ in_parts rest ≡ in_parts entries
+  pub joins : shown_joins p.joins.items ++ map places_of (splits_in rest) ≡ map places_of (splits_in entries)
+  pub ready : AreReady p.joins.items
+
+pub added_more : (entries : List Entry) (position : ℕ) (e : Entry) (rest : List Entry) (old new : InParts) → Added entries position (e ∷ rest) old → IsAdded e old new → Added entries (suc position) rest new
+added_more entries position e rest old new a more = record {
+  placed = sym (ap (λ b. cond b (first_unplaced (suc position) rest) (Some (at_position position))) more.placed) ∙ a.placed;
+  commands = ap (λ es. es ++ in_parts rest) more.commands ∙ append_assoc old.commands.items (entries_by e (split_at e)) (in_parts rest) ∙ a.commands;
+  joins = ap (λ js. js ++ map places_of (splits_in rest)) more.joins ∙ append_assoc (shown_joins old.joins.items) (places_of (split_at e) ∷ []) (map places_of (splits_in rest)) ∙ a.joins;
+  ready = more.ready a.ready;
+}
+
+pub added_all : (entries : List Entry) (position : ℕ) (p : InParts) → Added entries position [] p → AreInParts entries p
+added_all entries position p a = record {
+  placed = sym a.placed;
+  commands = sym (append-nil p.commands.items) ∙ a.commands;
+  joins = sym (append-nil (shown_joins p.joins.items)) ∙ a.joins;
+  ready = a.ready;
+}
+
+pub added_none : (entries : List Entry) (position : ℕ) (e : Entry) (rest : List Entry) (p : InParts) → Added entries position (e ∷ rest) p → goes_to_slots e ≡ false → first_unplaced 0 entries ≡ Some (at_position position)
+added_none entries position e rest p a none = sym a.placed ∙ ap (λ b. cond b (first_unplaced (suc position) rest) (Some (at_position position))) none
