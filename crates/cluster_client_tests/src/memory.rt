@@ -357,33 +357,64 @@ const EACH: [(&str, &str); 9] = [
     ),
 ];
 
-/// `GET b`, `GET a`.
-fn two_reads(alloc: Global) -> Result<ClusterPipeline, AllocError> {
+/// The same of one command with a part at each node, whose one outcome is that of the link that was refused.
+const IN_PARTS: [(&str, &str); 9] = [
+    ("-17, -7, false 0 0 0 0 0", "-7, -7, 0, 0"),
+    ("-17, -7, false 0 0 0 28! 0", "-7, -7, 8, 0"),
+    ("-17, -7, false 0 0 0 28 0", "-7, -7, 0, 0"),
+    ("-14, -7, false 0 0 0 0! 0", "-7, -7, 8, 0"),
+    ("0, -17, false 0 0 0 28 0", "4, 3, 0, 0"),
+    ("0, -114, false 0 0 0 28! 0, n1 DEL b", "4, -8, 8, 0"),
+    ("0, -117, false 0 0 0 48! 0, n1 DEL b", "4, -8, 8, 0"),
+    (
+        "0, -114, false 0 0 0 48 0!, n1 DEL b, n2 DEL a",
+        "-8, 6, 0, 8",
+    ),
+    (
+        "0, -117, false 0 0 0 48 20!, n1 DEL b, n2 DEL a",
+        "-8, 6, 0, 8",
+    ),
+];
+
+/// `GET b`, `GET a`; or `DEL b a`.
+fn pipeline_of(alloc: Global, is_in_parts: bool) -> Result<ClusterPipeline, AllocError> {
     let mut pipeline = cluster_pipe(alloc);
-    pipeline.cmd(alloc, "GET")?;
-    pipeline.arg("b")?;
-    pipeline.add_command(get_a(alloc)?)?;
+    if is_in_parts {
+        pipeline.cmd(alloc, "DEL")?;
+        pipeline.arg("b")?;
+        pipeline.arg("a")?;
+    } else {
+        pipeline.cmd(alloc, "GET")?;
+        pipeline.arg("b")?;
+        pipeline.add_command(get_a(alloc)?)?;
+    }
     Ok(pipeline)
 }
 
-fn two_reads_again<R: Print>(rt: &R, alloc: Global) -> Result<ClusterPipeline, Fail> {
-    match two_reads(alloc) {
+fn pipeline_again<R: Print>(
+    rt: &R,
+    alloc: Global,
+    is_in_parts: bool,
+) -> Result<ClusterPipeline, Fail> {
+    match pipeline_of(alloc, is_in_parts) {
         Ok(pipeline) => Ok(pipeline),
         Err(_) => {
             println!(rt; "refused pipeline")?;
-            Ok(two_reads(alloc)?)
+            Ok(pipeline_of(alloc, is_in_parts)?)
         }
     }
 }
 
-/// Of outcomes that are numbers these two digits behind one another, and 1 where they are 3 and 4; else
-/// what is told, below zero.
+/// Of outcomes that are numbers these two digits behind one another, and 1 where they are 3 and 4, or 7
+/// alone; else what is told, below zero.
 fn digits_in(outcomes: &[Result<Value, RedisError>]) -> i64 {
     match outcomes {
         [Ok(Value::Int(3)), Ok(Value::Int(4))] => 1,
+        [Ok(Value::Int(7))] => 1,
         [first, second] => {
             0 - 10000 - i64::from(number_told(first)) * 100 - i64::from(number_told(second))
         }
+        [only] => 0 - 100 - i64::from(number_told(only)),
         _ => 0,
     }
 }
@@ -402,24 +433,32 @@ fn each_told(outcome: Result<Vec<Result<Value, RedisError>>, RedisError>) -> i64
     }
 }
 
-#[test]
-fn each_position(rt: HostRuntime) -> Result<(), Fail> {
-    let alloc = rt.alloc();
-    let mut client = client_again(&rt, alloc, &counted())?;
-    let words = make_words_again(&rt, alloc)?;
-    let pipeline = two_reads_again(&rt, alloc)?;
+fn tells_each<R: Abort + Print>(
+    rt: &R,
+    alloc: Global,
+    is_in_parts: bool,
+    wanted: &str,
+    texts: &[(&str, &str)],
+) -> Result<(), Fail> {
+    let mut client = client_again(rt, alloc, &counted())?;
+    let words = make_words_again(rt, alloc)?;
+    let pipeline = pipeline_again(rt, alloc, is_in_parts)?;
     let first = refresh(alloc, &mut client, &words);
     let second = each_told(pipeline.query_each(alloc, &mut client));
+    let answers = (first, second);
+    sees(rt, alloc, &mut client, "query_each", answers, wanted, texts)
+}
+
+#[test]
+fn each_position(rt: HostRuntime) -> Result<(), Fail> {
     let wanted = "0, 1, false 0 0 0 48 20, n1 GET b, n2 GET a";
-    sees(
-        &rt,
-        alloc,
-        &mut client,
-        "query_each",
-        (first, second),
-        wanted,
-        &EACH,
-    )
+    tells_each(&rt, rt.alloc(), false, wanted, &EACH)
+}
+
+#[test]
+fn a_position_in_parts(rt: HostRuntime) -> Result<(), Fail> {
+    let wanted = "0, 1, false 0 0 0 48 20, n1 DEL b, n2 DEL a";
+    tells_each(&rt, rt.alloc(), true, wanted, &IN_PARTS)
 }
 
 /// A transaction that is moved. Behind the replies of n1:7001 the second attempt is made ready, and memory may
