@@ -35,7 +35,7 @@ use Rattle.cluster_steps.specs.FirstPlaces.{part_of}
 use Rattle.cluster_steps.specs.declared.join.Join.{Join}
 use Rattle.cluster_steps.specs.declared.route.Part.{Part as CodePart}
 use Rattle.cluster_client.specs.InParts.{AreInParts, AreReady, IsAdded, places_of, shown_joins}
-use Rattle.cluster_client.specs.declared.pipeline_in_parts.InParts.{InParts}
+use Rattle.cluster_client.specs.declared.pipeline.in_parts.InParts.{InParts}
 use Rattle.cluster_calls.proofs.LinkLaws.OneCommand.{nothing_happened, relogged_untouched}
 use Rattle.cluster_calls.proofs.LogLaws.EachInParts.{entry_part, split_is, wholes_stay_whole, whole_told_so}
 use Rattle.cluster_calls.proofs.LogLaws.Fates.{pairwise_length, pipe_dispatches}

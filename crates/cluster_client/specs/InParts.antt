@@ -6,7 +6,7 @@ use Rattle.cluster_calls.specs.Calls.Call.{Entry}
 use Rattle.cluster_calls.specs.Calls.EachInParts.{entries_by, first_unplaced, goes_to_slots, in_parts, split_at, splits_in}
 use Rattle.cluster_steps.specs.Joins.{HasRoom, shown_join}
 use Rattle.cluster_steps.specs.declared.join.Join.{Join}
-use Rattle.cluster_client.specs.declared.pipeline_in_parts.InParts.{InParts}
+use Rattle.cluster_client.specs.declared.pipeline.in_parts.InParts.{InParts}
 
 abbrev pub places_of : Option Split → Option PartsByPlace
 places_of s = option_map (split_by_place []) s

@@ -4,15 +4,9 @@
 mod client;
 mod fan_out;
 mod pipeline;
-mod pipeline_each;
-mod pipeline_in_parts;
-mod pipeline_parts;
-mod pipeline_query;
-mod pipeline_reply;
 mod run;
 mod streams;
 mod transaction;
-mod transaction_slot;
 
 pub use client::ClusterClient;
 pub use cluster_routing::AggregateOp;

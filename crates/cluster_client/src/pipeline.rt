@@ -1,4 +1,10 @@
 //! Pipelines: commands that go to their nodes together.
+mod each;
+mod in_parts;
+pub(crate) mod parts;
+mod query;
+pub(crate) mod reply;
+
 ghost use Rattle.std.specs.Prelude.{◌≡◌, ◌≢◌, [], ◌∷◌, ◌++◌, false, is_ok, map, IfOk, if◌then◌else◌};
 ghost use Rattle.resp_args.specs.Command.{new_command};
 ghost use Rattle.resp_args.specs.declared.cmd.Arg.TheVariants.{Simple};

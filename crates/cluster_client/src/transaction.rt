@@ -1,4 +1,6 @@
 //! Transactions are sent: MULTI, the commands and EXEC in one write, and all of it again behind a redirect.
+mod slot;
+
 ghost use Rattle.std.specs.Prelude.{◌≡◌, ◌≢◌, ◌<◌, ◌≤◌, ◌+◌, [], Err, None, vec_capacity, vec_len, IfOk, IfSome};
 ghost use Rattle.resp_core.specs.Errors.{by_cause};
 ghost use Rattle.resp_core.specs.Trees.{array, no_trees};
@@ -18,8 +20,8 @@ ghost use Rattle.cluster_steps.specs.Turns.{hop_to};
 ghost use Rattle.cluster_client.specs.Whole.{whole};
 
 use crate::client::ClusterClient;
-use crate::pipeline_reply::refresh_needed;
-use crate::transaction_slot::common_slot;
+use crate::pipeline::reply::refresh_needed;
+use crate::transaction::slot::common_slot;
 use cluster_routing::{Route, SlotAddr};
 use cluster_steps::attempt::{Attempt, exchange_attempt, make_attempt_ready};
 use cluster_steps::attempt_turn::attempt_turn;

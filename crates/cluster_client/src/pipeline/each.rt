@@ -1,0 +1,178 @@
+//! A pipeline that tells of each of its positions.
+ghost use Rattle.std.specs.Prelude.{ℕ, ◌≡◌, ◌≤◌, ◌+◌, [], Option, map, nat_eq, vec_capacity, vec_len};
+ghost use Rattle.std.specs.List.{AllByRecursion};
+ghost use Rattle.resp_core.specs.View.{view};
+ghost use Rattle.cluster_routing.specs.Choice.{Strategy};
+ghost use Rattle.cluster_routing.specs.Lists.{IsDistinct};
+ghost use Rattle.cluster_calls.specs.Calls.Call.{Pipeline};
+ghost use Rattle.cluster_calls.specs.Calls.Plan.{plan};
+ghost use Rattle.cluster_calls.specs.Links.EachMade.{EachMade, WholesMade};
+ghost use Rattle.cluster_calls.specs.Links.Happened.{client_of};
+ghost use Rattle.cluster_calls.specs.Links.World.{nodes};
+ghost use Rattle.cluster_steps.specs.GroupRuns.{IsGroupPlaced};
+ghost use Rattle.cluster_steps.specs.Groups.{group_of, request_count};
+ghost use Rattle.cluster_steps.specs.Queues.{queue_in};
+ghost use Rattle.cluster_client.specs.Outcomes.{EachExchanged, outcomes_of};
+ghost use Rattle.cluster_client.specs.Whole.{whole};
+
+use crate::client::ClusterClient;
+use crate::pipeline::in_parts::{InParts, commands_in_parts};
+use crate::pipeline::{ClusterPipeline, PipelineCommand};
+use cluster_steps::drawn::{empty_queues, put};
+use cluster_steps::each::{Lost, link_cause, tell_each};
+use cluster_steps::grouped::{grouped, places_of};
+use cluster_steps::join::join_each;
+use cluster_steps::ready::Group;
+use resp_core::{RedisError, Value};
+use resp_link::ConnectionLike;
+use std::alloc::Global;
+use std::collections::VecDeque;
+
+impl<L: ConnectionLike + Drop> ClusterClient<L> {
+    /// Puts the replies of one node after another into the queue of its place, up to the first whose link
+    /// call is refused, of which it tells. Only a link call takes memory.
+    fn exchange_each(
+        &mut self,
+        alloc: Global,
+        groups: Vec<Group>,
+        queues: &mut Vec<VecDeque<Value>>,
+    ) -> Option<Lost>
+        requires placed { AllByRecursion
+            (λ g. IsGroupPlaced (nodes L.seen self.old.links.nodes.items) (group_of g)) groups.items }
+        requires room { vec_len self.old.asked
+            + request_count (map group_of groups.items) ≤ vec_capacity self.old.asked }
+        requires places { vec_len queues.old ≡ vec_len self.old.links.nodes }
+        requires apart { IsDistinct nat_eq (map (λ g. g.which) (map group_of groups.items)) }
+        requires empty { (k : ℕ) → queue_in (map (λ q. q.items) queues.old.items) k ≡ [] }
+        ensures len { vec_len queues.new ≡ vec_len queues.old }
+        ensures exchanged { EachExchanged (whole L.seen self.old) (whole L.seen self.new)
+            (map group_of groups.items)
+            (λ k. map view (queue_in (map (λ q. q.items) queues.new.items) k)) result }
+    {
+        'groups: for group in groups {
+            let which = group.which;
+            match self.exchange_group(alloc, group) {
+                Ok(replies) => put(queues, which, replies),
+                Err(error) => return Some(Lost {
+                    which,
+                    cause: link_cause(&error),
+                }),
+            }
+        }
+        None
+    }
+
+    /// The outcome of each of a pipeline's commands, which all go whole.
+    fn outcomes_of_wholes(
+        &mut self,
+        alloc: Global,
+        commands: &[PipelineCommand],
+    ) -> Result<Vec<Result<Value, RedisError>>, RedisError>
+        ensures { (strategy : Option Strategy)
+            → WholesMade strategy (whole L.seen self.old) (whole L.seen self.new) commands.now
+            (plan (client_of (whole L.seen self.old)) [] (Pipeline commands.now))
+            (λ each outcomes. outcomes ≡ each) (outcomes_of result) }
+    {
+        let dispatches = self.pipeline_dispatches(alloc, commands)?;
+        let count = self.links.nodes.len();
+        let places = places_of(alloc, &dispatches)?;
+        let groups = grouped(alloc, count, dispatches)?;
+        let mut queues = empty_queues(alloc, count)?;
+        let mut outcomes = Vec::with_capacity(alloc, places.len())?;
+        let lost = self.exchange_each(alloc, groups, &mut queues);
+        tell_each(queues, &places, lost, &mut outcomes);
+        Ok(outcomes)
+    }
+
+    /// The outcome of each of a pipeline's positions, of which some are split commands of several slots.
+    fn outcomes_in_parts(
+        &mut self,
+        alloc: Global,
+        commands: &[PipelineCommand],
+    ) -> Result<Vec<Result<Value, RedisError>>, RedisError>
+        ensures { (strategy : Option Strategy)
+            → EachMade strategy (whole L.seen self.old) (whole L.seen self.new) commands.now
+            (outcomes_of result) }
+    {
+        self.asked = Vec::new(alloc);
+        self.picked = Vec::new(alloc);
+        let InParts {
+            commands: parts,
+            joins,
+        } = commands_in_parts(alloc, commands)?;
+        let mut outcomes = Vec::with_capacity(alloc, joins.len())?;
+        let told = self.outcomes_of_wholes(alloc, &parts)?;
+        join_each(alloc, joins, told, &mut outcomes);
+        Ok(outcomes)
+    }
+
+    /// The outcome of each of a pipeline's positions.
+    fn outcomes_of_pipeline(
+        &mut self,
+        alloc: Global,
+        commands: &[PipelineCommand],
+    ) -> Result<Vec<Result<Value, RedisError>>, RedisError>
+        ensures { (strategy : Option Strategy)
+            → EachMade strategy (whole L.seen self.old) (whole L.seen self.new) commands.now
+            (outcomes_of result) }
+    {
+        match self.outcomes_of_wholes(alloc, commands) {
+            Ok(outcomes) => Ok(outcomes),
+            Err(e) => match e.position() {
+                // (a command that does not go whole may go in parts)
+                Some(_) => self.outcomes_in_parts(alloc, commands),
+                None => Err(e),
+            },
+        }
+    }
+}
+
+impl ClusterPipeline {
+    /// Sends the commands as `query` does, and tells of each of them by itself: its value, or why there is
+    /// none. The outcomes stand in the order of the commands, one for each, ignored or not.
+    ///
+    /// A split command (MGET, MSET, DEL and their like) may have keys of several slots here: it goes out as
+    /// its parts, each to the primary of its slot, in the writes of the others, and its value is made of
+    /// theirs.
+    ///
+    /// A value may hold an error deeper inside (`Value::first_error`), and is handed out whole. What is
+    /// known of a command without a value stands in its `RedisError`:
+    ///
+    /// - a server's error (number 13, `code`): its node answered it. By MOVED or ASK the node sent it on,
+    ///   and it was not done: no redirect is followed, and `needs_refresh` tells of a MOVED;
+    /// - `Io`, `Parse` or `Memory` (14, 15, 17): the link call of its node was refused, and the link is
+    ///   closed. The command stands in the log, and may have been done or not. It is so of all commands to
+    ///   that node, also of those whose replies had come;
+    /// - `NotAsked` (20): the link of a node before its own failed, and nothing went out for it.
+    ///
+    /// Of a split command of several slots this holds of all of its parts: it is what became of each of them,
+    /// or the first error where all were answered. Where parts came to different ends it may be done in part:
+    /// then its refusal is that of a part's link, or `UnexpectedReturnType` (16) where no link was refused
+    /// that it used, which is also told where its parts' replies make no value. `Memory` may be told of such
+    /// a command also where that value had no room.
+    ///
+    /// What goes out, the log, the slot map, `needs_refresh` and the links are those of `query`, and so is
+    /// what it costs: one round trip for each node that is used, one node after another. All outcomes are
+    /// held until the last; room for them is taken before the first byte, and behind it a link call alone
+    /// takes memory, and the one value of several parts. With a split command of several slots all commands
+    /// are copied once more.
+    ///
+    /// # Errors
+    /// Only where nothing was sent: for the first command that waits for no response, goes neither whole to
+    /// one slot nor in parts to several, or is an `XREAD` whose keys have several slots, its position
+    /// (`RedisError::position`);
+    /// then command by command `NoNode` where no node serves its slot and `NoLink` where no usable link
+    /// leads to the node; `Memory`. The client is as it was then, with an empty log.
+    pub fn query_each<L: ConnectionLike + Drop>(
+        &self,
+        alloc: Global,
+        client: &mut ClusterClient<L>,
+    ) -> Result<Vec<Result<Value, RedisError>>, RedisError>
+        // No strategy is asked: it holds for each.
+        ensures { (strategy : Option Strategy)
+            → EachMade strategy (whole L.seen client.old) (whole L.seen client.new) self.now
+            (outcomes_of result) }
+    {
+        client.outcomes_of_pipeline(alloc, self.commands())
+    }
+}
