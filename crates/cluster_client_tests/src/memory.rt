@@ -1,5 +1,7 @@
 //! One request for memory is refused, whichever: `tools/refused-tests` plays each test once for each.
 //!
+//! A client that is made puts its addresses into a set, and does without where that lacks memory.
+//!
 //! A test prints a line `refused CALL` where a call is refused, sees what the client then tells of itself
 //! and what later calls answer, and ends; no further call may be refused.
 use crate::clients::*;
@@ -200,6 +202,7 @@ const ADDITION: [(&str, &str); 9] = [
     ),
 ];
 
+// Does without 4 of its requests: a new client's set of addresses.
 #[test]
 fn addition(rt: HostRuntime) -> Result<(), Fail> {
     let alloc = rt.alloc();
@@ -264,11 +267,13 @@ fn reads<R: Abort + Print>(rt: &R, alloc: Global, row: &Row, text: &str) -> Resu
     )
 }
 
+// Does without 4 of its requests: a new client's set of addresses.
 #[test]
 fn read_of_one_entry(rt: HostRuntime) -> Result<(), Fail> {
     reads(&rt, rt.alloc(), &row_at(1), ONE_ENTRY)
 }
 
+// Does without 4 of its requests: a new client's set of addresses.
 #[test]
 fn read_of_two_entries(rt: HostRuntime) -> Result<(), Fail> {
     reads(&rt, rt.alloc(), &row_at(2), TWO_ENTRIES)
@@ -316,7 +321,7 @@ fn number_of(outcome: Result<Value, RedisError>) -> i64 {
     }
 }
 
-// Does without 1 of its requests: a list of nodes grows where room for all at once is refused.
+// Does without 5 of its requests: a new client's set of addresses, and room for all nodes at once.
 #[test]
 fn fan_out(rt: HostRuntime) -> Result<(), Fail> {
     let alloc = rt.alloc();
@@ -449,12 +454,14 @@ fn tells_each<R: Abort + Print>(
     sees(rt, alloc, &mut client, "query_each", answers, wanted, texts)
 }
 
+// Does without 4 of its requests: a new client's set of addresses.
 #[test]
 fn each_position(rt: HostRuntime) -> Result<(), Fail> {
     let wanted = "0, 1, false 0 0 0 48 20, n1 GET b, n2 GET a";
     tells_each(&rt, rt.alloc(), false, wanted, &EACH)
 }
 
+// Does without 4 of its requests: a new client's set of addresses.
 #[test]
 fn a_position_in_parts(rt: HostRuntime) -> Result<(), Fail> {
     let wanted = "0, 1, false 0 0 0 48 20, n1 DEL b, n2 DEL a";
@@ -525,6 +532,7 @@ fn is_four(outcome: Result<Vec<i64>, RedisError>) -> i64 {
     }
 }
 
+// Does without 4 of its requests: a new client's set of addresses.
 #[test]
 fn transaction(rt: HostRuntime) -> Result<(), Fail> {
     let alloc = rt.alloc();
@@ -577,6 +585,7 @@ fn later_reads(alloc: Global, client: &mut Client) -> Result<String, RedisError>
     Ok(format!(in alloc; "{primary}, {replica}, {n1}")?)
 }
 
+// Does without 4 of its requests: a new client's set of addresses.
 #[test]
 fn picked_read(rt: HostRuntime) -> Result<(), Fail> {
     let alloc = rt.alloc();
@@ -647,7 +656,7 @@ fn links_once<R: Abort + Print>(rt: &R, alloc: Global, client: &mut Client) -> R
     Ok(())
 }
 
-// Does without 1 of its requests: a list of nodes grows where room for all at once is refused.
+// Does without 5 of its requests: a new client's set of addresses, and room for all nodes at once.
 #[test]
 fn new_link(rt: HostRuntime) -> Result<(), Fail> {
     let alloc = rt.alloc();
