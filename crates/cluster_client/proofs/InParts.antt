@@ -37,7 +37,7 @@ use Rattle.cluster_steps.specs.declared.route.Part.{Part as CodePart}
 use Rattle.cluster_client.specs.InParts.{AreInParts, AreReady, IsAdded, places_of, shown_joins}
 use Rattle.cluster_client.specs.declared.pipeline.in_parts.InParts.{InParts}
 use Rattle.cluster_calls.proofs.LinkLaws.OneCommand.{nothing_happened, relogged_untouched}
-use Rattle.cluster_calls.proofs.LogLaws.EachInParts.{entry_part, split_is, wholes_stay_whole, whole_told_so}
+use Rattle.cluster_calls.proofs.LogLaws.EachInParts.{entry_part, is_whole, split_is, wholes_stay_whole, whole_told_so}
 use Rattle.cluster_calls.proofs.LogLaws.Fates.{pairwise_length, pipe_dispatches}
 use Rattle.cluster_calls.proofs.ServerLaws.Pipes.{IsEntryDispatch}
 use Rattle.cluster_steps.proofs.PartReplies.{cut_so}
@@ -283,6 +283,11 @@ goes_as e o b split part is = ap (λ q. is_some q || is_some (entry_part e)) (no
     same : (o : Option CodePart) → is_some (option_map part_of o) ≡ is_some o
     same None = refl
     same (Some part) = refl
+
+-- a command that goes whole is not split
+pub whole_unsplit : (e : Entry) (o : Option CodePart) → option_map part_of o ≡ entry_part e → is_some o ≡ true → None ≡ places_of (split_at e)
+whole_unsplit e None part is = cc
+whole_unsplit e (Some own) part is = ap places_of (sym (is_whole e (part_of own) (sym part)))
 
 -- the commands of a split command's parts
 

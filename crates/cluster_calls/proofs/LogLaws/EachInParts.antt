@@ -157,7 +157,7 @@ parts_go_whole entries h = parts_found (in_parts entries) 0 (all_placed entries 
 -- ---- where no command is split
 
 -- a command that has a part goes whole
-is_whole : (e : Entry) (part : Part) → entry_part e ≡ Some part → split_at e ≡ None
+pub is_whole : (e : Entry) (part : Part) → entry_part e ≡ Some part → split_at e ≡ None
 is_whole e part h = by (reads_several_slots e.command.args) (parts_of [] e.command 0) h
   where
     by : (b : Bool) (r : Result (List Part) Refusal) → if_one_slot b (whole_part (sent e.command) r) ≡ Some part → if_several r (split_of (sent e.command)) ≡ None

@@ -101,15 +101,14 @@ impl InParts {
         ensures refused { IfErr result (λ e. e ≢ by_cause Memory
             → (goes_to_slots command.now ≡ false) × (e ≡ at_position position)) }
     {
-        match split_at(alloc, command)? {
-            Some(split) => self.add_parts(alloc, command, split)?,
-            None => {
-                if whole_part(alloc, &command.command)?.is_none() {
-                    return Err(RedisError::at_position(position));
-                }
-                self.add_whole(command)?;
-            }
+        if whole_part(alloc, &command.command)?.is_some() {
+            self.add_whole(command)?;
+            return Ok(());
         }
+        let Some(split) = split_at(alloc, command)? else {
+            return Err(RedisError::at_position(position));
+        };
+        self.add_parts(alloc, command, split)?;
         Ok(())
     }
 }
