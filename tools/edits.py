@@ -3,7 +3,8 @@
 `rt must-fail CRATE` tries the edits in crates/CRATE/must-fail in turn, and tells of them when the
 last has ended. It proves the crate once, below the first of them, and needs the libraries below it.
 So the edits of a crate are tried some at a time, and a run of them is begun only where its end is
-reckoned to come in time: by the proof of the crate and its dearest edit, as seen so far.
+reckoned to come in time: by the proof of the crate, where it was not proved yet, and its dearest
+edit as seen so far. The few that take much longer than their crate's others have a cost each.
 """
 import re
 import subprocess
@@ -76,18 +77,18 @@ def ring_from(commit, edits):
 def in_order(edits, changed, commit, costs):
     """The edits as they are to be tried: those of changed crates, cheapest first, then the others."""
     first = [edit for edit in edits if edit.crate in changed]
-    first.sort(key=lambda edit: (costs.dearest(edit.crate), edit))
+    first.sort(key=lambda edit: (costs.edit(edit), edit))
     return first + ring_from(commit, [edit for edit in edits if edit.crate not in changed])
 
 
 class Costs:
-    """Seconds that a crate's proof and its dearest edit take, by one job."""
+    """Seconds that a crate's proof and its edits take, by one job."""
 
     # For a crate that no table names.
     UNKNOWN = (300.0, 60.0, 120.0)
 
     def __init__(self, file):
-        self.crates, self.steps = {}, {}
+        self.crates, self.steps, self.dear = {}, {}, {}
         self.check, self.slowness = ("", 0.0), 1.0
         for line in file.read_text().splitlines():
             words = line.partition("#")[0].split()
@@ -95,6 +96,8 @@ class Costs:
                 continue
             if words[0] == "crate":
                 self.crates[words[1]] = tuple(map(float, words[2:5]))
+            elif words[0] == "edit":
+                self.dear[Edit(words[1], words[2])] = float(words[3])
             elif words[0] == "step":
                 self.steps[words[1]] = tuple(map(float, words[2:4]))
             elif words[0] == "check":
@@ -109,23 +112,31 @@ class Costs:
     def dearest(self, crate):
         return self.slowness * self.crates.get(crate, self.UNKNOWN)[2]
 
-    def batch(self, crate, count):
-        """What a run of so many edits takes at most: the proof below the first, and one check more."""
-        return self.proof(crate) + (count + 1) * self.dearest(crate)
+    def edit(self, edit):
+        return self.slowness * self.dear[edit] if edit in self.dear else self.dearest(edit.crate)
 
-    def fitting(self, crate, most, seconds):
-        """How many edits, at most so many, can be tried in these seconds."""
-        rest = seconds - self.batch(crate, 0)
-        return min(most, max(0, int(rest // self.dearest(crate)))) if rest > 0 else 0
+    def before_edits(self, crate, is_proved):
+        """What a run takes beside its edits: the proof below the first."""
+        return 0.0 if is_proved else self.proof(crate)
+
+    def fitting(self, edits, most, seconds, is_proved):
+        """Those of a crate's edits, at most so many, that can be tried in these seconds, and one check more."""
+        crate, chosen = edits[0].crate, []
+        rest = seconds - self.before_edits(crate, is_proved) - self.dearest(crate)
+        for edit in edits:
+            if len(chosen) < most and self.edit(edit) <= rest:
+                chosen.append(edit)
+                rest -= self.edit(edit)
+        return chosen
 
     def saw_check(self, seconds):
         """Takes how long the check took by which machines are compared."""
         if self.check[1]:
             self.slowness = seconds / self.check[1]
 
-    def saw_batch(self, crate, count, seconds):
+    def saw_batch(self, batch, seconds, was_proved):
         """Where a run of edits took longer than reckoned, every further one is reckoned so."""
-        reckoned = self.batch(crate, count)
+        reckoned = self.before_edits(batch[0].crate, was_proved) + sum(map(self.edit, batch))
         if seconds > reckoned:
             self.slowness *= seconds / reckoned
 
