@@ -7,14 +7,18 @@
 #                       many commands, the parser over bytes cut in pieces, a map of up to 16,384 slot ranges, and what a call
 #                       takes beside a lean client in plain Rust
 # make live HOST=H PORT=P   takes commands for the cluster of the node at H and P from standard input (docs/LIVE.md)
+# make proxy HOST=H PORT=P LISTEN=L   makes the cluster of the node at H and P look like one server at 127.0.0.1:L
+#                       (docs/PROXY.md)
+# make proxy-test       tries that against a cluster of six, which it starts; no part of the gate
 # make live-test        tries the program of docs/SOCKETS.md, and then `make live`, by one client and by four on the same keys,
 #                       against clusters of six, which it starts; no part of the gate
 SESSION ?= examples/sessions/moved.session
 
 HOST ?= 127.0.0.1
 PORT ?= 7000
+LISTEN ?= 6390
 
-.PHONY: play build test bench live live-test
+.PHONY: play build test bench live live-test proxy proxy-test
 
 play:
 	@tools/play "$(SESSION)"
@@ -37,3 +41,9 @@ live:
 live-test:
 	@tools/sockets-test
 	@program=$$(tools/build redis_live) && tools/live-test "$$program" && tools/live-clients "$$program"
+
+proxy:
+	@program=$$(tools/build redis_proxy) && tools/proxy "$$program" "$(HOST)" "$(PORT)" "$(LISTEN)"
+
+proxy-test:
+	@program=$$(tools/build redis_proxy) && tools/proxy-test "$$program"

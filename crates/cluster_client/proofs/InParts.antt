@@ -126,7 +126,7 @@ fault_told : (fault : LinkFault) → IsTold (Err (refusal_by_fault fault))
 fault_told io = tt
 fault_told grammar = tt
 
-refusals_told : (events : List Event) (a : Address) → IsTold (Err (refusals_of events a))
+pub refusals_told : (events : List Event) (a : Address) → IsTold (Err (refusals_of events a))
 refusals_told [] a = tt
 refusals_told (x ∷ xs) a = by (same_address x.node a) x.ending (refusals_told xs a)
   where
@@ -136,7 +136,7 @@ refusals_told (x ∷ xs) a = by (same_address x.node a) x.ending (refusals_told 
     by true (fails fault) later = fault_told fault
     by true lacks_memory later = tt
 
-each_told : (refusals : Address → Refusal) → ((a : Address) → IsTold (Err (refusals a))) → (xs : List Exchange) (its : List (Option Exchange)) → AllByRecursion IsTold (map (outcome_of refusals xs) its)
+pub each_told : (refusals : Address → Refusal) → ((a : Address) → IsTold (Err (refusals a))) → (xs : List Exchange) (its : List (Option Exchange)) → AllByRecursion IsTold (map (outcome_of refusals xs) its)
 each_told refusals told xs [] = tt
 each_told refusals told xs (None ∷ its) = (tt, each_told refusals told xs its)
 each_told refusals told xs (Some x ∷ its) = (by (has_lost x.request.node xs), each_told refusals told xs its)

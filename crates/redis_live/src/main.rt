@@ -9,7 +9,6 @@
 //! The commands between the lines `pipeline` and `end` go out as one pipeline.
 #![tactic(auto)]
 
-mod devices;
 mod print;
 mod session;
 mod words;

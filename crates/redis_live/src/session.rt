@@ -1,5 +1,4 @@
 //! Commands in, replies out.
-use crate::devices::{Link, Peer, listed, open_link};
 use crate::print::{Style, errors, refusal, reply};
 use crate::words::split;
 use anyhow::Result;
@@ -7,6 +6,7 @@ use cluster_client::{
     ClusterClient, ClusterPipeline, Cmd, ConnectionLike, MultipleNodeRoutingInfo, RedisError,
     RoutingInfo, Value, cluster_pipe,
 };
+use node_files::{Link, Peer, listed, relink};
 use std::alloc::{AllocError, Global};
 use std::io::{BufRead, BufReader, Write};
 use std::rt::{Env, Files};
@@ -160,24 +160,6 @@ fn ask<L: ConnectionLike + Drop>(
     }
 }
 
-/// Opens the next pair of files of each node without an open link, and tells whether there was one.
-fn relink<R: Files + AllocGlobal>(
-    rt: &R,
-    folder: &str,
-    session: &mut Session<Link<R::File>>,
-) -> Result<bool> {
-    let mut opened = false;
-    for peer in session.peers.iter_mut() {
-        if session.client.link_state(&peer.node) != Some(true) {
-            if let Ok(link) = open_link(rt, folder, peer) {
-                session.client.set_link(peer.node.clone()?, link)?;
-                opened = true;
-            }
-        }
-    }
-    Ok(opened)
-}
-
 /// Sees to it that links are open and the slot map is known.
 fn restore<R: Files + AllocGlobal>(
     rt: &R,
@@ -185,7 +167,9 @@ fn restore<R: Files + AllocGlobal>(
     session: &mut Session<Link<R::File>>,
 ) -> Result<()> {
     let alloc = rt.alloc();
-    if relink(rt, folder, session)? || session.client.needs_refresh() {
+    if relink(rt, folder, &mut session.peers, &mut session.client, None)?
+        || session.client.needs_refresh()
+    {
         session.refresh(alloc)?;
         session.tell_unlinked(alloc)?;
     }

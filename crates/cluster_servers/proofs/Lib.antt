@@ -1,0 +1,4 @@
+pub mod Outcomes
+pub mod Asking
+pub mod Telling
+pub mod LawProofs

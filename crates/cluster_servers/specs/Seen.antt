@@ -1,0 +1,9 @@
+-- The servers as plain data.
+use Rattle.resp_link.specs.Call.{Seen}
+use Rattle.cluster_client.specs.Whole.{whole}
+use Rattle.cluster_servers.specs.declared.servers.ClusterServers.{ClusterServers}
+use Rattle.cluster_servers.specs.Asked.{Cluster}
+
+abbrev pub cluster : {L : Type 0} → (L → Seen) → ClusterServers L → Cluster
+cluster seen servers = record
+    { world = whole seen servers.client; alone = servers.alone; patient = servers.patient }

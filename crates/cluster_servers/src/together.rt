@@ -1,0 +1,104 @@
+//! A batch as one pipeline.
+ghost use Rattle.std.specs.Prelude.{◌≡◌, ◌≤◌, ◌+◌, [], length, map, vec_capacity, vec_len, Err, IfOk};
+ghost use Rattle.std.specs.List.{list_any, AllByRecursion};
+ghost use Rattle.resp_core.specs.View.{view};
+ghost use Rattle.cluster_calls.specs.Calls.Each.{fate_of};
+ghost use Rattle.cluster_calls.specs.Links.World.{tree_result};
+ghost use Rattle.cluster_steps.specs.Joins as joins;
+ghost use Rattle.proxy_core.specs.Batch.{batch_of};
+ghost use Rattle.cluster_servers.specs.Asked.{is_redirect, some_redirected};
+ghost use Rattle.cluster_servers.specs.Fates.{fate_by};
+ghost use Rattle.cluster_servers.specs.Together.{AreTold, IsTold, entries_of};
+
+use crate::command::GuestCommand;
+use crate::reply::Reply;
+use cluster_client::ClusterPipeline;
+use proxy_core::{Asked, Fate, Outcome};
+use resp_core::{Cause, ErrorKind, Protocol, RedisError, ServerErrorKind, Value};
+use std::alloc::{AllocError, Global};
+use std::collections::VecDeque;
+
+/// The commands of a batch as a pipeline.
+pub(crate) fn pipeline_of(
+    alloc: Global,
+    batch: &[Asked<'_, GuestCommand>],
+) -> Result<ClusterPipeline, AllocError>
+    ensures { IfOk result (λ pipeline. pipeline ≡ entries_of (batch_of batch.now)) }
+{
+    let mut pipeline = ClusterPipeline::with_capacity(alloc, batch.len())?;
+    'batch: for asked in batch {
+        pipeline.add_command(asked.command.command.clone()?)?;
+    }
+    Ok(pipeline)
+}
+
+fn refused_fate(error: &RedisError) -> Fate
+    requires { joins.IsTold (Err error.now) }
+    ensures { result ≡ fate_by (fate_of (Err error.now)) }
+{
+    match error.cause() {
+        Some(Cause::NotAsked) => Fate::NotAsked,
+        Some(_) => Fate::Lost,
+        None => match error.kind() {
+            ErrorKind::Server(ServerErrorKind::Moved | ServerErrorKind::Ask) => Fate::Redirected,
+            _ => Fate::Answered,
+        },
+    }
+}
+
+/// What a position of a pipeline was told, as the proxy is told.
+fn outcome_of(alloc: Global, told: Result<Value, RedisError>, protocol: Protocol) -> Outcome<Reply>
+    requires { joins.IsTold (tree_result view told) }
+    ensures { IsTold protocol (tree_result view told) result }
+{
+    let fate = match &told {
+        Ok(_) => Fate::Answered,
+        Err(error) => refused_fate(error),
+    };
+    Outcome {
+        fate,
+        reply: Reply::new(alloc, told, protocol),
+    }
+}
+
+/// Puts the outcome of each position of a pipeline behind these, of which there are none yet. There is room
+/// for all.
+pub(crate) fn tell_all(
+    alloc: Global,
+    batch: &[Asked<'_, GuestCommand>],
+    told: Vec<Result<Value, RedisError>>,
+    outcomes: &mut Vec<Outcome<Reply>>,
+)
+    requires each { AllByRecursion joins.IsTold (map (tree_result view) told.items) }
+    requires len { vec_len told ≡ length batch.now }
+    requires room { length batch.now ≤ vec_capacity outcomes.old }
+    requires none { outcomes.old.items ≡ [] }
+    ensures { AreTold (batch_of batch.now) (map (tree_result view) told.items) outcomes.new.items }
+{
+    let mut queue = VecDeque::from_vec(told);
+    'batch: for asked in batch {
+        let Some(told) = queue.pop_front() else {
+            break;
+        };
+        let outcome = outcome_of(alloc, told, asked.command.protocol);
+        outcomes.push(outcome).unwrap();
+    }
+}
+
+fn is_redirect(fate: Fate) -> bool
+    ensures { result ≡ is_redirect fate }
+{
+    matches!(fate, Fate::Redirected)
+}
+
+/// Whether a node sent one of the commands on.
+pub(crate) fn some_redirected(outcomes: &[Outcome<Reply>]) -> bool
+    ensures { result ≡ some_redirected outcomes.now }
+{
+    'outcomes: for outcome in outcomes {
+        if is_redirect(outcome.fate) {
+            return true;
+        }
+    }
+    false
+}

@@ -1,0 +1,27 @@
+//! The program `redis_proxy`: it makes a Redis Cluster look like one server. The guests' bytes come by
+//! standard input, and their replies go to standard output.
+//!
+//! `redis_proxy FOLDER` serves one guest, whose bytes these are. `redis_proxy FOLDER --frames` serves many:
+//! the bytes are frames, each of a guest's number and a length, of four bytes with the lowest first, and so
+//! many bytes of that guest. A frame of none ends the guest.
+//!
+//! It opens no socket. The file `nodes` of the folder lists the nodes, `host:port` a line. For each node the
+//! folder has pairs of FIFOs, `host:port.0.to` and `host:port.0.from`, then `.1.`, and so on: another program
+//! joins each pair to a socket of the node.
+#![tactic(auto)]
+
+mod frames;
+mod guest;
+mod held;
+mod own;
+mod scan;
+mod serve;
+mod session;
+mod side;
+mod way;
+
+use anyhow::Result;
+
+fn main(rt: HostRuntime) -> Result<()> {
+    serve::serve(&rt)
+}

@@ -1,0 +1,141 @@
+//! The program's loop: input, turns of the cluster, output.
+use crate::session::Session;
+use crate::side::Side;
+use anyhow::Result;
+use node_files::{Link, Peer, listed, relink};
+use resp_core::Protocol;
+use std::io::{Read, Write};
+use std::rt::{Env, Files};
+use std::{env, io};
+
+// How many bytes one read takes at most.
+const PIECE: usize = 65536;
+
+// How often what waits is asked, the last time without patience.
+const TURNS: u8 = 8;
+
+/// Sees to it that the links of a side are open and its slot map is known.
+fn restore<R: Files + AllocGlobal>(
+    rt: &R,
+    folder: &str,
+    peers: &mut Vec<Peer>,
+    side: &mut Side<Link<R::File>>,
+) -> Result<()> {
+    let client = &mut side.servers.client;
+    if relink(rt, folder, peers, client, Some(&side.greeting))? || client.needs_refresh() {
+        side.refresh(rt.alloc(), peers);
+    }
+    Ok(())
+}
+
+/// Asks what waits of the guests of one protocol.
+fn turn<R: Files + AllocGlobal>(
+    rt: &R,
+    folder: &str,
+    peers: &mut Vec<Peer>,
+    side: &mut Side<Link<R::File>>,
+    is_patient: bool,
+) -> Result<()> {
+    if !side.is_used {
+        return Ok(());
+    }
+    side.servers.patient = is_patient;
+    side.proxy.turn(rt.alloc(), &mut side.servers)?;
+    restore(rt, folder, peers, side)
+}
+
+/// Asks what waits until all is answered, `TURNS` times at most; whether something waits still.
+fn settle<R: Files + AllocGlobal>(
+    rt: &R,
+    folder: &str,
+    session: &mut Session<Link<R::File>>,
+) -> Result<bool> {
+    for number in 0..TURNS {
+        if !session.read_for_all()? {
+            return Ok(false);
+        }
+        let is_patient = number.saturating_add(1) < TURNS;
+        turn(rt, folder, &mut session.peers, &mut session.two, is_patient)?;
+        turn(
+            rt,
+            folder,
+            &mut session.peers,
+            &mut session.three,
+            is_patient,
+        )?;
+    }
+    session.read_for_all()
+}
+
+/// Answers all that the guests asked.
+fn answer<R: Files + AllocGlobal>(
+    rt: &R,
+    folder: &str,
+    session: &mut Session<Link<R::File>>,
+) -> Result<()> {
+    for _ in 0..u64::MAX {
+        let has_moved = session.advance_all(rt.alloc())?;
+        let waits = settle(rt, folder, session)?;
+        if !has_moved && !waits {
+            break;
+        }
+    }
+    session.send_all(rt.alloc())
+}
+
+fn flush<R: Print>(rt: &R, output: &mut Vec<u8>) -> io::Result<()> {
+    io::writer(rt).write_all(output)?;
+    output.clear();
+    Ok(())
+}
+
+/// A session with the nodes of a folder.
+fn session_of<R: Files + AllocGlobal>(
+    rt: &R,
+    folder: &str,
+    is_framed: bool,
+) -> Result<Session<Link<R::File>>> {
+    let alloc = rt.alloc();
+    let mut session = Session {
+        two: Side::new(alloc, Protocol::Resp2)?,
+        three: Side::new(alloc, Protocol::Resp3)?,
+        peers: listed(rt, folder)?,
+        guests: Vec::new(alloc),
+        is_framed,
+        frames: Vec::new(alloc),
+        output: Vec::new(alloc),
+    };
+    session.two.is_used = true;
+    restore(rt, folder, &mut session.peers, &mut session.two)?;
+    Ok(session)
+}
+
+/// Takes the guests' bytes until they end.
+pub(crate) fn serve<R: Files + Env + Input + Print + AllocGlobal>(rt: &R) -> Result<()> {
+    let alloc = rt.alloc();
+    let mut args = env::args(rt)?;
+    let _program = args.next();
+    let Some(folder) = args.next() else {
+        println!(rt; "redis_proxy FOLDER [--frames]")?;
+        return Ok(());
+    };
+    let folder = folder.as_str();
+    let mut session = session_of(rt, folder, args.next().is_some())?;
+    let mut input = rt.reader();
+    let mut piece = Vec::from_elem(alloc, 0u8, PIECE)?;
+    for _ in 0..u64::MAX {
+        let count = input.read(&mut piece)?;
+        if count == 0 {
+            break;
+        }
+        if let Some(bytes) = piece.get(..count) {
+            session.take(alloc, bytes)?;
+        }
+        answer(rt, folder, &mut session)?;
+        flush(rt, &mut session.output)?;
+        if session.is_over() {
+            break;
+        }
+    }
+    Ok(())
+}

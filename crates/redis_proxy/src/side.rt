@@ -1,0 +1,73 @@
+//! The cluster as guests of one protocol see it.
+use cluster_client::{ClusterClient, Cmd, ConnectionLike, RedisError, command};
+use cluster_servers::{ClusterServers, GuestCommand, Reply};
+use node_files::Peer;
+use proxy_core::{Limits, Proxy, Room};
+use resp_core::Protocol;
+use std::alloc::{AllocError, Global};
+
+// How many redirects a request follows.
+const BUDGET: u16 = 5;
+
+/// How many guests there may be.
+pub(crate) const MOST_GUESTS: usize = 10_000;
+
+const LIMITS: Limits = Limits {
+    guests: MOST_GUESTS,
+    share: Room {
+        entries: 10_000,
+        bytes: 1 << 30,
+    },
+};
+
+/// The guests that speak a protocol, and a client whose links speak it.
+#[derive(Drop)]
+pub(crate) struct Side<L> {
+    pub(crate) proxy: Proxy<GuestCommand, Reply>,
+    pub(crate) servers: ClusterServers<L>,
+    /// What each new link's node has to answer.
+    pub(crate) greeting: Cmd,
+    /// Whether a guest has spoken the protocol.
+    pub(crate) is_used: bool,
+}
+
+fn greeting_of(alloc: Global, protocol: Protocol) -> Result<Cmd, AllocError> {
+    match protocol {
+        Protocol::Resp2 => command::cmd(alloc, "PING"),
+        Protocol::Resp3 => {
+            let mut hello = command::cmd(alloc, "HELLO")?;
+            hello.arg("3")?;
+            Ok(hello)
+        }
+    }
+}
+
+impl<L: ConnectionLike + Drop> Side<L> {
+    /// A side without a guest and without links.
+    pub(crate) fn new(alloc: Global, protocol: Protocol) -> Result<Side<L>, RedisError> {
+        let client = ClusterClient::new(alloc, Vec::new(alloc), Vec::new(alloc), BUDGET)?;
+        Ok(Side {
+            proxy: Proxy::new(alloc, LIMITS),
+            servers: ClusterServers::new(client),
+            greeting: greeting_of(alloc, protocol)?,
+            is_used: false,
+        })
+    }
+
+    /// Asks one node after another for the slot map, until one answers. That one is asked first from then
+    /// on.
+    pub(crate) fn refresh(&mut self, alloc: Global, peers: &mut Vec<Peer>) {
+        let mut answered = None;
+        for (place, peer) in peers.iter().enumerate() {
+            if self.servers.client.refresh(alloc, &peer.node).is_ok() {
+                answered = Some(place);
+                break;
+            }
+        }
+        if let Some(place) = answered
+            && place < peers.len()
+        {
+            peers.swap(0, place);
+        }
+    }
+}
