@@ -1,16 +1,15 @@
 -- What the steps of a call come to: a query of one command, and a pipeline that was refused for memory.
-use Rattle.std.proofs.Common.{◌≡◌, ◌≢◌, false, List, [], Some, None, Result, Ok, Err, refl, sym, ap, subst, inr}
-use Rattle.resp_core.specs.Errors.{Refusal, by_cause, by_server, by_servers, at_position, cause_of}
+use Rattle.std.proofs.Common.{◌≡◌, ◌≢◌, false, List, [], Some, None, Result, Ok, Err, refl, sym, ap, subst, inl, inr}
+use Rattle.resp_core.specs.Errors.{Refusal, by_cause}
 use Rattle.resp_core.specs.Trees.{Tree}
 use Rattle.resp_core.specs.View.{view}
 use Rattle.resp_core.specs.declared.errors.redis_error.Cause.TheVariants.{Memory}
 use Rattle.resp_core.specs.declared.value.Value.{Value}
 use Rattle.resp_args.specs.Command.{Command}
-use Rattle.cluster_calls.specs.Calls.Call.{Entry, Query}
-use Rattle.cluster_calls.specs.Calls.EachInParts.{each_plan}
+use Rattle.cluster_calls.specs.Calls.Call.{Query}
 use Rattle.cluster_calls.specs.Links.Converted.{ConvertsTo, ValueMade, value_answer}
-use Rattle.cluster_calls.specs.Links.EachMade.{NotSent}
-use Rattle.cluster_calls.specs.Links.Happened.{CallMade, client_of}
+use Rattle.cluster_calls.specs.Links.Happened.{CallMade}
+use Rattle.cluster_calls.specs.Links.Run.{with_log}
 use Rattle.cluster_calls.specs.Links.World.{World, tree_result}
 use Rattle.cluster_servers.specs.Asked.{AsksCluster, Cluster}
 
@@ -29,17 +28,5 @@ made_alone old new command told h n =
 
 -- ---- a pipeline without memory
 
-memory_only : (refusal : Refusal) → cause_of refusal ≡ Some Memory → refusal ≡ by_cause Memory
-memory_only (by_cause cause) e = cc
-memory_only (by_server error) e = cc
-memory_only (at_position position) e = cc
-memory_only (by_servers first more) e = cc
-
-pub refused_asks : (old new : Cluster) (entries : List Entry) (refusal : Refusal) → cause_of refusal ≡ Some Memory → new.alone ≡ false → new.patient ≡ old.patient → NotSent old.world new.world (each_plan (client_of old.world) [] entries) refusal → AsksCluster old [] [] new
-refused_asks old new entries refusal cause alone patient n = inr (inr (record {
-  start = new.world;
-  why = inr (refusal, record { stays = n.stays; refused = λ other. absurd (other (memory_only refusal cause)) });
-  asked = refl;
-  after = alone;
-  patient = patient;
-}))
+pub refused_asks : (old new : Cluster) → new.world ≡ with_log old.world [] [] → new.alone ≡ old.alone → new.patient ≡ old.patient → AsksCluster old [] [] new
+refused_asks old new stays alone patient = inl (record { world = inr stays; alone = alone; patient = patient; nothing = refl; none = refl })

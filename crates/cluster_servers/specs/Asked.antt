@@ -2,12 +2,14 @@
 use Rattle.std.specs.Prelude.{◌≡◌, ◌≢◌, ℕ, Bool, true, false, ◌⊎◌, List, [], map, Result}
 use Rattle.std.specs.List.{list_any}
 use Rattle.resp_core.specs.Trees.{Tree}
-use Rattle.resp_core.specs.Errors.{Refusal}
+use Rattle.resp_core.specs.Errors.{Refusal, by_cause}
+use Rattle.resp_core.specs.declared.errors.redis_error.Cause.TheVariants.{Memory}
 use Rattle.cluster_calls.specs.Calls.Call.{Entry}
 use Rattle.cluster_calls.specs.Calls.Each.{each_of, fate_of}
 use Rattle.cluster_calls.specs.Calls.EachInParts.{each_plan}
 use Rattle.cluster_calls.specs.Links.EachMade.{NotSent, refusals_of, told_of}
 use Rattle.cluster_calls.specs.Links.Happened.{client_of}
+use Rattle.cluster_calls.specs.Links.Run.{with_log}
 use Rattle.cluster_calls.specs.Links.World.{World}
 use Rattle.cluster_calls.specs.OneServer.Fates.{PositionsAreKnown}
 use Rattle.proxy_core.specs.declared.outcome.Fate.{Fate}
@@ -28,10 +30,12 @@ pub record Cluster : Type 0 where
 
 -- ---- one call
 
--- nothing was asked
+-- nothing was asked: all is as it was, but that a call which was refused for memory leaves an empty log
 pub record Untouched (old new : Cluster) (batch : List (ℕ × GuestCommand))
     (outcomes : List (Outcome Reply)) : Type 0 where
-  pub same : new ≡ old
+  pub world : (new.world ≡ old.world) ⊎ (new.world ≡ with_log old.world [] [])
+  pub alone : new.alone ≡ old.alone
+  pub patient : new.patient ≡ old.patient
   pub nothing : batch ≡ []
   pub none : outcomes ≡ []
 
@@ -50,11 +54,12 @@ pub record Together (old new : Cluster) (batch : List (ℕ × GuestCommand))
   pub after : new.alone ≡ some_redirected outcomes
   pub patient : new.patient ≡ old.patient
 
--- it is this batch's turn to go command by command, or its pipeline was refused before the first byte, which
--- leaves the client but for its log
+-- it is this batch's turn to go command by command, or its pipeline was refused before the first byte, by another
+-- cause than memory, which leaves the client but for its log
 abbrev pub GoesAlone : Cluster → World → List Entry → Type 0
 GoesAlone old start entries = ((old.alone ≡ true) × (start ≡ old.world))
-    ⊎ ((refusal : Refusal) × NotSent old.world start (each_plan (client_of old.world) [] entries) refusal)
+    ⊎ ((refusal : Refusal) × (refusal ≢ by_cause Memory)
+    × NotSent old.world start (each_plan (client_of old.world) [] entries) refusal)
 
 -- the commands were asked one after another
 pub record InTurn (old new : Cluster) (batch : List (ℕ × GuestCommand))

@@ -1,18 +1,21 @@
-use Rattle.std.proofs.Common.{◌≡◌, None, Some, refl, sym, inr, arith}
-use Rattle.resp_core.specs.Errors.{cause_of}
+use Rattle.std.proofs.Common.{◌≡◌, ◌≢◌, None, Some, refl, sym, ap, inr, arith}
+use Rattle.resp_core.specs.Errors.{by_cause, cause_of}
 use Rattle.resp_core.specs.declared.errors.redis_error.Cause.TheVariants.{Memory}
 use Rattle.cluster_servers.specs.Seen.{cluster}
 use Rattle.cluster_servers.proofs.Asking.{refused_asks}
 use Rattle.cluster_servers.proofs.servers.ClusterServers.send_together.Goals as goal
+use Rattle.cluster_servers.proofs.servers.ClusterServers.send_together.Goals.{in_default-via-in-Some+in_default, in_default-via-in_default}
 
 pub returns-in-Some-Memory-clause-refused : goal.returns-in-Some-Memory-clause-refused
 returns-in-Some-Memory-clause-refused g c =
-    let seen = g.L.ConnectionLike.seen in
     let made = rw c.in-Err.is at c.query_each.ensures None in
-    let cause : cause_of c.in-Err.error ≡ Some Memory = grind (arith, c.cause.ensures, c.in-Some-Memory.is, c.in-Some-Memory.field-0-is) in
-    refused_asks (cluster seen c.args.self.now) _ c.in_ok-pipeline.pipeline c.in-Err.error cause c.if-self.false refl made.told
+    refused_asks (cluster g.L.ConnectionLike.seen c.args.self.now) _ made.told.stays refl refl
 
 pub returns-clause-told : goal.returns-clause-told
 returns-clause-told g c =
     let made = rw c.in-Err.is at c.query_each.ensures None in
-    rw (sym c.in_ok-pipeline.ensures) (inr (c.in-Err.error, made.told))
+    let other : c.in-Err.error ≢ by_cause Memory = λ e. elim c.in_default.branch [
+      | in_default-via-in-Some+in_default w ↦ grind (arith, c.cause.ensures, w.in_default, ap cause_of e)
+      | in_default-via-in_default w ↦ grind (arith, c.cause.ensures, w.in_default, ap cause_of e)
+    ] in
+    rw (sym c.in_ok-pipeline.ensures) (inr (c.in-Err.error, other, made.told))
