@@ -17,6 +17,11 @@ abbrev pub reply_bytes : Reply → ℕ
 reply_bytes (Written bytes) = vec_len bytes
 reply_bytes (Unwritten why) = 0
 
+-- the bytes that its guest reads
+abbrev pub guest_bytes : Reply → List ℕ
+guest_bytes (Written bytes) = bytes.items
+guest_bytes (Unwritten why) = codes "-ERR proxy: the reply can not be written\r\n"
+
 -- the tree as the protocol writes it, unless memory was refused or it nests too deep to be written
 abbrev pub IsWritten : Protocol → Tree → Reply → Type 0
 IsWritten protocol tree (Written bytes) = bytes.items ≡ written protocol tree

@@ -4,8 +4,9 @@ ghost use Rattle.resp_core.specs.View.{view};
 ghost use Rattle.resp_core.specs.Errors.{server_errors};
 ghost use Rattle.resp_core.specs.Refused.{errors_at};
 ghost use Rattle.cluster_calls.specs.Links.World.{tree_result};
-ghost use Rattle.cluster_servers.specs.Replies.{IsErrorIn, IsLine, IsWritten, line_by, reply_bytes};
+ghost use Rattle.cluster_servers.specs.Replies.{IsErrorIn, IsLine, IsWritten, guest_bytes, line_by, reply_bytes};
 
+use proxy_connection::Written;
 use proxy_core::Bytes;
 use resp_core::{Cause, Protocol, RedisError, ServerError, Value, WriteError};
 use std::alloc::{AllocError, Global};
@@ -26,6 +27,17 @@ impl Bytes for Reply {
         match self {
             Reply::Written(bytes) => bytes.len(),
             Reply::Unwritten(_) => 0,
+        }
+    }
+}
+
+impl Written for Reply {
+    ghost written = { guest_bytes };
+
+    fn written(&self) -> &[u8] {
+        match self {
+            Reply::Written(bytes) => bytes,
+            Reply::Unwritten(_) => b"-ERR proxy: the reply can not be written\r\n",
         }
     }
 }

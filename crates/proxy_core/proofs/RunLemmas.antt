@@ -14,15 +14,15 @@ use Rattle.proxy_core.specs.Sees.{Event, Came, Renewed, events_of, taken_by, see
 module _ {C V : Type 0} where
   module _ (overlaps : C → C → Bool) where
     -- what was taken is settled no more
-    settled_shown : (vs : List V) (q : List (Entry C V)) (os : List (Outcome V)) → settled overlaps (shown vs q) os ≡ shown vs (settled overlaps q os)
+    pub settled_shown : (vs : List V) (q : List (Entry C V)) (os : List (Outcome V)) → settled overlaps (shown vs q) os ≡ shown vs (settled overlaps q os)
     settled_shown [] q os = refl
     settled_shown (v ∷ vs) q os = ap (λ es. Reads v ∷ es) (settled_shown vs q os)
 
-    shown_more : (vs : List V) (q : List (Entry C V)) (e : Entry C V) → shown vs (q ++ e ∷ []) ≡ shown vs q ++ e ∷ []
+    pub shown_more : (vs : List V) (q : List (Entry C V)) (e : Entry C V) → shown vs (q ++ e ∷ []) ≡ shown vs q ++ e ∷ []
     shown_more [] q e = refl
     shown_more (v ∷ vs) q e = ap (λ es. Reads v ∷ es) (shown_more vs q e)
 
-    shown_taken : (vs : List V) (v : V) (q : List (Entry C V)) → shown (vs ++ v ∷ []) q ≡ shown vs (Reads v ∷ q)
+    pub shown_taken : (vs : List V) (v : V) (q : List (Entry C V)) → shown (vs ++ v ∷ []) q ≡ shown vs (Reads v ∷ q)
     shown_taken [] v q = refl
     shown_taken (w ∷ vs) v q = ap (λ es. Reads w ∷ es) (shown_taken vs v q)
 

@@ -85,6 +85,16 @@ impl<C: Command, V: Bytes> Proxy<C, V> {
         self.guests[guest].open
     }
 
+    /// How many entries the proxy holds of a guest: commands that wait, and replies that it did not take.
+    pub fn held(&self, guest: usize) -> usize
+        ensures { result ≡ length (queue_at (queues self.now.guests.items) guest) }
+    {
+        if self.guests.len() <= guest {
+            return 0;
+        }
+        self.guests[guest].entries.len()
+    }
+
     /// Takes a command of a guest, or an answer of the proxy's own in the place of one. Where it is
     /// refused nothing has changed, and the entry comes back. What other guests hold is no cause: an
     /// entry that the guest's own share has room for is refused by want of memory alone.

@@ -1,0 +1,20 @@
+use Rattle.std.proofs.Common.{◌≡◌, ◌∙◌, refl, subst}
+use Rattle.proxy_core.specs.Guests.{is_open_at, openings, queues}
+use Rattle.proxy_connection.specs.Moves.{Advances}
+use Rattle.proxy_connection.specs.Ways.{ways}
+use Rattle.proxy_connection.proofs.Served.{advances_behind, rests_advances}
+use Rattle.proxy_connection.proofs.connection.Connection.advance.Goals as goal
+
+pub returns-in-Some-clause-ok : goal.returns-in-Some-clause-ok
+returns-in-Some-clause-ok g c =
+    rests_advances _ _ _ _ _ _ c.args.self.now c.hear.new.self _ _ c.in-Some.progress (rw c.in-Some.is at c.in_ok-progress.ensures.none) c.hear.ensures.stays refl
+
+pub returns-clause-ok : goal.returns-clause-ok
+returns-clause-ok g c =
+    let w = ways g.C.Command.overlaps g.V.Written.written g.T.Translator.translates g.T.Translator.refuses g.T.Translator.has_ended in
+    let old = c.args.proxy.now in
+    let same : c.understand.new.self.guest ≡ c.args.self.now.guest = c.understand.ensures.guest ∙ c.hear.ensures.guest in
+    let put = subst (λ n. Advances w g.C.Bytes.bytes g.V.Bytes.bytes old.limits.share (is_open_at (openings old.guests.items) n) n c.understand.new.self c.put.new.self
+        (queues old.guests.items) (queues c.put.new.proxy.guests.items) c.in_ok-progress-2.progress) same c.in_ok-progress-2.ensures.ok in
+    advances_behind _ _ _ _ _ _ c.understand.new.self c.put.new.self _ _ c.args.self.now c.in_ok-progress-2.progress
+        (λ q h s. c.understand.ensures.stays q h (c.hear.ensures.stays q h s)) put

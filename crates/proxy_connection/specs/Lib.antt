@@ -1,0 +1,5 @@
+pub mod History
+pub mod Ways
+pub mod Serving
+pub mod Moves
+pub mod Laws

@@ -1,0 +1,26 @@
+//! What stands between a guest's bytes and its queue.
+ghost use Rattle.std.specs.Prelude.{◌≡◌};
+ghost use Rattle.proxy_connection.specs.Serving.{is_nothing};
+
+use proxy_core::Entry;
+use resp_requests::Fault;
+
+/// What was read of a guest's bytes and did not come into its queue yet.
+#[derive(Drop)]
+pub(crate) enum Pending<C, V> {
+    Nothing,
+    /// The words of a command.
+    Words(Vec<Vec<u8>>),
+    /// Why the bytes are no request.
+    Fault(Fault),
+    /// What the words mean, or the answer to a fault.
+    Entry(Entry<C, V>),
+}
+
+impl<C, V> Pending<C, V> {
+    pub(crate) fn is_nothing(&self) -> bool
+        ensures { result ≡ is_nothing self.now }
+    {
+        matches!(self, Pending::Nothing)
+    }
+}
