@@ -1,11 +1,13 @@
-//! Commands that are answered by themselves, behind all that their guest asked before.
-use crate::guest::Guest;
-use crate::own::{line, refuse, take_queued};
+//! Commands that are asked by themselves.
+use crate::ask::{Ask, How};
+use crate::own::refuse;
 use crate::scan::{primaries, scan};
-use crate::way::{Own, Way};
+use crate::way::Way;
 use anyhow::Result;
 use cluster_client::{Cause, ClusterClient, Cmd, ConnectionLike, RedisError, Value};
 use cluster_servers::Reply;
+use proxy_core::{Fate, Outcome};
+use resp_core::WriteError;
 use std::alloc::Global;
 
 fn ask_first<L: ConnectionLike + Drop>(
@@ -20,39 +22,37 @@ fn ask_first<L: ConnectionLike + Drop>(
     }
 }
 
-fn transact<L: ConnectionLike + Drop>(
+fn answer<L: ConnectionLike + Drop>(
     alloc: Global,
     client: &mut ClusterClient<L>,
-    guest: &mut Guest,
+    ask: &Ask,
 ) -> Result<Reply> {
-    let is_aborted = guest.is_aborted;
-    let queued = take_queued(alloc, guest);
-    if is_aborted {
-        let why = b"-EXECABORT Transaction discarded because of previous errors.";
-        return Ok(line(alloc, why)?);
-    }
-    if queued.is_empty() {
-        return Ok(line(alloc, b"*0")?);
-    }
-    let told: Result<Value, RedisError> = client.transaction(alloc, &queued);
-    Ok(Reply::new(alloc, told, guest.protocol))
+    let told: Result<Value, RedisError> = match &ask.how {
+        How::Exec(queued) => client.transaction(alloc, queued),
+        How::Alone(Way::Several, command) => client.fan_out(alloc, command),
+        How::Alone(Way::AnyNode | Way::Keyed, command) => client.query(alloc, command, 0, None),
+        How::Alone(Way::FirstNode, command) => ask_first(alloc, client, command),
+        How::Alone(Way::Scan, command) => return scan(alloc, client, command, ask.protocol),
+        How::Alone(Way::Own(_) | Way::Refused, command) => return Ok(refuse(alloc, command)?),
+        How::Together => Err(RedisError::from(Cause::NoRoute)),
+    };
+    Ok(Reply::new(alloc, told, ask.protocol))
 }
 
-/// The answer to a command that is answered by itself.
-pub(crate) fn answer<L: ConnectionLike + Drop>(
+/// Asks a command by itself; want of memory may have come behind its sending.
+pub(crate) fn ask_alone<L: ConnectionLike + Drop>(
     alloc: Global,
     client: &mut ClusterClient<L>,
-    guest: &mut Guest,
-    way: Way,
-    command: &Cmd,
-) -> Result<Reply> {
-    let told: Result<Value, RedisError> = match way {
-        Way::Several => client.fan_out(alloc, command),
-        Way::AnyNode | Way::Keyed => client.query(alloc, command, 0, None),
-        Way::FirstNode => ask_first(alloc, client, command),
-        Way::Scan => return scan(alloc, client, command, guest.protocol),
-        Way::Own(Own::Exec) => return transact(alloc, client, guest),
-        Way::Own(_) | Way::Refused => return Ok(refuse(alloc, command)?),
-    };
-    Ok(Reply::new(alloc, told, guest.protocol))
+    ask: &Ask,
+) -> Outcome<Reply> {
+    match answer(alloc, client, ask) {
+        Ok(reply) => Outcome {
+            fate: Fate::Answered,
+            reply,
+        },
+        Err(_) => Outcome {
+            fate: Fate::Lost,
+            reply: Reply::Unwritten(WriteError::Memory),
+        },
+    }
 }

@@ -10,14 +10,18 @@
 //! joins each pair to a socket of the node.
 #![tactic(auto)]
 
+mod ask;
+mod cluster;
 mod frames;
 mod guest;
 mod held;
 mod own;
+mod queued;
 mod scan;
 mod serve;
 mod session;
 mod side;
+mod talk;
 mod way;
 
 use anyhow::Result;

@@ -1,11 +1,13 @@
 //! What the proxy answers itself, as a server would.
-use crate::guest::Guest;
+ghost use Rattle.std.specs.Prelude.{◌≡◌, OnErr};
+
+use crate::queued::Queued;
+use crate::talk::Talk;
 use crate::way::{Own, argument, is_word};
 use cluster_client::{Cmd, Routable, Value};
 use cluster_servers::Reply;
 use resp_core::Protocol;
 use std::alloc::{AllocError, Global};
-use std::mem;
 
 /// A line, as it is sent.
 pub(crate) fn line(alloc: Global, text: &[u8]) -> Result<Reply, AllocError> {
@@ -18,85 +20,99 @@ fn bulk(alloc: Global, bytes: &[u8]) -> Result<Value, AllocError> {
     Ok(Value::BulkString(Vec::from_slice(alloc, bytes)?))
 }
 
-/// A value in the guest's protocol.
-fn value(alloc: Global, guest: &Guest, value: Value) -> Reply {
-    Reply::new(alloc, Ok(value), guest.protocol)
+/// A value in a protocol.
+fn value(alloc: Global, protocol: Protocol, value: Value) -> Reply {
+    Reply::new(alloc, Ok(value), protocol)
 }
 
-/// What the proxy answers. EXEC is answered so only where it ends no transaction.
+/// What the proxy answers to a guest that is in no transaction. Where memory is refused nothing of the guest
+/// changes.
 pub(crate) fn answer(
     alloc: Global,
-    guest: &mut Guest,
+    talk: &mut Talk,
     own: Own,
     command: &Cmd,
-) -> Result<Reply, AllocError> {
+) -> Result<Reply, AllocError>
+    ensures err { OnErr result (talk.new ≡ talk.old) }
+{
     match own {
-        Own::Ping => ping(alloc, guest, command),
-        Own::Echo => echo(alloc, guest, command),
-        Own::Select => {
-            if argument(command, 1) == b"0".as_slice() {
-                line(alloc, b"+OK")
-            } else {
-                line(alloc, b"-ERR SELECT is not allowed in cluster mode")
-            }
-        }
-        Own::Hello => hello(alloc, guest, command),
-        Own::Client => client(alloc, guest, command),
+        Own::Ping => ping(alloc, talk.protocol, command),
+        Own::Echo => echo(alloc, talk.protocol, command),
+        Own::Select => select(alloc, command),
+        Own::Hello => hello(alloc, talk, command),
+        Own::Client => client(alloc, talk, command),
         Own::Quit => {
-            guest.has_ended = true;
-            line(alloc, b"+OK")
+            let reply = line(alloc, b"+OK")?;
+            talk.has_ended = true;
+            Ok(reply)
         }
         Own::Reset => {
-            guest.protocol = Protocol::Resp2;
-            guest.name.clear();
-            guest.queued = None;
-            guest.is_aborted = false;
-            line(alloc, b"+RESET")
+            let reply = line(alloc, b"+RESET")?;
+            *talk = Talk::new(alloc);
+            Ok(reply)
         }
         Own::Multi => {
-            guest.queued = Some(Vec::new(alloc));
-            guest.is_aborted = false;
-            line(alloc, b"+OK")
+            let reply = line(alloc, b"+OK")?;
+            talk.queued = Some(Queued::new(alloc));
+            Ok(reply)
         }
         Own::Exec => line(alloc, b"-ERR EXEC without MULTI"),
         Own::Discard => line(alloc, b"-ERR DISCARD without MULTI"),
     }
 }
 
-fn ping(alloc: Global, guest: &Guest, command: &Cmd) -> Result<Reply, AllocError> {
+fn select(alloc: Global, command: &Cmd) -> Result<Reply, AllocError> {
+    if argument(command, 1) == b"0".as_slice() {
+        line(alloc, b"+OK")
+    } else {
+        line(alloc, b"-ERR SELECT is not allowed in cluster mode")
+    }
+}
+
+fn ping(alloc: Global, protocol: Protocol, command: &Cmd) -> Result<Reply, AllocError> {
     match (command.arg_idx(1), command.arg_idx(2)) {
         (None, _) => line(alloc, b"+PONG"),
-        (Some(text), None) => Ok(value(alloc, guest, bulk(alloc, text)?)),
+        (Some(text), None) => Ok(value(alloc, protocol, bulk(alloc, text)?)),
         _ => line(alloc, b"-ERR wrong number of arguments for 'ping' command"),
     }
 }
 
-fn echo(alloc: Global, guest: &Guest, command: &Cmd) -> Result<Reply, AllocError> {
+fn echo(alloc: Global, protocol: Protocol, command: &Cmd) -> Result<Reply, AllocError> {
     match (command.arg_idx(1), command.arg_idx(2)) {
-        (Some(text), None) => Ok(value(alloc, guest, bulk(alloc, text)?)),
+        (Some(text), None) => Ok(value(alloc, protocol, bulk(alloc, text)?)),
         _ => line(alloc, b"-ERR wrong number of arguments for 'echo' command"),
     }
 }
 
-fn hello(alloc: Global, guest: &mut Guest, command: &Cmd) -> Result<Reply, AllocError> {
+/// The protocol that HELLO asks for, if it is one.
+fn protocol_of(talk: &Talk, command: &Cmd) -> Option<Protocol> {
     match argument(command, 1) {
-        [] => {}
-        [b'2'] => guest.protocol = Protocol::Resp2,
-        [b'3'] => guest.protocol = Protocol::Resp3,
-        _ => return line(alloc, b"-NOPROTO unsupported protocol version"),
+        [] => Some(talk.protocol),
+        [b'2'] => Some(Protocol::Resp2),
+        [b'3'] => Some(Protocol::Resp3),
+        _ => None,
     }
+}
+
+fn hello(alloc: Global, talk: &mut Talk, command: &Cmd) -> Result<Reply, AllocError>
+    ensures err { OnErr result (talk.new ≡ talk.old) }
+{
+    let Some(protocol) = protocol_of(talk, command) else {
+        return line(alloc, b"-NOPROTO unsupported protocol version");
+    };
     if is_word(command, 2, b"AUTH") {
         return line(alloc, b"-ERR proxy: it takes no password");
     }
-    if is_word(command, 2, b"SETNAME") {
-        set_name(guest, argument(command, 3))?;
-    }
-    let number = match guest.protocol {
+    let number = match protocol {
         Protocol::Resp2 => 2,
         Protocol::Resp3 => 3,
     };
     let told = told_of_server(alloc, number)?;
-    Ok(value(alloc, guest, Value::Map(told)))
+    if is_word(command, 2, b"SETNAME") {
+        talk.name = Vec::from_slice(alloc, argument(command, 3))?;
+    }
+    talk.protocol = protocol;
+    Ok(value(alloc, protocol, Value::Map(told)))
 }
 
 fn told_of_server(alloc: Global, protocol: i64) -> Result<Vec<(Value, Value)>, AllocError> {
@@ -113,23 +129,24 @@ fn told_of_server(alloc: Global, protocol: i64) -> Result<Vec<(Value, Value)>, A
     Ok(told)
 }
 
-fn set_name(guest: &mut Guest, name: &[u8]) -> Result<(), AllocError> {
-    guest.name.clear();
-    guest.name.extend_from_slice(name)
+fn name_of(alloc: Global, talk: &Talk) -> Result<Value, AllocError> {
+    if talk.name.is_empty() {
+        Ok(Value::Nil)
+    } else {
+        bulk(alloc, &talk.name)
+    }
 }
 
-fn client(alloc: Global, guest: &mut Guest, command: &Cmd) -> Result<Reply, AllocError> {
+fn client(alloc: Global, talk: &mut Talk, command: &Cmd) -> Result<Reply, AllocError>
+    ensures err { OnErr result (talk.new ≡ talk.old) }
+{
     if is_word(command, 1, b"SETNAME") {
-        set_name(guest, argument(command, 2))?;
-        return line(alloc, b"+OK");
+        let reply = line(alloc, b"+OK")?;
+        talk.name = Vec::from_slice(alloc, argument(command, 2))?;
+        return Ok(reply);
     }
     if is_word(command, 1, b"GETNAME") {
-        let name = if guest.name.is_empty() {
-            Value::Nil
-        } else {
-            bulk(alloc, &guest.name)?
-        };
-        return Ok(value(alloc, guest, name));
+        return Ok(value(alloc, talk.protocol, name_of(alloc, talk)?));
     }
     if is_word(command, 1, b"ID") {
         return line(alloc, b":1");
@@ -152,13 +169,4 @@ pub(crate) fn refuse(alloc: Global, command: &Cmd) -> Result<Reply, AllocError> 
     }
     bytes.extend_from_slice(b"\r\n")?;
     Ok(Reply::Written(bytes))
-}
-
-/// The commands since MULTI, which ends.
-pub(crate) fn take_queued(alloc: Global, guest: &mut Guest) -> Vec<Cmd> {
-    guest.is_aborted = false;
-    match mem::replace(&mut guest.queued, None) {
-        Some(queued) => queued,
-        None => Vec::new(alloc),
-    }
 }

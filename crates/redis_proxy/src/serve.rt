@@ -1,4 +1,5 @@
 //! The program's loop: input, turns of the cluster, output.
+use crate::cluster::Cluster;
 use crate::session::Session;
 use crate::side::Side;
 use anyhow::Result;
@@ -14,13 +15,16 @@ const PIECE: usize = 65536;
 // How often what waits is asked, the last time without patience.
 const TURNS: u8 = 8;
 
-/// Sees to it that the links of a side are open and its slot map is known.
+/// Sees to it that the links of a side are open and its slot map is known, if a guest speaks its protocol.
 fn restore<R: Files + AllocGlobal>(
     rt: &R,
     folder: &str,
     peers: &mut Vec<Peer>,
     side: &mut Side<Link<R::File>>,
 ) -> Result<()> {
+    if !side.is_used {
+        return Ok(());
+    }
     let client = &mut side.servers.client;
     if relink(rt, folder, peers, client, Some(&side.greeting))? || client.needs_refresh() {
         side.refresh(rt.alloc(), peers);
@@ -28,20 +32,20 @@ fn restore<R: Files + AllocGlobal>(
     Ok(())
 }
 
-/// Asks what waits of the guests of one protocol.
+/// Asks what waits of all guests, over the links that can be had.
 fn turn<R: Files + AllocGlobal>(
     rt: &R,
     folder: &str,
-    peers: &mut Vec<Peer>,
-    side: &mut Side<Link<R::File>>,
+    session: &mut Session<Link<R::File>>,
     is_patient: bool,
 ) -> Result<()> {
-    if !side.is_used {
-        return Ok(());
-    }
-    side.servers.patient = is_patient;
-    side.proxy.turn(rt.alloc(), &mut side.servers)?;
-    restore(rt, folder, peers, side)
+    let Session { cluster, peers, .. } = session;
+    restore(rt, folder, peers, &mut cluster.two)?;
+    restore(rt, folder, peers, &mut cluster.three)?;
+    cluster.two.servers.patient = is_patient;
+    cluster.three.servers.patient = is_patient;
+    session.proxy.turn(rt.alloc(), &mut session.cluster)?;
+    Ok(())
 }
 
 /// Asks what waits until all is answered, `TURNS` times at most; whether something waits still.
@@ -55,14 +59,7 @@ fn settle<R: Files + AllocGlobal>(
             return Ok(false);
         }
         let is_patient = number.saturating_add(1) < TURNS;
-        turn(rt, folder, &mut session.peers, &mut session.two, is_patient)?;
-        turn(
-            rt,
-            folder,
-            &mut session.peers,
-            &mut session.three,
-            is_patient,
-        )?;
+        turn(rt, folder, session, is_patient)?;
     }
     session.read_for_all()
 }
@@ -96,18 +93,11 @@ fn session_of<R: Files + AllocGlobal>(
     is_framed: bool,
 ) -> Result<Session<Link<R::File>>> {
     let alloc = rt.alloc();
-    let mut session = Session {
-        two: Side::new(alloc, Protocol::Resp2)?,
-        three: Side::new(alloc, Protocol::Resp3)?,
-        peers: listed(rt, folder)?,
-        guests: Vec::new(alloc),
-        is_framed,
-        frames: Vec::new(alloc),
-        output: Vec::new(alloc),
-    };
-    session.two.is_used = true;
-    restore(rt, folder, &mut session.peers, &mut session.two)?;
-    Ok(session)
+    let mut two = Side::new(alloc, Protocol::Resp2)?;
+    two.is_used = true;
+    let three = Side::new(alloc, Protocol::Resp3)?;
+    let cluster = Cluster { two, three };
+    Ok(Session::new(alloc, cluster, listed(rt, folder)?, is_framed))
 }
 
 /// Takes the guests' bytes until they end.
@@ -133,7 +123,7 @@ pub(crate) fn serve<R: Files + Env + Input + Print + AllocGlobal>(rt: &R) -> Res
         }
         answer(rt, folder, &mut session)?;
         flush(rt, &mut session.output)?;
-        if session.is_over() {
+        if session.has_ended() {
             break;
         }
     }

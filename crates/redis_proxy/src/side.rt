@@ -1,8 +1,8 @@
 //! The cluster as guests of one protocol see it.
 use cluster_client::{ClusterClient, Cmd, ConnectionLike, RedisError, command};
-use cluster_servers::{ClusterServers, GuestCommand, Reply};
+use cluster_servers::ClusterServers;
 use node_files::Peer;
-use proxy_core::{Limits, Proxy, Room};
+use proxy_core::{Limits, Room};
 use resp_core::Protocol;
 use std::alloc::{AllocError, Global};
 
@@ -12,7 +12,8 @@ const BUDGET: u16 = 5;
 /// How many guests there may be.
 pub(crate) const MOST_GUESTS: usize = 10_000;
 
-const LIMITS: Limits = Limits {
+/// What each of them may have in the proxy.
+pub(crate) const LIMITS: Limits = Limits {
     guests: MOST_GUESTS,
     share: Room {
         entries: 10_000,
@@ -20,10 +21,9 @@ const LIMITS: Limits = Limits {
     },
 };
 
-/// The guests that speak a protocol, and a client whose links speak it.
+/// A client whose links speak one protocol.
 #[derive(Drop)]
 pub(crate) struct Side<L> {
-    pub(crate) proxy: Proxy<GuestCommand, Reply>,
     pub(crate) servers: ClusterServers<L>,
     /// What each new link's node has to answer.
     pub(crate) greeting: Cmd,
@@ -43,11 +43,10 @@ fn greeting_of(alloc: Global, protocol: Protocol) -> Result<Cmd, AllocError> {
 }
 
 impl<L: ConnectionLike + Drop> Side<L> {
-    /// A side without a guest and without links.
+    /// A side without links.
     pub(crate) fn new(alloc: Global, protocol: Protocol) -> Result<Side<L>, RedisError> {
         let client = ClusterClient::new(alloc, Vec::new(alloc), Vec::new(alloc), BUDGET)?;
         Ok(Side {
-            proxy: Proxy::new(alloc, LIMITS),
             servers: ClusterServers::new(client),
             greeting: greeting_of(alloc, protocol)?,
             is_used: false,

@@ -15,6 +15,6 @@ returns-clause-ok g c =
     let old = c.args.proxy.now in
     let same : c.understand.new.self.guest ≡ c.args.self.now.guest = c.understand.ensures.guest ∙ c.hear.ensures.guest in
     let put = subst (λ n. Advances w g.C.Bytes.bytes g.V.Bytes.bytes old.limits.share (is_open_at (openings old.guests.items) n) n c.understand.new.self c.put.new.self
-        (queues old.guests.items) (queues c.put.new.proxy.guests.items) c.in_ok-progress-2.progress) same c.in_ok-progress-2.ensures.ok in
+    (queues old.guests.items) (queues c.put.new.proxy.guests.items) c.in_ok-progress-2.progress) same c.in_ok-progress-2.ensures.ok in
     advances_behind _ _ _ _ _ _ c.understand.new.self c.put.new.self _ _ c.args.self.now c.in_ok-progress-2.progress
-        (λ q h s. c.understand.ensures.stays q h (c.hear.ensures.stays q h s)) put
+    (λ q h s. c.understand.ensures.stays q h (c.hear.ensures.stays q h s)) put

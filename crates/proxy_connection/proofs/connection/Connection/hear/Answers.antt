@@ -11,6 +11,6 @@ returns-in-Err-Protocol-clause-stays g c = λ q h s.
     let told = ap Err c.in-Err-Protocol.field-0-is in
     let fault = c.in-Err-Protocol.fault in
     heard_fault _ c.args.self.now q h c.take_command.new.self fault nothing c.if-self.false
-        ((c.in-Err-Protocol.ensures.told fault).0 told)
-        c.in-Err-Protocol.ensures.limits
-        (λ commands r. (c.in-Err-Protocol.ensures.fault fault told commands h.fed r).1) s
+    ((c.in-Err-Protocol.ensures.told fault).0 told)
+    c.in-Err-Protocol.ensures.limits
+    (λ commands r. (c.in-Err-Protocol.ensures.fault fault told commands h.fed r).1) s

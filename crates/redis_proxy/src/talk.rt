@@ -1,0 +1,175 @@
+//! What a guest's words mean.
+ghost use Rattle.std.specs.Prelude.{◌≡◌, OnErr};
+
+use crate::ask::Ask;
+use crate::own::{self, line, refuse};
+use crate::queued::Queued;
+use crate::way::{Own, Way, way_of};
+use cluster_client::Cmd;
+use cluster_servers::Reply;
+use proxy_connection::Translator;
+use proxy_core::Entry;
+use resp_core::Protocol;
+use resp_requests::Fault;
+use std::alloc::{AllocError, Global};
+use std::mem;
+
+/// What a guest said that counts for its later words.
+#[derive(Drop)]
+pub(crate) struct Talk {
+    pub(crate) protocol: Protocol,
+    pub(crate) name: Vec<u8>,
+    /// The commands since MULTI.
+    pub(crate) queued: Option<Queued>,
+    pub(crate) has_ended: bool,
+}
+
+impl Talk {
+    pub(crate) fn new(alloc: Global) -> Talk {
+        Talk {
+            protocol: Protocol::Resp2,
+            name: Vec::new(alloc),
+            queued: None,
+            has_ended: false,
+        }
+    }
+
+    /// What a command outside a transaction puts into the queue.
+    fn plain(
+        &mut self,
+        alloc: Global,
+        way: Way,
+        command: Cmd,
+    ) -> Result<Entry<Ask, Reply>, AllocError>
+        ensures err { OnErr result (self.new ≡ self.old) }
+    {
+        match way {
+            Way::Keyed => Ok(Entry::Waits(Ask::together(alloc, command, self.protocol)?)),
+            Way::Refused => Ok(Entry::Reads(refuse(alloc, &command)?)),
+            Way::Own(own) => Ok(Entry::Reads(own::answer(alloc, self, own, &command)?)),
+            Way::Several | Way::AnyNode | Way::FirstNode | Way::Scan => Ok(Entry::Waits(Ask::alone(
+                alloc,
+                way,
+                command,
+                self.protocol,
+            )?)),
+        }
+    }
+
+    /// What a command behind MULTI puts into the queue.
+    fn behind_multi(
+        &mut self,
+        alloc: Global,
+        way: Way,
+        command: Cmd,
+    ) -> Result<Entry<Ask, Reply>, AllocError>
+        ensures err { OnErr result (self.new ≡ self.old) }
+    {
+        match way {
+            Way::Own(Own::Exec) => self.exec(alloc, command),
+            Way::Own(Own::Discard) => {
+                let reply = line(alloc, b"+OK")?;
+                self.queued = None;
+                Ok(Entry::Reads(reply))
+            }
+            Way::Own(Own::Multi) => Ok(Entry::Reads(line(
+                alloc,
+                b"-ERR MULTI calls can not be nested",
+            )?)),
+            Way::Own(Own::Reset | Own::Quit) => self.plain(alloc, way, command),
+            Way::Keyed => self.queue(alloc, command),
+            _ => self.abort(alloc),
+        }
+    }
+
+    fn queue(&mut self, alloc: Global, command: Cmd) -> Result<Entry<Ask, Reply>, AllocError>
+        ensures err { OnErr result (self.new ≡ self.old) }
+    {
+        let reply = line(alloc, b"+QUEUED")?;
+        if let Some(queued) = &mut self.queued {
+            queued.add(alloc, command)?;
+        }
+        Ok(Entry::Reads(reply))
+    }
+
+    fn abort(&mut self, alloc: Global) -> Result<Entry<Ask, Reply>, AllocError>
+        ensures err { OnErr result (self.new ≡ self.old) }
+    {
+        let reply = line(
+            alloc,
+            b"-ERR proxy: this command is not served behind MULTI",
+        )?;
+        if let Some(queued) = &mut self.queued {
+            queued.is_aborted = true;
+        }
+        Ok(Entry::Reads(reply))
+    }
+
+    fn exec(&mut self, alloc: Global, exec: Cmd) -> Result<Entry<Ask, Reply>, AllocError>
+        ensures err { OnErr result (self.new ≡ self.old) }
+    {
+        let (is_aborted, is_empty) = match &self.queued {
+            Some(queued) => (queued.is_aborted, queued.commands.is_empty()),
+            None => (false, true),
+        };
+        if is_aborted || is_empty {
+            let reply = nothing_done(alloc, is_aborted)?;
+            self.queued = None;
+            return Ok(Entry::Reads(reply));
+        }
+        let ask = Ask::together(alloc, exec, self.protocol)?;
+        match mem::replace(&mut self.queued, None) {
+            Some(queued) => Ok(Entry::Waits(ask.with_queued(queued.commands, queued.bytes))),
+            None => Ok(Entry::Waits(ask)),
+        }
+    }
+}
+
+/// What EXEC answers where no command is asked.
+fn nothing_done(alloc: Global, is_aborted: bool) -> Result<Reply, AllocError> {
+    if is_aborted {
+        let why = b"-EXECABORT Transaction discarded because of previous errors.";
+        line(alloc, why)
+    } else {
+        line(alloc, b"*0")
+    }
+}
+
+fn command_of(alloc: Global, words: &[Vec<u8>]) -> Result<Cmd, AllocError> {
+    let mut command = Cmd::with_capacity(alloc, words.len(), 0)?;
+    for word in words {
+        command.arg(word.as_slice())?;
+    }
+    Ok(command)
+}
+
+impl Translator<Ask, Reply> for Talk {
+    ghost translates = { λ old words entry new. Unit {0} };
+
+    ghost refuses = { λ talk fault reply. Unit {0} };
+
+    ghost has_ended = { λ talk. talk.has_ended };
+
+    fn translate(
+        &mut self,
+        alloc: Global,
+        words: &[Vec<u8>],
+    ) -> Result<Entry<Ask, Reply>, AllocError> {
+        let command = command_of(alloc, words)?;
+        let way = way_of(alloc, &command)?;
+        if self.queued.is_some() {
+            return self.behind_multi(alloc, way, command);
+        }
+        self.plain(alloc, way, command)
+    }
+
+    fn refuse(&self, alloc: Global, fault: Fault) -> Result<Reply, AllocError> {
+        let mut text = Vec::from_slice(alloc, b"-ERR ")?;
+        text.extend_from_slice(&fault.message(alloc)?)?;
+        line(alloc, &text)
+    }
+
+    fn has_ended(&self) -> bool {
+        self.has_ended
+    }
+}
