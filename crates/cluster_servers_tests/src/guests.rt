@@ -38,7 +38,7 @@ fn link(alloc: Global, has_map: bool, bytes: &[u8]) -> Result<Link, AllocError> 
 }
 
 /// A client that knows both nodes, with a link to n2:7002 only where bytes come from there.
-fn client(
+pub(crate) fn client(
     alloc: Global,
     first: &[u8],
     second: Option<&[u8]>,

@@ -2,6 +2,12 @@
 #![tactic(auto)]
 
 #[cfg(test)]
+mod bytes;
+#[cfg(test)]
 mod guests;
+#[cfg(test)]
+mod memory;
+#[cfg(test)]
+mod pieces;
 #[cfg(test)]
 mod turns;
