@@ -136,6 +136,9 @@ impl<L: ConnectionLike + Drop> Session<L> {
 
     /// Takes what a guest asked, as far as there is room; whether there was something to take.
     fn advance(&mut self, alloc: Global, guest: &mut Guest) -> Result<bool> {
+        if guest.has_ended {
+            return Ok(false);
+        }
         let Some(connection) = &mut guest.connection else {
             return Ok(false);
         };
