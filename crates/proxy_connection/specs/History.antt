@@ -5,8 +5,8 @@ use Rattle.proxy_core.specs.declared.outcome.Outcome.{Outcome}
 use Rattle.proxy_core.specs.declared.queue.Entry.{Entry}
 use Rattle.proxy_core.specs.Sees.{Event, Came, Told, Renewed}
 
--- under which limits it sends, how its words were understood when it joined, the bytes that it sent, those that were written to it, and what
--- happened to its queue, in order
+-- under which limits it sends, how its words were understood when it joined, the bytes that it sent, those that
+-- were written to it, and what happened to its queue, in order
 pub record History (T C V : Type 0) : Type 0 where
   pub limits : Limits
   pub translator : T

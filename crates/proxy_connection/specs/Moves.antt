@@ -45,8 +45,8 @@ Advances w command reply share is_there g old new qs qs' Ended =
     Keeps w g old new qs qs' × (new.pending ≡ pendings.Nothing) × (is_ended w new ≡ true)
 Advances w command reply share is_there g old new qs qs' NoGuest = Keeps w g old new qs qs' × (is_there ≡ false)
 
--- What came of looking for bytes to write to guest g: those that are left of the reply that is going out, or, where none are,
--- those of the next reply; or no reply is there.
+-- What came of looking for bytes to write to guest g: those that are left of the reply that is going out, or,
+-- where none are, those of the next reply; or no reply is there.
 abbrev pub Fetches : {T C V : Type 0} → Ways T C V → ℕ → Connection T C V → Connection T C V → Queues C V
     → Queues C V → Bool → Type 0
 Fetches {T} {C} {V} w g old new qs qs' true = ((new ≡ old) × (qs' ≡ qs) × (rest_of w.written old.reply old.count ≢ []))
