@@ -35,12 +35,15 @@ def wait_for(seconds, test):
     return False
 
 
-def start_cluster(folder, timeout=2000):
-    """Three masters and a replica of each; one that is silent for `timeout` milliseconds is taken for dead."""
+def start_cluster(folder, timeout=2000, more=""):
+    """Three masters and a replica of each; one that is silent for `timeout` milliseconds is taken for dead. `more` are
+    further options of each server."""
     servers = {}
     for port in PORTS:
-        options = f"--port {port} --bind {HOST} --dir {folder} --cluster-enabled yes --cluster-node-timeout {timeout}"
-        options += f" --cluster-config-file nodes-{port} --appendonly no"
+        own = os.path.join(folder, str(port))
+        os.mkdir(own)
+        options = f"--port {port} --bind {HOST} --dir {own} --cluster-enabled yes --cluster-node-timeout {timeout}"
+        options += f" --appendonly no {more}"
         words = ["redis-server", *options.split(), "--save", ""]
         servers[port] = subprocess.Popen(words, stdout=subprocess.DEVNULL, stderr=subprocess.DEVNULL)
     if not wait_for(20, lambda: all(cli(port, "ping") == "PONG\n" for port in PORTS)):

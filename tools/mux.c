@@ -5,6 +5,9 @@
    frames for guests. A frame of none ends a guest: each side sends one for each guest, and once both did, its number is
    free. While much waits for the program no guest is read. A guest for which too much waits is closed.
 
+   A frame of the program for the number 4294967295 holds a delay in milliseconds, of four bytes. That much later, or
+   sooner where it asked for that before, the program gets a frame of that number, with the time in eight bytes.
+
    It takes guests at 127.0.0.1, and ends when the program does, with its status. */
 #define _GNU_SOURCE
 #include <arpa/inet.h>
@@ -20,6 +23,7 @@
 #include <sys/epoll.h>
 #include <sys/socket.h>
 #include <sys/wait.h>
+#include <time.h>
 #include <unistd.h>
 
 enum {
@@ -31,6 +35,8 @@ enum {
     /* So many bytes may wait for a guest. */
     TOO_MUCH = 1 << 28,
 };
+
+static const uint32_t CLOCK = UINT32_MAX;
 
 /* What an event is about: a guest's number, or one of these. */
 enum { LISTENER = MOST_GUESTS, FROM_PROGRAM, TO_PROGRAM, GUESTS };
@@ -62,6 +68,8 @@ static struct guest guests[MOST_GUESTS];
 /* Guests are waited for by themselves, so that all can be left out at once. */
 static int waiting, guests_waiting, are_read;
 static int to_program, from_program, program_waits;
+/* When the program wants to know the time; 0: it does not. */
+static int64_t alarm_at;
 static struct bytes for_program, frames;
 
 static void end(const char *why) {
@@ -189,18 +197,48 @@ static void end_guest(uint32_t number) {
     }
 }
 
+/* Milliseconds since some moment. */
+static int64_t now(void) {
+    struct timespec time;
+    clock_gettime(CLOCK_MONOTONIC, &time);
+    return (int64_t)time.tv_sec * 1000 + time.tv_nsec / 1000000;
+}
+
+static void set_alarm(const void *bytes, uint32_t count) {
+    uint32_t delay = 0;
+    if (count == sizeof delay) memcpy(&delay, bytes, sizeof delay);
+    int64_t at = now() + delay;
+    if (!alarm_at || at < alarm_at) alarm_at = at;
+}
+
+/* How long to wait for an event: for ever where no alarm is set. */
+static int patience(void) {
+    if (!alarm_at) return -1;
+    int64_t left = alarm_at - now();
+    return left < 0 ? 0 : (int)left;
+}
+
+static void ring(void) {
+    int64_t time = now();
+    if (!alarm_at || time < alarm_at) return;
+    alarm_at = 0;
+    put_frame(CLOCK, &time, sizeof time);
+}
+
 /* Hands out the program's frames as far as they are whole. */
 static void hand_out(void) {
     while (left_in(&frames) >= HEAD) {
         uint32_t head[2];
         memcpy(head, frames.at + frames.start, HEAD);
         uint32_t number = head[0], count = head[1];
-        if (number >= MOST_GUESTS) {
+        if (number >= MOST_GUESTS && number != CLOCK) {
             fprintf(stderr, "mux: the program wrote no frame\n");
             exit(1);
         }
         if (left_in(&frames) - HEAD < count) break;
-        if (!count)
+        if (number == CLOCK)
+            set_alarm(frames.at + frames.start + HEAD, count);
+        else if (!count)
             end_guest(number);
         else if (guests[number].state == OPEN) {
             put(&guests[number].out, frames.at + frames.start + HEAD, count);
@@ -289,12 +327,13 @@ int main(int count, char **words) {
     are_read = 1;
     for (;;) {
         struct epoll_event events[8];
-        int ready = epoll_wait(waiting, events, 8, -1);
+        int ready = epoll_wait(waiting, events, 8, patience());
         for (int i = 0; i < ready; i++) {
             if (events[i].data.u32 == LISTENER) let_in(listener);
             if (events[i].data.u32 == FROM_PROGRAM) read_program();
             if (events[i].data.u32 == GUESTS) take_guests();
         }
+        ring();
         serve_program();
     }
 }

@@ -2,7 +2,8 @@
 ghost use Rattle.std.specs.Prelude.{◌≡◌};
 ghost use Rattle.cluster_servers.specs.Slots.{overlap, slots_of};
 
-use crate::way::Way;
+use crate::block::Block;
+use crate::way::{Way, argument_count, is_word};
 use cluster_client::Cmd;
 use cluster_servers::GuestCommand;
 use proxy_core::{Bytes, Command};
@@ -18,6 +19,9 @@ pub(crate) enum How {
     Alone(Way, Cmd),
     /// As a transaction, behind all that its guest asked before.
     Exec(Vec<Cmd>),
+    /// Again and again until there is something to take, behind all that its guest asked before. The guest
+    /// has this id.
+    Wait(Block, i64),
 }
 
 /// A command of a guest, and the protocol in which the guest reads its reply.
@@ -26,6 +30,8 @@ pub(crate) struct Ask {
     pub(crate) command: GuestCommand,
     pub(crate) how: How,
     pub(crate) protocol: Protocol,
+    /// Whether a server tells nil as a list that is none, where the protocol has both.
+    pub(crate) has_no_list: bool,
     bytes: usize,
 }
 
@@ -36,12 +42,14 @@ impl Ask {
         command: Cmd,
         protocol: Protocol,
     ) -> Result<Ask, AllocError> {
+        let has_no_list = tells_no_list(&command);
         let command = GuestCommand::new(alloc, command, protocol)?;
         let bytes = command.bytes();
         Ok(Ask {
             command,
             how: How::Together,
             protocol,
+            has_no_list,
             bytes,
         })
     }
@@ -60,6 +68,26 @@ impl Ask {
             command,
             how,
             protocol,
+            has_no_list: false,
+            bytes,
+        })
+    }
+
+    /// A command that waits, of the guest of an id.
+    pub(crate) fn wait(
+        alloc: Global,
+        block: Block,
+        id: i64,
+        command: Cmd,
+        protocol: Protocol,
+    ) -> Result<Ask, AllocError> {
+        let command = GuestCommand::new(alloc, command, protocol)?;
+        let bytes = command.bytes().saturating_mul(3);
+        Ok(Ask {
+            command,
+            how: How::Wait(block, id),
+            protocol,
+            has_no_list: true,
             bytes,
         })
     }
@@ -70,9 +98,21 @@ impl Ask {
             command: self.command,
             how: How::Exec(queued),
             protocol: self.protocol,
+            has_no_list: false,
             bytes: self.bytes.saturating_add(bytes),
         }
     }
+}
+
+/// Whether a server tells nil in place of a list: of what pops from several keys, or a count of items, and of what reads
+/// streams.
+fn tells_no_list(command: &Cmd) -> bool {
+    for word in [b"LMPOP".as_slice(), b"ZMPOP", b"XREAD", b"XREADGROUP"] {
+        if is_word(command, 0, word) {
+            return true;
+        }
+    }
+    (is_word(command, 0, b"LPOP") || is_word(command, 0, b"RPOP")) && argument_count(command) > 2
 }
 
 impl Bytes for Ask {

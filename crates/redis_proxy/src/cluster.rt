@@ -1,10 +1,13 @@
 //! The cluster as the servers of all guests.
 use crate::ask::{Ask, How};
-use crate::held::ask_alone;
+use crate::held::{Around, ask_alone};
 use crate::side::Side;
+use crate::unblock::unblock;
+use crate::waits::Waits;
+use crate::way::Way;
 use cluster_client::ConnectionLike;
 use cluster_servers::{GuestCommand, Reply};
-use proxy_core::{Asked, Fate, Outcome, Servers};
+use proxy_core::{Asked, Command, Fate, Outcome, Servers};
 use resp_core::{Protocol, WriteError};
 use std::alloc::{AllocError, Global};
 use std::collections::VecDeque;
@@ -14,6 +17,11 @@ use std::collections::VecDeque;
 pub(crate) struct Cluster<L> {
     pub(crate) two: Side<L>,
     pub(crate) three: Side<L>,
+    pub(crate) waits: Waits,
+    /// How many commands were asked by themselves, for what goes to the nodes in turn.
+    pub(crate) alone: usize,
+    /// Whether the last turn left nothing but commands that wait for what is not there yet, and what stands behind these.
+    pub(crate) is_settled: bool,
 }
 
 /// When a command of a batch is asked.
@@ -23,8 +31,18 @@ enum Time {
     Together(Protocol),
     /// By itself, behind these.
     Alone,
+    /// By itself, behind all others, until there is something to take.
+    Waits,
     /// In another turn, since it goes alone, or behind one that does, or in another protocol than those before.
     Later,
+}
+
+/// Outcomes of a batch, by the time at which each was asked.
+#[derive(Drop)]
+struct Told {
+    two: VecDeque<Outcome<Reply>>,
+    three: VecDeque<Outcome<Reply>>,
+    alone: VecDeque<Outcome<Reply>>,
 }
 
 /// When each command of a batch is asked, in which those of a guest stand together. Those of a guest that go
@@ -45,6 +63,8 @@ fn times_of(alloc: Global, batch: &[Asked<'_, Ask>]) -> Result<Vec<Time>, AllocE
         let waits = ask.protocol != protocol || is_alone && !is_first || is_barred && !is_first;
         times.push(if waits {
             Time::Later
+        } else if matches!(ask.how, How::Wait(..)) {
+            Time::Waits
         } else if is_alone {
             Time::Alone
         } else {
@@ -104,32 +124,128 @@ impl<L: ConnectionLike + Drop> Cluster<L> {
         }
     }
 
-    /// Asks each that is asked by itself, and puts the outcomes of all behind one another, as the batch stands.
-    fn tell_all(
+    /// Asks each that is asked by itself.
+    fn ask_each_alone(
         &mut self,
         alloc: Global,
         batch: &[Asked<'_, Ask>],
         times: &[Time],
-        mut two: VecDeque<Outcome<Reply>>,
-        mut three: VecDeque<Outcome<Reply>>,
-        outcomes: &mut Vec<Outcome<Reply>>,
+        alone: &mut VecDeque<Outcome<Reply>>,
     ) {
         for (asked, time) in batch.iter().zip(times.iter()) {
-            let outcome = match time {
-                Time::Together(Protocol::Resp2) => two.pop_front(),
-                Time::Together(Protocol::Resp3) => three.pop_front(),
-                Time::Alone => {
+            if !matches!(time, Time::Alone) {
+                continue;
+            }
+            let outcome = match &asked.command.how {
+                How::Alone(Way::Unblock, command) => unblock(alloc, &mut self.waits, command),
+                _ => {
+                    let around = Around {
+                        waiting: self.waits.count(),
+                        number: self.alone,
+                    };
+                    self.alone = self.alone.wrapping_add(1);
                     let client = &mut self.side(asked.command.protocol).servers.client;
-                    Some(ask_alone(alloc, client, asked.command))
+                    ask_alone(alloc, client, asked.command, around)
                 }
-                Time::Later => None,
             };
-            let _full = outcomes.push(match outcome {
-                Some(outcome) => outcome,
-                None => not_asked(),
-            });
+            let _full = alone.push_back(outcome);
         }
     }
+
+    /// Takes note of those that wait: those that are new are tried, and behind the others of the batch also those for
+    /// which one of these may have put something there.
+    fn note_waits(
+        &mut self,
+        alloc: Global,
+        batch: &[Asked<'_, Ask>],
+        times: &[Time],
+        is_behind: bool,
+    ) {
+        for (asked, time) in batch.iter().zip(times.iter()) {
+            if matches!(time, Time::Waits)
+                && let How::Wait(block, id) = &asked.command.how
+            {
+                let is_touched = is_behind && touches(batch, times, asked.command);
+                let protocol = asked.command.protocol;
+                let guest = asked.guest;
+                // Without memory it is noted in another turn.
+                let _noted = self
+                    .waits
+                    .note(alloc, guest, *id, protocol, block, is_touched);
+            }
+        }
+    }
+
+    /// Tries those that are to be tried.
+    fn try_waits(&mut self, alloc: Global) {
+        let Cluster {
+            two,
+            three,
+            waits,
+            ..
+        } = self;
+        waits.try_all(alloc, &mut two.servers.client, &mut three.servers.client);
+    }
+
+    /// Puts the outcomes of all behind one another, as the batch stands.
+    fn tell_all(
+        &mut self,
+        batch: &[Asked<'_, Ask>],
+        times: &[Time],
+        mut told: Told,
+        outcomes: &mut Vec<Outcome<Reply>>,
+    ) {
+        self.is_settled = true;
+        let mut waiting = None;
+        for (asked, time) in batch.iter().zip(times.iter()) {
+            let outcome = match time {
+                Time::Together(Protocol::Resp2) => told.two.pop_front(),
+                Time::Together(Protocol::Resp3) => told.three.pop_front(),
+                Time::Alone => told.alone.pop_front(),
+                Time::Waits => self.waits.take(asked.guest),
+                Time::Later => None,
+            };
+            if matches!(time, Time::Waits) && outcome.is_none() {
+                waiting = Some(asked.guest);
+            }
+            let outcome = match outcome {
+                Some(outcome) => outcome,
+                None => not_asked(),
+            };
+            let outcome = in_form(asked.command, outcome);
+            let is_done = matches!(outcome.fate, Fate::Answered | Fate::Lost);
+            self.is_settled = self.is_settled && (is_done || waiting == Some(asked.guest));
+            let _full = outcomes.push(outcome);
+        }
+    }
+}
+
+/// The outcome with nil in the form in which a server tells it in RESP2.
+fn in_form(ask: &Ask, outcome: Outcome<Reply>) -> Outcome<Reply> {
+    let Outcome { fate, reply } = outcome;
+    let reply = match reply {
+        Reply::Written(mut bytes) => {
+            if ask.has_no_list
+                && bytes.as_slice() == b"$-1\r\n".as_slice()
+                && let Some(first) = bytes.first_mut()
+            {
+                *first = b'*';
+            }
+            Reply::Written(bytes)
+        }
+        other => other,
+    };
+    Outcome { fate, reply }
+}
+
+/// Whether a batch has another command that was asked and may have put something there for one that waits.
+fn touches(batch: &[Asked<'_, Ask>], times: &[Time], waiting: &Ask) -> bool {
+    for (asked, time) in batch.iter().zip(times.iter()) {
+        if matches!(time, Time::Together(_) | Time::Alone) && asked.command.overlaps(waiting) {
+            return true;
+        }
+    }
+    false
 }
 
 impl<L: ConnectionLike + Drop> Servers<Ask, Reply> for Cluster<L> {
@@ -144,13 +260,20 @@ impl<L: ConnectionLike + Drop> Servers<Ask, Reply> for Cluster<L> {
         let times = times_of(alloc, batch)?;
         let two = part_of(alloc, batch, &times, Protocol::Resp2)?;
         let three = part_of(alloc, batch, &times, Protocol::Resp3)?;
+        let mut alone = VecDeque::from_vec(Vec::with_capacity(alloc, batch.len())?);
+        self.note_waits(alloc, batch, &times, false);
+        self.try_waits(alloc);
         let two = self.two.ask(alloc, &two)?;
         // From here on each command has an outcome: without memory the others wait.
         let three = match self.three.ask(alloc, &three) {
             Ok(told) => told,
             Err(_) => VecDeque::new(alloc),
         };
-        self.tell_all(alloc, batch, &times, two, three, &mut outcomes);
+        self.ask_each_alone(alloc, batch, &times, &mut alone);
+        self.note_waits(alloc, batch, &times, true);
+        self.try_waits(alloc);
+        let told = Told { two, three, alone };
+        self.tell_all(batch, &times, told, &mut outcomes);
         outcomes.truncate(batch.len());
         'rest: for place in outcomes.len()..batch.len() {
             outcomes.push(not_asked())?;

@@ -1,6 +1,9 @@
 //! Frames: the bytes of many guests in one stream.
 use std::alloc::{AllocError, Global};
 
+/// The number by which the clock is asked and tells the time. No guest has it.
+pub(crate) const CLOCK: u32 = u32::MAX;
+
 /// Bytes of a guest, none where it ends.
 #[derive(Clone, Copy)]
 pub(crate) struct Frame<'a> {
@@ -39,6 +42,20 @@ pub(crate) fn put_frames(out: &mut Vec<u8>, guest: u32, bytes: &[u8]) -> Result<
 /// Appends the frame that ends a guest.
 pub(crate) fn put_end(out: &mut Vec<u8>, guest: u32) -> Result<(), AllocError> {
     put_head(out, guest, 0)
+}
+
+/// Appends the frame that asks the clock to tell the time behind so many milliseconds.
+pub(crate) fn put_alarm(out: &mut Vec<u8>, delay: u32) -> Result<(), AllocError> {
+    put_head(out, CLOCK, 4)?;
+    out.extend_from_slice(&delay.to_le_bytes())
+}
+
+/// The time that the clock tells, in milliseconds since some moment, of eight bytes with the lowest first.
+pub(crate) fn time_of(bytes: &[u8]) -> Option<u64> {
+    match bytes {
+        [a, b, c, d, e, f, g, h] => Some(u64::from_le_bytes([*a, *b, *c, *d, *e, *f, *g, *h])),
+        _ => None,
+    }
 }
 
 /// The bytes behind those that were taken.

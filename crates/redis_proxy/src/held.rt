@@ -1,23 +1,136 @@
 //! Commands that are asked by themselves.
 use crate::ask::{Ask, How};
+use crate::block::{flat_by, waits, without_waiting};
+use crate::info::with_waiting;
 use crate::own::refuse;
 use crate::scan::{primaries, scan};
-use crate::way::Way;
+use crate::way::{Way, argument, is_word};
 use anyhow::Result;
-use cluster_client::{Cause, ClusterClient, Cmd, ConnectionLike, RedisError, Value};
+use cluster_client::{Cause, ClusterClient, Cmd, ConnectionLike, NodeAddress, RedisError, Value};
+use cluster_routing::Slot;
 use cluster_servers::Reply;
 use proxy_core::{Fate, Outcome};
 use resp_core::WriteError;
 use std::alloc::Global;
 
-fn ask_first<L: ConnectionLike + Drop>(
+/// What is known of the proxy where a command is asked by itself.
+#[derive(Clone, Copy)]
+pub(crate) struct Around {
+    /// How many guests wait.
+    pub(crate) waiting: usize,
+    /// How many commands were asked by themselves before.
+    pub(crate) number: usize,
+}
+
+/// Asks a node, and where it names another one by MOVED, that one.
+fn ask_at<L: ConnectionLike + Drop>(
+    alloc: Global,
+    client: &mut ClusterClient<L>,
+    node: &NodeAddress,
+    command: &Cmd,
+) -> Result<Value, RedisError> {
+    let told: Result<Value, RedisError> = client.query_at(alloc, node, command);
+    let moved = match &told {
+        Err(error) => match (error.code(), error.redirect_node()) {
+            (Some("MOVED"), Some((node, _))) => NodeAddress::try_from(alloc, node)?,
+            _ => return told,
+        },
+        Ok(_) => return told,
+    };
+    client.query_at(alloc, &moved, command)
+}
+
+/// Asks the first primary.
+pub(crate) fn ask_first<L: ConnectionLike + Drop>(
     alloc: Global,
     client: &mut ClusterClient<L>,
     command: &Cmd,
 ) -> Result<Value, RedisError> {
     let nodes = primaries(alloc, client)?;
     match nodes.first() {
-        Some(node) => client.query_at(alloc, node, command),
+        Some(node) => ask_at(alloc, client, node, command),
+        None => Err(RedisError::from(Cause::NoNode)),
+    }
+}
+
+/// Asks all primaries, one after the other: the answer is the first error, or what the last one told.
+fn ask_primaries<L: ConnectionLike + Drop>(
+    alloc: Global,
+    client: &mut ClusterClient<L>,
+    command: &Cmd,
+) -> Result<Value, RedisError> {
+    let mut told = Err(RedisError::from(Cause::NoNode));
+    for node in &primaries(alloc, client)? {
+        told = Ok(client.query_at(alloc, node, command)?);
+    }
+    told
+}
+
+/// Asks one primary after another, from that of a number on, until one answers something else than nil.
+fn ask_in_turn<L: ConnectionLike + Drop>(
+    alloc: Global,
+    client: &mut ClusterClient<L>,
+    number: usize,
+    command: &Cmd,
+) -> Result<Value, RedisError> {
+    let nodes = primaries(alloc, client)?;
+    let first = match number.checked_rem(nodes.len()) {
+        Some(first) => first,
+        None => return Err(RedisError::from(Cause::NoNode)),
+    };
+    for node in nodes.iter().skip(first).chain(nodes.iter().take(first)) {
+        match client.query_at(alloc, node, command)? {
+            Value::Nil => {}
+            told => return Ok(told),
+        }
+    }
+    Ok(Value::Nil)
+}
+
+/// Whether a command waits outside a transaction.
+fn any_waits(queued: &[Cmd]) -> bool {
+    for command in queued {
+        if waits(command) {
+            return true;
+        }
+    }
+    false
+}
+
+/// Asks a transaction in which nothing waits, as in each.
+fn ask_without_waiting<L: ConnectionLike + Drop>(
+    alloc: Global,
+    client: &mut ClusterClient<L>,
+    queued: &[Cmd],
+) -> Result<Value, RedisError> {
+    let mut commands = Vec::with_capacity(alloc, queued.len())?;
+    let mut depths = Vec::with_capacity(alloc, queued.len())?;
+    for command in queued {
+        let (command, depth) = without_waiting(alloc, command)?;
+        commands.push(command)?;
+        depths.push(depth)?;
+    }
+    let told: Value = client.transaction(alloc, &commands)?;
+    let Value::Array(items) = told else {
+        return Ok(told);
+    };
+    let mut flat = Vec::with_capacity(alloc, items.len())?;
+    for (item, depth) in items.into_iter().zip(depths) {
+        flat.push(flat_by(alloc, depth, item)?)?;
+    }
+    Ok(Value::Array(flat))
+}
+
+/// Asks the primary of a key.
+fn ask_of_key<L: ConnectionLike + Drop>(
+    alloc: Global,
+    client: &mut ClusterClient<L>,
+    key: &[u8],
+    command: &Cmd,
+) -> Result<Value, RedisError> {
+    let topology = client.topology(alloc)?;
+    match topology.shard_for_slot(Slot::for_key(key).number()) {
+        Some(shard) => ask_at(alloc, client, shard.primary(), command),
         None => Err(RedisError::from(Cause::NoNode)),
     }
 }
@@ -26,15 +139,27 @@ fn answer<L: ConnectionLike + Drop>(
     alloc: Global,
     client: &mut ClusterClient<L>,
     ask: &Ask,
+    around: Around,
 ) -> Result<Reply> {
     let told: Result<Value, RedisError> = match &ask.how {
-        How::Exec(queued) => client.transaction(alloc, queued),
+        How::Exec(queued) if !any_waits(queued) => client.transaction(alloc, queued),
+        How::Exec(queued) => ask_without_waiting(alloc, client, queued),
         How::Alone(Way::Several, command) => client.fan_out(alloc, command),
-        How::Alone(Way::AnyNode | Way::Keyed, command) => client.query(alloc, command, 0, None),
+        How::Alone(Way::InTurn, command) => ask_in_turn(alloc, client, around.number, command),
+        How::Alone(Way::Primaries, command) => ask_primaries(alloc, client, command),
+        How::Alone(Way::FirstNode, command) if is_word(command, 0, b"INFO") => {
+            match ask_first(alloc, client, command) {
+                Ok(told) => Ok(with_waiting(alloc, told, around.waiting)?),
+                Err(error) => Err(error),
+            }
+        }
         How::Alone(Way::FirstNode, command) => ask_first(alloc, client, command),
+        How::Alone(Way::ThirdWord, command) => {
+            ask_of_key(alloc, client, argument(command, 2), command)
+        }
         How::Alone(Way::Scan, command) => return scan(alloc, client, command, ask.protocol),
-        How::Alone(Way::Own(_) | Way::Refused, command) => return Ok(refuse(alloc, command)?),
-        How::Together => Err(RedisError::from(Cause::NoRoute)),
+        How::Alone(_, command) => return Ok(refuse(alloc, command)?),
+        How::Together | How::Wait(..) => Err(RedisError::from(Cause::NoRoute)),
     };
     Ok(Reply::new(alloc, told, ask.protocol))
 }
@@ -44,8 +169,9 @@ pub(crate) fn ask_alone<L: ConnectionLike + Drop>(
     alloc: Global,
     client: &mut ClusterClient<L>,
     ask: &Ask,
+    around: Around,
 ) -> Outcome<Reply> {
-    match answer(alloc, client, ask) {
+    match answer(alloc, client, ask, around) {
         Ok(reply) => Outcome {
             fate: Fate::Answered,
             reply,

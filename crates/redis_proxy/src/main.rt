@@ -3,7 +3,8 @@
 //!
 //! `redis_proxy FOLDER` serves one guest, whose bytes these are. `redis_proxy FOLDER --frames` serves many:
 //! the bytes are frames, each of a guest's number and a length, of four bytes with the lowest first, and so
-//! many bytes of that guest. A frame of none ends the guest.
+//! many bytes of that guest. A frame of none ends the guest. A frame for the number 4294967295 asks for the
+//! time behind so many milliseconds, and one of that number tells it.
 //!
 //! It opens no socket. The file `nodes` of the folder lists the nodes, `host:port` a line. For each node the
 //! folder has pairs of FIFOs, `host:port.0.to` and `host:port.0.from`, then `.1.`, and so on: another program
@@ -11,10 +12,13 @@
 #![tactic(auto)]
 
 mod ask;
+mod block;
 mod cluster;
 mod frames;
 mod guest;
 mod held;
+mod info;
+mod last_ids;
 mod own;
 mod queued;
 mod scan;
@@ -22,6 +26,8 @@ mod serve;
 mod session;
 mod side;
 mod talk;
+mod unblock;
+mod waits;
 mod way;
 
 use anyhow::Result;

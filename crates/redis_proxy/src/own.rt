@@ -20,6 +20,13 @@ fn bulk(alloc: Global, bytes: &[u8]) -> Result<Value, AllocError> {
     Ok(Value::BulkString(Vec::from_slice(alloc, bytes)?))
 }
 
+/// A number, as it is sent.
+pub(crate) fn number_line(alloc: Global, number: i64) -> Result<Reply, AllocError> {
+    let mut text = Vec::from_slice(alloc, b":")?;
+    text.extend_from_slice(number.to_string(alloc)?.as_bytes())?;
+    line(alloc, &text)
+}
+
 /// A value in a protocol.
 fn value(alloc: Global, protocol: Protocol, value: Value) -> Reply {
     Reply::new(alloc, Ok(value), protocol)
@@ -48,7 +55,7 @@ pub(crate) fn answer(
         }
         Own::Reset => {
             let reply = line(alloc, b"+RESET")?;
-            *talk = Talk::new(alloc);
+            *talk = Talk::new(alloc, talk.id, talk.has_clock);
             Ok(reply)
         }
         Own::Multi => {
@@ -107,7 +114,7 @@ fn hello(alloc: Global, talk: &mut Talk, command: &Cmd) -> Result<Reply, AllocEr
         Protocol::Resp2 => 2,
         Protocol::Resp3 => 3,
     };
-    let told = told_of_server(alloc, number)?;
+    let told = told_of_server(alloc, number, talk.id)?;
     if is_word(command, 2, b"SETNAME") {
         talk.name = Vec::from_slice(alloc, argument(command, 3))?;
     }
@@ -115,13 +122,17 @@ fn hello(alloc: Global, talk: &mut Talk, command: &Cmd) -> Result<Reply, AllocEr
     Ok(value(alloc, protocol, Value::Map(told)))
 }
 
-fn told_of_server(alloc: Global, protocol: i64) -> Result<Vec<(Value, Value)>, AllocError> {
+fn told_of_server(
+    alloc: Global,
+    protocol: i64,
+    id: i64,
+) -> Result<Vec<(Value, Value)>, AllocError> {
     let mut told = Vec::new(alloc);
     for (key, text) in [("server", "redis"), ("version", "7.0.15")] {
         told.push((bulk(alloc, key.as_bytes())?, bulk(alloc, text.as_bytes())?))?;
     }
     told.push((bulk(alloc, b"proto")?, Value::Int(protocol)))?;
-    told.push((bulk(alloc, b"id")?, Value::Int(1)))?;
+    told.push((bulk(alloc, b"id")?, Value::Int(id)))?;
     for (key, text) in [("mode", "standalone"), ("role", "master")] {
         told.push((bulk(alloc, key.as_bytes())?, bulk(alloc, text.as_bytes())?))?;
     }
@@ -149,7 +160,7 @@ fn client(alloc: Global, talk: &mut Talk, command: &Cmd) -> Result<Reply, AllocE
         return Ok(value(alloc, talk.protocol, name_of(alloc, talk)?));
     }
     if is_word(command, 1, b"ID") {
-        return line(alloc, b":1");
+        return number_line(alloc, talk.id);
     }
     if is_word(command, 1, b"SETINFO")
         || is_word(command, 1, b"NO-EVICT")

@@ -2,6 +2,7 @@
 use crate::cluster::Cluster;
 use crate::session::Session;
 use crate::side::Side;
+use crate::waits::Waits;
 use anyhow::Result;
 use node_files::{Link, Peer, listed, relink};
 use resp_core::Protocol;
@@ -48,7 +49,8 @@ fn turn<R: Files + AllocGlobal>(
     Ok(())
 }
 
-/// Asks what waits until all is answered, `TURNS` times at most; whether something waits still.
+/// Asks what waits until all is answered but what waits for more than its turn, `TURNS` times at most; whether
+/// something else waits still.
 fn settle<R: Files + AllocGlobal>(
     rt: &R,
     folder: &str,
@@ -60,6 +62,10 @@ fn settle<R: Files + AllocGlobal>(
         }
         let is_patient = number.saturating_add(1) < TURNS;
         turn(rt, folder, session, is_patient)?;
+        if session.cluster.is_settled {
+            session.read_for_all()?;
+            return Ok(false);
+        }
     }
     session.read_for_all()
 }
@@ -77,7 +83,8 @@ fn answer<R: Files + AllocGlobal>(
             break;
         }
     }
-    session.send_all(rt.alloc())
+    session.send_all(rt.alloc())?;
+    Ok(session.set_alarm()?)
 }
 
 fn flush<R: Print>(rt: &R, output: &mut Vec<u8>) -> io::Result<()> {
@@ -96,7 +103,13 @@ fn session_of<R: Files + AllocGlobal>(
     let mut two = Side::new(alloc, Protocol::Resp2)?;
     two.is_used = true;
     let three = Side::new(alloc, Protocol::Resp3)?;
-    let cluster = Cluster { two, three };
+    let cluster = Cluster {
+        two,
+        three,
+        waits: Waits::new(alloc),
+        alone: 0,
+        is_settled: true,
+    };
     Ok(Session::new(alloc, cluster, listed(rt, folder)?, is_framed))
 }
 

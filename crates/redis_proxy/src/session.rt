@@ -1,7 +1,7 @@
 //! Guests' bytes in, replies out.
 use crate::ask::Ask;
 use crate::cluster::Cluster;
-use crate::frames::{first_frame, kept, put_end, put_frames};
+use crate::frames::{CLOCK, first_frame, kept, put_alarm, put_end, put_frames, time_of};
 use crate::guest::Guest;
 use crate::side::{LIMITS, MOST_GUESTS};
 use crate::talk::Talk;
@@ -26,6 +26,8 @@ pub(crate) struct Session<L> {
     /// The guests by their numbers in frames; a guest without frames is number 0.
     guests: Vec<Option<Guest>>,
     is_framed: bool,
+    /// The id of the guest that came last.
+    last_id: i64,
     /// Bytes of a frame that is not whole.
     frames: Vec<u8>,
     pub(crate) output: Vec<u8>,
@@ -44,6 +46,7 @@ impl<L: ConnectionLike + Drop> Session<L> {
             peers,
             guests: Vec::new(alloc),
             is_framed,
+            last_id: 0,
             frames: Vec::new(alloc),
             output: Vec::new(alloc),
         }
@@ -69,6 +72,12 @@ impl<L: ConnectionLike + Drop> Session<L> {
     }
 
     fn take_frame(&mut self, alloc: Global, number: u32, bytes: &[u8]) -> Result<()> {
+        if number == CLOCK {
+            if let Some(now) = time_of(bytes) {
+                self.cluster.waits.tick(now);
+            }
+            return Ok(());
+        }
         if !bytes.is_empty() {
             return self.feed(alloc, number as usize, bytes);
         }
@@ -89,6 +98,7 @@ impl<L: ConnectionLike + Drop> Session<L> {
 
     fn leave(&mut self, alloc: Global, guest: &mut Guest) {
         if let Some(connection) = mem::replace(&mut guest.connection, None) {
+            self.cluster.waits.forget(connection.guest());
             self.proxy.leave(alloc, connection.guest());
         }
     }
@@ -116,11 +126,12 @@ impl<L: ConnectionLike + Drop> Session<L> {
 
     /// A new guest; where there is no room for it one that reads so, and has ended.
     fn let_in(&mut self, alloc: Global) -> Result<Guest, AllocError> {
+        self.last_id = self.last_id.saturating_add(1);
         let connection = match self.proxy.join(alloc) {
             Ok(number) => Some(Connection::new(
                 alloc,
                 number,
-                Talk::new(alloc),
+                Talk::new(alloc, self.last_id, self.is_framed),
                 Limits::of_redis(),
             )),
             Err(_) => None,
@@ -264,6 +275,14 @@ impl<L: ConnectionLike + Drop> Session<L> {
             self.put_back(place, guest);
         }
         Ok(())
+    }
+
+    /// Asks the clock for the time where a guest waits: the more wait, the later.
+    pub(crate) fn set_alarm(&mut self) -> Result<(), AllocError> {
+        match self.cluster.waits.count() {
+            0 => Ok(()),
+            count => put_alarm(&mut self.output, count.clamp(10, 1000) as u32),
+        }
     }
 
     /// Whether the one guest without frames has ended.

@@ -2,6 +2,7 @@
 ghost use Rattle.std.specs.Prelude.{◌≡◌, OnErr};
 
 use crate::ask::Ask;
+use crate::block::Block;
 use crate::own::{self, line, refuse};
 use crate::queued::Queued;
 use crate::way::{Own, Way, way_of};
@@ -17,6 +18,10 @@ use std::mem;
 /// What a guest said that counts for its later words.
 #[derive(Drop)]
 pub(crate) struct Talk {
+    /// What CLIENT ID tells.
+    pub(crate) id: i64,
+    /// Whether there is a clock, so that its commands can wait.
+    pub(crate) has_clock: bool,
     pub(crate) protocol: Protocol,
     pub(crate) name: Vec<u8>,
     /// The commands since MULTI.
@@ -25,8 +30,10 @@ pub(crate) struct Talk {
 }
 
 impl Talk {
-    pub(crate) fn new(alloc: Global) -> Talk {
+    pub(crate) fn new(alloc: Global, id: i64, has_clock: bool) -> Talk {
         Talk {
+            id,
+            has_clock,
             protocol: Protocol::Resp2,
             name: Vec::new(alloc),
             queued: None,
@@ -47,12 +54,22 @@ impl Talk {
             Way::Keyed => Ok(Entry::Waits(Ask::together(alloc, command, self.protocol)?)),
             Way::Refused => Ok(Entry::Reads(refuse(alloc, &command)?)),
             Way::Own(own) => Ok(Entry::Reads(own::answer(alloc, self, own, &command)?)),
-            Way::Several | Way::AnyNode | Way::FirstNode | Way::Scan => Ok(Entry::Waits(Ask::alone(
-                alloc,
-                way,
-                command,
-                self.protocol,
-            )?)),
+            Way::Wait => self.wait(alloc, command),
+            _ => Ok(Entry::Waits(Ask::alone(alloc, way, command, self.protocol)?)),
+        }
+    }
+
+    /// What a command that waits puts into the queue.
+    fn wait(&self, alloc: Global, command: Cmd) -> Result<Entry<Ask, Reply>, AllocError> {
+        if !self.has_clock {
+            return Ok(Entry::Reads(refuse(alloc, &command)?));
+        }
+        match Block::new(alloc, &command)? {
+            Ok(block) => {
+                let ask = Ask::wait(alloc, block, self.id, command, self.protocol)?;
+                Ok(Entry::Waits(ask))
+            }
+            Err(fault) => Ok(Entry::Reads(line(alloc, &fault.line(alloc, &command)?)?)),
         }
     }
 
@@ -78,7 +95,14 @@ impl Talk {
             )?)),
             Way::Own(Own::Reset | Own::Quit) => self.plain(alloc, way, command),
             Way::Keyed => self.queue(alloc, command),
-            _ => self.abort(alloc),
+            Way::Wait => match Block::new(alloc, &command)? {
+                Ok(_) => self.queue(alloc, command),
+                Err(fault) => self.abort(alloc, &fault.line(alloc, &command)?),
+            },
+            _ => self.abort(
+                alloc,
+                b"-ERR proxy: this command is not served behind MULTI",
+            ),
         }
     }
 
@@ -92,13 +116,11 @@ impl Talk {
         Ok(Entry::Reads(reply))
     }
 
-    fn abort(&mut self, alloc: Global) -> Result<Entry<Ask, Reply>, AllocError>
+    /// Answers a command behind MULTI by an error, so that nothing is done at EXEC.
+    fn abort(&mut self, alloc: Global, why: &[u8]) -> Result<Entry<Ask, Reply>, AllocError>
         ensures err { OnErr result (self.new ≡ self.old) }
     {
-        let reply = line(
-            alloc,
-            b"-ERR proxy: this command is not served behind MULTI",
-        )?;
+        let reply = line(alloc, why)?;
         if let Some(queued) = &mut self.queued {
             queued.is_aborted = true;
         }

@@ -1,4 +1,5 @@
 //! Which way a command goes.
+use crate::block::waits;
 use cluster_client::{Cmd, MultipleNodeRoutingInfo, Routable, RoutingInfo, SingleNodeRoutingInfo};
 use std::alloc::{AllocError, Global};
 
@@ -9,12 +10,20 @@ pub(crate) enum Way {
     Keyed,
     /// By all nodes or all primaries, behind all that the guest asked before.
     Several,
-    /// By any one node.
-    AnyNode,
     /// By the first primary.
     FirstNode,
-    /// By one primary after another.
+    /// By one primary after another, until one has something; another one begins each time.
+    InTurn,
+    /// By all primaries, of which the last one is told.
+    Primaries,
+    /// By one primary after another, as its cursor says.
     Scan,
+    /// By the primary of the key that is its third word.
+    ThirdWord,
+    /// By the nodes of its keys' slot, once there is something to take.
+    Wait,
+    /// By the end of another guest's wait.
+    Unblock,
     /// By the proxy.
     Own(Own),
     /// It is not served.
@@ -36,7 +45,7 @@ pub(crate) enum Own {
     Discard,
 }
 
-const NAMED: [(&str, Way); 50] = [
+const NAMED: [(&str, Way); 42] = [
     ("PING", Way::Own(Own::Ping)),
     ("ECHO", Way::Own(Own::Echo)),
     ("SELECT", Way::Own(Own::Select)),
@@ -50,8 +59,8 @@ const NAMED: [(&str, Way); 50] = [
     ("SCAN", Way::Scan),
     ("INFO", Way::FirstNode),
     ("COMMAND", Way::FirstNode),
-    ("DEBUG", Way::FirstNode),
-    ("TIME", Way::AnyNode),
+    ("TIME", Way::FirstNode),
+    ("RANDOMKEY", Way::InTurn),
     ("WATCH", Way::Refused),
     ("UNWATCH", Way::Refused),
     ("SUBSCRIBE", Way::Refused),
@@ -61,14 +70,6 @@ const NAMED: [(&str, Way); 50] = [
     ("PUNSUBSCRIBE", Way::Refused),
     ("SUNSUBSCRIBE", Way::Refused),
     ("MONITOR", Way::Refused),
-    ("BLPOP", Way::Refused),
-    ("BRPOP", Way::Refused),
-    ("BLMOVE", Way::Refused),
-    ("BLMPOP", Way::Refused),
-    ("BRPOPLPUSH", Way::Refused),
-    ("BZPOPMIN", Way::Refused),
-    ("BZPOPMAX", Way::Refused),
-    ("BZMPOP", Way::Refused),
     ("WAIT", Way::Refused),
     ("WAITAOF", Way::Refused),
     ("SHUTDOWN", Way::Refused),
@@ -94,13 +95,22 @@ pub(crate) fn way_of(alloc: Global, command: &Cmd) -> Result<Way, AllocError> {
     let Some(word) = command.arg_idx(0) else {
         return Ok(Way::Refused);
     };
+    if is_word(command, 0, b"CLIENT") && is_word(command, 1, b"UNBLOCK") {
+        return Ok(Way::Unblock);
+    }
     for (name, way) in &NAMED {
         if name.as_bytes().eq_ignore_ascii_case(word) {
             return Ok(*way);
         }
     }
-    if blocks(command) {
-        return Ok(Way::Refused);
+    if waits(command) {
+        return Ok(Way::Wait);
+    }
+    if is_word(command, 0, b"DEBUG") {
+        return Ok(way_of_debug(command));
+    }
+    if is_word(command, 0, b"FUNCTION") {
+        return Ok(way_of_function(command));
     }
     Ok(way_by(RoutingInfo::for_routable(alloc, command, &[])?))
 }
@@ -109,22 +119,46 @@ fn way_by(info: Option<RoutingInfo>) -> Way {
     match &info {
         None => Way::FirstNode,
         Some(RoutingInfo::SingleNode(SingleNodeRoutingInfo::SpecificNode(_))) => Way::Keyed,
-        Some(RoutingInfo::SingleNode(_)) => Way::AnyNode,
+        Some(RoutingInfo::SingleNode(_)) => Way::FirstNode,
         Some(RoutingInfo::MultiNode((MultipleNodeRoutingInfo::MultiSlot(_), _))) => Way::Keyed,
         Some(RoutingInfo::MultiNode(_)) => Way::Several,
     }
 }
 
-/// Whether a read of streams may wait at its node.
-fn blocks(command: &Cmd) -> bool {
-    if !is_word(command, 0, b"XREAD") && !is_word(command, 0, b"XREADGROUP") {
-        return false;
+/// A DEBUG command about a key goes to the key's node, any other to all primaries.
+fn way_of_debug(command: &Cmd) -> Way {
+    for word in [
+        b"OBJECT".as_slice(),
+        b"LISTPACK",
+        b"ZIPLIST",
+        b"QUICKLIST",
+        b"HTSTATS-KEY",
+        b"DIGEST-VALUE",
+    ] {
+        if is_word(command, 1, word) {
+            return Way::ThirdWord;
+        }
     }
-    match (command.position(b"BLOCK"), command.position(b"STREAMS")) {
-        (Some(block), Some(streams)) => block < streams,
-        (block, None) => block.is_some(),
-        (None, _) => false,
+    Way::Primaries
+}
+
+/// What changes the libraries of functions goes to all primaries, which have the same ones; what asks for them, to one.
+fn way_of_function(command: &Cmd) -> Way {
+    for word in [b"LOAD".as_slice(), b"DELETE", b"FLUSH", b"RESTORE"] {
+        if is_word(command, 1, word) {
+            return Way::Primaries;
+        }
     }
+    Way::FirstNode
+}
+
+/// How many arguments a command has, with its word.
+pub(crate) fn argument_count(command: &Cmd) -> usize {
+    let mut count = 0usize;
+    for _ in command.args_iter() {
+        count = count.saturating_add(1);
+    }
+    count
 }
 
 /// The argument at a place; nothing where there is none.
