@@ -104,8 +104,8 @@ impl Ask {
     }
 }
 
-/// Whether a server tells nil in place of a list: of what pops from several keys, or a count of items, and of what reads
-/// streams.
+/// Whether a server tells nil in place of a list: of what pops from several keys, or a count of items, and of
+/// what reads streams.
 fn tells_no_list(command: &Cmd) -> bool {
     for word in [b"LMPOP".as_slice(), b"ZMPOP", b"XREAD", b"XREADGROUP"] {
         if is_word(command, 0, word) {

@@ -20,7 +20,8 @@ pub(crate) struct Cluster<L> {
     pub(crate) waits: Waits,
     /// How many commands were asked by themselves, for what goes to the nodes in turn.
     pub(crate) alone: usize,
-    /// Whether the last turn left nothing but commands that wait for what is not there yet, and what stands behind these.
+    /// Whether the last turn left nothing but commands that wait for what is not there yet, and what stands
+    /// behind these.
     pub(crate) is_settled: bool,
 }
 
@@ -152,8 +153,8 @@ impl<L: ConnectionLike + Drop> Cluster<L> {
         }
     }
 
-    /// Takes note of those that wait: those that are new are tried, and behind the others of the batch also those for
-    /// which one of these may have put something there.
+    /// Takes note of those that wait: those that are new are tried, and behind the others of the batch also
+    /// those for which one of these may have put something there.
     fn note_waits(
         &mut self,
         alloc: Global,
@@ -261,6 +262,7 @@ impl<L: ConnectionLike + Drop> Servers<Ask, Reply> for Cluster<L> {
         let two = part_of(alloc, batch, &times, Protocol::Resp2)?;
         let three = part_of(alloc, batch, &times, Protocol::Resp3)?;
         let mut alone = VecDeque::from_vec(Vec::with_capacity(alloc, batch.len())?);
+        // What these get stays in `waits`, also where memory is refused below.
         self.note_waits(alloc, batch, &times, false);
         self.try_waits(alloc);
         let two = self.two.ask(alloc, &two)?;

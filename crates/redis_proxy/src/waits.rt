@@ -1,5 +1,5 @@
-//! Guests whose commands wait for what is not there yet. Each is tried anew once another command may have put it there, and
-//! whenever the clock ticks, in the order in which they began to wait.
+//! Guests whose commands wait for what is not there yet. Each is tried anew once another command may have put
+//! it there, and whenever the clock ticks, in the order in which they began to wait.
 use crate::block::Block;
 use crate::held::ask_first;
 use crate::last_ids::with_last_ids;
@@ -77,8 +77,8 @@ enum Meaning {
     Error,
 }
 
-/// Where no link leads to its node it waits on. A key of another type counts as none, but to a reader of a group, whose stream is gone then, and to one with a
-/// destination, which may be of another type itself.
+/// Where no link leads to its node it waits on. A key of another type counts as none, but to a reader of a group,
+/// whose stream is gone then, and to one with a destination, which may be of another type itself.
 fn meaning_of(error: &RedisError, block: &Block) -> Meaning {
     if matches!(error.cause(), Some(Cause::NoNode | Cause::NoLink)) {
         return Meaning::Nothing;
@@ -97,7 +97,8 @@ fn meaning_of(error: &RedisError, block: &Block) -> Meaning {
     }
 }
 
-/// Asks by the node of the keys' slot, or where the routing table finds no keys by one that says what is wrong.
+/// Asks by the node of the keys' slot, or where the routing table finds no keys by one that says what is
+/// wrong.
 fn ask_once<L: ConnectionLike + Drop>(
     alloc: Global,
     client: &mut ClusterClient<L>,
@@ -233,8 +234,8 @@ impl Waits {
         false
     }
 
-    /// Takes note of a guest's command, which is tried in this turn where it is new, where the clock ticked or where a
-    /// command was asked that may have put something there.
+    /// Takes note of a guest's command, which is tried in this turn where it is new, where the clock ticked or
+    /// where a command was asked that may have put something there.
     pub(crate) fn note(
         &mut self,
         alloc: Global,

@@ -142,7 +142,8 @@ fn way_of_debug(command: &Cmd) -> Way {
     Way::Primaries
 }
 
-/// What changes the libraries of functions goes to all primaries, which have the same ones; what asks for them, to one.
+/// What changes the libraries of functions goes to all primaries, which have the same ones; what asks for them,
+/// to one.
 fn way_of_function(command: &Cmd) -> Way {
     for word in [b"LOAD".as_slice(), b"DELETE", b"FLUSH", b"RESTORE"] {
         if is_word(command, 1, word) {
