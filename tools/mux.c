@@ -1,14 +1,17 @@
-/* Joins the sockets of many guests to one program: mux PORT PROGRAM [ARGUMENT..]
+/* Joins the sockets of many guests to programs: mux PORT COUNT PROGRAM [ARGUMENT..]
 
-   It moves bytes and reads none of them. What a guest sends goes to the program's standard input in frames, each of the
+   It starts the program so many times, with % in an argument standing for each one's number, from 0. Guests have numbers
+   too, and the guest of a number goes to the program of that number modulo the count.
+
+   It moves bytes and reads none of them. What a guest sends goes to its program's standard input in frames, each of the
    guest's number and a length, of four bytes with the lowest first, and so many bytes; what the program writes are such
    frames for guests. A frame of none ends a guest: each side sends one for each guest, and once both did, its number is
-   free. While much waits for the program no guest is read. A guest for which too much waits is closed.
+   free. While much waits for a program no guest is read. A guest for which too much waits is closed.
 
    A frame of the program for the number 4294967295 holds a delay in milliseconds, of four bytes. That much later, or
    sooner where it asked for that before, the program gets a frame of that number, with the time in eight bytes.
 
-   It takes guests at 127.0.0.1, and ends when the program does, with its status. */
+   It takes guests at 127.0.0.1, and ends when a program does, with its status. */
 #define _GNU_SOURCE
 #include <arpa/inet.h>
 #include <errno.h>
@@ -28,6 +31,7 @@
 
 enum {
     MOST_GUESTS = 10000,
+    MOST_PROGRAMS = 64,
     PIECE = 1 << 16,
     HEAD = 8,
     /* So many bytes may wait for the program before guests are read again. */
@@ -38,8 +42,8 @@ enum {
 
 static const uint32_t CLOCK = UINT32_MAX;
 
-/* What an event is about: a guest's number, or one of these. */
-enum { LISTENER = MOST_GUESTS, FROM_PROGRAM, TO_PROGRAM, GUESTS };
+/* What an event is about: a guest's number, or one of these; a program's number is added to the last two. */
+enum { LISTENER = MOST_GUESTS, GUESTS, FROM_PROGRAM, TO_PROGRAM = FROM_PROGRAM + MOST_PROGRAMS };
 
 /* Bytes that wait: those from `start` to `end`. */
 struct bytes {
@@ -64,25 +68,39 @@ struct guest {
     struct bytes out;
 };
 
+struct program {
+    pid_t process;
+    int to, from;
+    /* What waits for it, and whether its pipe is full. */
+    struct bytes in;
+    int waits;
+    /* What it wrote, as far as it is no whole frame. */
+    struct bytes frames;
+    /* When it wants to know the time; 0: it does not. */
+    int64_t alarm_at;
+};
+
 static struct guest guests[MOST_GUESTS];
+static struct program programs[MOST_PROGRAMS];
+static uint32_t program_count;
 /* Guests are waited for by themselves, so that all can be left out at once. */
 static int waiting, guests_waiting, are_read;
-static int to_program, from_program, program_waits;
-/* When the program wants to know the time; 0: it does not. */
-static int64_t alarm_at;
-static struct bytes for_program, frames;
 
 static void end(const char *why) {
     perror(why);
     exit(1);
 }
 
-/* The program has ended: so does this, with its status. */
-static void end_with_program(void) {
+/* A program has ended: so does this, with its status. */
+static void end_with(struct program *program) {
     int status = 0;
-    close(to_program);
-    wait(&status);
+    close(program->to);
+    waitpid(program->process, &status, 0);
     exit(WIFEXITED(status) ? WEXITSTATUS(status) : 1);
+}
+
+static struct program *program_of(uint32_t guest) {
+    return &programs[guest % program_count];
 }
 
 static void watch(int in, int file, int change, uint32_t events, uint32_t what) {
@@ -124,20 +142,28 @@ static int drain(struct bytes *bytes, int file) {
     return 1;
 }
 
-static void put_frame(uint32_t number, const void *bytes, uint32_t count) {
+static void put_frame(struct program *program, uint32_t number, const void *bytes, uint32_t count) {
     uint32_t head[2] = {number, count};
-    put(&for_program, head, HEAD);
-    if (count) put(&for_program, bytes, count);
+    put(&program->in, head, HEAD);
+    if (count) put(&program->in, bytes, count);
 }
 
-/* Writes to the program, and reads guests only while little waits for it. */
-static void serve_program(void) {
-    if (!drain(&for_program, to_program)) end_with_program();
-    int waits = left_in(&for_program) > 0;
-    if (waits != program_waits)
-        watch(waiting, to_program, EPOLL_CTL_MOD, waits ? EPOLLOUT : 0, TO_PROGRAM);
-    program_waits = waits;
-    int may_read = left_in(&for_program) < ENOUGH;
+static void serve_program(uint32_t which) {
+    struct program *program = &programs[which];
+    if (!drain(&program->in, program->to)) end_with(program);
+    int waits = left_in(&program->in) > 0;
+    if (waits != program->waits)
+        watch(waiting, program->to, EPOLL_CTL_MOD, waits ? EPOLLOUT : 0, TO_PROGRAM + which);
+    program->waits = waits;
+}
+
+/* Writes to the programs, and reads guests only while little waits for each. */
+static void serve_programs(void) {
+    int may_read = 1;
+    for (uint32_t which = 0; which < program_count; which++) {
+        serve_program(which);
+        if (left_in(&programs[which].in) >= ENOUGH) may_read = 0;
+    }
     if (may_read != are_read) watch(waiting, guests_waiting, EPOLL_CTL_MOD, may_read ? EPOLLIN : 0, GUESTS);
     are_read = may_read;
 }
@@ -150,11 +176,11 @@ static void close_guest(uint32_t number, enum state state) {
     guest->state = state;
 }
 
-/* The guest is gone: the program is told, and its number is free once it says so too. */
+/* The guest is gone: its program is told, and its number is free once it says so too. */
 static void leave(uint32_t number) {
     int was_ended = guests[number].state == ENDED;
     close_guest(number, was_ended ? FREE : GONE);
-    if (!was_ended) put_frame(number, 0, 0);
+    if (!was_ended) put_frame(program_of(number), number, 0, 0);
 }
 
 /* Writes to a guest what waits for it. */
@@ -179,18 +205,18 @@ static void read_guest(uint32_t number) {
     if (guests[number].state != OPEN) return;
     ssize_t count = read(guests[number].socket, piece, PIECE);
     if (count > 0)
-        put_frame(number, piece, (uint32_t)count);
+        put_frame(program_of(number), number, piece, (uint32_t)count);
     else if (!count || (errno != EAGAIN && errno != EINTR))
         leave(number);
 }
 
-/* The program says that a guest has ended. */
+/* Its program says that a guest has ended. */
 static void end_guest(uint32_t number) {
     struct guest *guest = &guests[number];
     if (guest->state == GONE) {
         guest->state = FREE;
     } else if (guest->state == OPEN) {
-        put_frame(number, 0, 0);
+        put_frame(program_of(number), number, 0, 0);
         guest->state = ENDED;
         guest->waits = -1;
         serve_guest(number);
@@ -204,57 +230,68 @@ static int64_t now(void) {
     return (int64_t)time.tv_sec * 1000 + time.tv_nsec / 1000000;
 }
 
-static void set_alarm(const void *bytes, uint32_t count) {
+static void set_alarm(struct program *program, const void *bytes, uint32_t count) {
     uint32_t delay = 0;
     if (count == sizeof delay) memcpy(&delay, bytes, sizeof delay);
     int64_t at = now() + delay;
-    if (!alarm_at || at < alarm_at) alarm_at = at;
+    if (!program->alarm_at || at < program->alarm_at) program->alarm_at = at;
 }
 
 /* How long to wait for an event: for ever where no alarm is set. */
 static int patience(void) {
-    if (!alarm_at) return -1;
-    int64_t left = alarm_at - now();
+    int64_t first = 0;
+    for (uint32_t which = 0; which < program_count; which++) {
+        int64_t at = programs[which].alarm_at;
+        if (at && (!first || at < first)) first = at;
+    }
+    if (!first) return -1;
+    int64_t left = first - now();
     return left < 0 ? 0 : (int)left;
 }
 
+/* Tells the time to the programs that wanted to know it by now. */
 static void ring(void) {
-    int64_t time = now();
-    if (!alarm_at || time < alarm_at) return;
-    alarm_at = 0;
-    put_frame(CLOCK, &time, sizeof time);
-}
-
-/* Hands out the program's frames as far as they are whole. */
-static void hand_out(void) {
-    while (left_in(&frames) >= HEAD) {
-        uint32_t head[2];
-        memcpy(head, frames.at + frames.start, HEAD);
-        uint32_t number = head[0], count = head[1];
-        if (number >= MOST_GUESTS && number != CLOCK) {
-            fprintf(stderr, "mux: the program wrote no frame\n");
-            exit(1);
-        }
-        if (left_in(&frames) - HEAD < count) break;
-        if (number == CLOCK)
-            set_alarm(frames.at + frames.start + HEAD, count);
-        else if (!count)
-            end_guest(number);
-        else if (guests[number].state == OPEN) {
-            put(&guests[number].out, frames.at + frames.start + HEAD, count);
-            serve_guest(number);
-        }
-        frames.start += HEAD + count;
+    for (uint32_t which = 0; which < program_count; which++) {
+        struct program *program = &programs[which];
+        if (!program->alarm_at) continue;
+        int64_t time = now();
+        if (time < program->alarm_at) continue;
+        program->alarm_at = 0;
+        put_frame(program, CLOCK, &time, sizeof time);
     }
 }
 
-static void read_program(void) {
+/* Hands out a program's frames as far as they are whole. */
+static void hand_out(struct program *program) {
+    struct bytes *frames = &program->frames;
+    while (left_in(frames) >= HEAD) {
+        uint32_t head[2];
+        memcpy(head, frames->at + frames->start, HEAD);
+        uint32_t number = head[0], count = head[1];
+        if (number != CLOCK && (number >= MOST_GUESTS || program_of(number) != program)) {
+            fprintf(stderr, "mux: a program wrote no frame\n");
+            exit(1);
+        }
+        if (left_in(frames) - HEAD < count) break;
+        if (number == CLOCK)
+            set_alarm(program, frames->at + frames->start + HEAD, count);
+        else if (!count)
+            end_guest(number);
+        else if (guests[number].state == OPEN) {
+            put(&guests[number].out, frames->at + frames->start + HEAD, count);
+            serve_guest(number);
+        }
+        frames->start += HEAD + count;
+    }
+}
+
+static void read_program(struct program *program) {
     static char piece[PIECE * 16];
-    ssize_t count = read(from_program, piece, sizeof piece);
-    if (!count || (count < 0 && errno != EAGAIN && errno != EINTR)) end_with_program();
+    ssize_t count = read(program->from, piece, sizeof piece);
+    if (!count || (count < 0 && errno != EAGAIN && errno != EINTR)) end_with(program);
     if (count < 0) return;
-    put(&frames, piece, (size_t)count);
-    hand_out();
+    put(&program->frames, piece, (size_t)count);
+    hand_out(program);
 }
 
 static void let_in(int listener) {
@@ -282,24 +319,42 @@ static int listen_at(const char *port) {
     return listener;
 }
 
-static void start(char **words) {
+/* The word with a program's number in the place of each %. */
+static char *numbered(const char *word, uint32_t which) {
+    size_t room = strlen(word) * 3 + 1, at = 0;
+    char *made = malloc(room);
+    if (!made) end("mux: memory");
+    for (; *word; word++) {
+        if (*word == '%')
+            at += (size_t)snprintf(made + at, room - at, "%u", which);
+        else
+            made[at++] = *word;
+    }
+    made[at] = 0;
+    return made;
+}
+
+static void start(uint32_t which, char **words) {
+    struct program *program = &programs[which];
     int in[2], out[2];
-    if (pipe(in) || pipe(out)) end("mux: pipe");
-    pid_t child = fork();
-    if (child < 0) end("mux: fork");
-    if (!child) {
+    if (pipe2(in, O_CLOEXEC) || pipe2(out, O_CLOEXEC)) end("mux: pipe");
+    program->process = fork();
+    if (program->process < 0) end("mux: fork");
+    if (!program->process) {
         dup2(in[0], 0);
         dup2(out[1], 1);
-        close(in[1]), close(out[0]), close(in[0]), close(out[1]);
+        for (char **word = words; *word; word++) *word = numbered(*word, which);
         execvp(words[0], words);
         end("mux: exec");
     }
     close(in[0]), close(out[1]);
-    to_program = in[1], from_program = out[0];
-    fcntl(to_program, F_SETFL, O_NONBLOCK);
-    fcntl(from_program, F_SETFL, O_NONBLOCK);
-    fcntl(to_program, F_SETPIPE_SZ, 1 << 20);
-    fcntl(from_program, F_SETPIPE_SZ, 1 << 20);
+    program->to = in[1], program->from = out[0];
+    fcntl(program->to, F_SETFL, O_NONBLOCK);
+    fcntl(program->from, F_SETFL, O_NONBLOCK);
+    fcntl(program->to, F_SETPIPE_SZ, 1 << 20);
+    fcntl(program->from, F_SETPIPE_SZ, 1 << 20);
+    watch(waiting, program->from, EPOLL_CTL_ADD, EPOLLIN, FROM_PROGRAM + which);
+    watch(waiting, program->to, EPOLL_CTL_ADD, 0, TO_PROGRAM + which);
 }
 
 static void take_guests(void) {
@@ -311,29 +366,35 @@ static void take_guests(void) {
     }
 }
 
+/* What an event is about that is no guest's own. */
+static void take_event(int listener, uint32_t what) {
+    if (what == LISTENER)
+        let_in(listener);
+    else if (what == GUESTS)
+        take_guests();
+    else if (what < TO_PROGRAM)
+        read_program(&programs[what - FROM_PROGRAM]);
+}
+
 int main(int count, char **words) {
-    if (count < 3) {
-        fprintf(stderr, "mux PORT PROGRAM [ARGUMENT..]\n");
+    int programs_wanted = count < 4 ? 0 : atoi(words[2]);
+    if (programs_wanted < 1 || programs_wanted > MOST_PROGRAMS) {
+        fprintf(stderr, "mux PORT COUNT PROGRAM [ARGUMENT..], with 1 to %d programs\n", MOST_PROGRAMS);
         return 1;
     }
     signal(SIGPIPE, SIG_IGN);
     waiting = epoll_create1(EPOLL_CLOEXEC), guests_waiting = epoll_create1(EPOLL_CLOEXEC);
     int listener = listen_at(words[1]);
-    start(words + 2);
+    program_count = (uint32_t)programs_wanted;
+    for (uint32_t which = 0; which < program_count; which++) start(which, words + 3);
     watch(waiting, listener, EPOLL_CTL_ADD, EPOLLIN, LISTENER);
-    watch(waiting, from_program, EPOLL_CTL_ADD, EPOLLIN, FROM_PROGRAM);
-    watch(waiting, to_program, EPOLL_CTL_ADD, 0, TO_PROGRAM);
     watch(waiting, guests_waiting, EPOLL_CTL_ADD, EPOLLIN, GUESTS);
     are_read = 1;
     for (;;) {
         struct epoll_event events[8];
         int ready = epoll_wait(waiting, events, 8, patience());
-        for (int i = 0; i < ready; i++) {
-            if (events[i].data.u32 == LISTENER) let_in(listener);
-            if (events[i].data.u32 == FROM_PROGRAM) read_program();
-            if (events[i].data.u32 == GUESTS) take_guests();
-        }
+        for (int i = 0; i < ready; i++) take_event(listener, events[i].data.u32);
         ring();
-        serve_program();
+        serve_programs();
     }
 }

@@ -20,7 +20,7 @@ use Rattle.cluster_routing.proofs.PartPlaces.{subs_are_at_their_places}
 use Rattle.cluster_calls.specs.Calls.Call.{Entry, Pipeline}
 use Rattle.cluster_calls.specs.Calls.Each.{each_exchange, each_of, exchanges_with, nodes_of, outcome_of, position_exchanges, reply_in, reply_outcome, without_first_with}
 use Rattle.cluster_calls.specs.Calls.EachInParts.{AreOutcomesOf, if_several, IsMadeOf, each_plan, entries_by, first_unplaced, goes_to_slots, in_parts, part_entry, refusal_of_parts, reply_in_parts, split_at, splits_in}
-use Rattle.cluster_calls.specs.Calls.Parts.{Part, is_gap, only_part, parts_of, pipeline_parts, result_then, role_by, split_parts, with_whole}
+use Rattle.cluster_calls.specs.Calls.Parts.{Part, Target, is_gap, only_part, parts_of, pipeline_parts, result_then, role_by, split_parts, with_whole}
 use Rattle.cluster_calls.specs.Calls.Plan.{Client, Dispatch, dispatches, plan, unless}
 use Rattle.cluster_calls.specs.Calls.Replies.{reply_or_nil}
 use Rattle.cluster_calls.specs.Links.EachMade.{EachMade, refusal_by, refusals_of, told_of}
@@ -34,7 +34,9 @@ use Rattle.cluster_steps.specs.Joins.{AreOutcomesBy, HasRoom, IsJoinedBy, IsTold
 use Rattle.cluster_steps.specs.FirstPlaces.{part_of}
 use Rattle.cluster_steps.specs.declared.join.Join.{Join}
 use Rattle.cluster_steps.specs.declared.route.Part.{Part as CodePart}
-use Rattle.cluster_client.specs.InParts.{AreInParts, AreReady, IsAdded, places_of, shown_joins}
+use Rattle.cluster_steps.specs.CodeParts.{part_targets}
+use Rattle.cluster_steps.specs.WholeParts.{whole_by}
+use Rattle.cluster_client.specs.InParts.{AreInParts, AreReady, IsAdded, if_several_targets, places_of, shown_joins}
 use Rattle.cluster_client.specs.declared.pipeline.in_parts.InParts.{InParts}
 use Rattle.cluster_calls.proofs.LinkLaws.OneCommand.{nothing_happened, relogged_untouched}
 use Rattle.cluster_calls.proofs.LogLaws.EachInParts.{entry_part, is_whole, split_is, wholes_stay_whole, whole_told_so}
@@ -261,10 +263,29 @@ refused_whole strategy old new entries refusal other w = by (pipeline_parts 0 en
 -- ---- what goes out, command by command
 
 -- a command with several parts is split as its parts are
-pub several_split : (e : Entry) (list : List Part) → parts_of [] e.command 0 ≡ Ok list → 2 ≤ length list → parts_by_place e.command.args [] ≡ places_of (split_at e)
+several_split : (e : Entry) (list : List Part) → parts_of [] e.command 0 ≡ Ok list → 2 ≤ length list → parts_by_place e.command.args [] ≡ places_of (split_at e)
 several_split e [] p w = absurd (let f : ⊥ = omega (arith, w) in f)
 several_split e (a ∷ []) p w = absurd (let f : ⊥ = omega (arith, w) in f)
 several_split e (a ∷ b ∷ more) p w = cut_so [] e.command 0 (a ∷ b ∷ more) p ∙ ap (λ r. places_of (if_several r (split_of (sent e.command)))) (sym p)
+
+-- by where the parts go
+pub split_by_targets : (e : Entry) (ts : List Target) (places : Option PartsByPlace) → Ok ts ≡ part_targets (parts_of [] e.command 0) → places ≡ parts_by_place e.command.args [] → if_several_targets ts places ≡ places_of (split_at e)
+split_by_targets e ts places t p = by (parts_of [] e.command 0) refl t
+  where
+    split : (r : Result (List Part) Refusal) → parts_of [] e.command 0 ≡ r → places_of (if_several r (split_of (sent e.command))) ≡ places_of (split_at e)
+    split r is = ap (λ q. places_of (if_several q (split_of (sent e.command)))) (sym is)
+
+    by : (r : Result (List Part) Refusal) → parts_of [] e.command 0 ≡ r → Ok ts ≡ part_targets r → if_several_targets ts places ≡ places_of (split_at e)
+    by (Err refusal) is k = cc
+    by (Ok []) is k =
+        let none : ts ≡ [] = cc in
+        rw none (split (Ok []) is)
+    by (Ok (a ∷ [])) is k =
+        let one : ts ≡ a.target ∷ [] = cc in
+        rw one (split (Ok (a ∷ [])) is)
+    by (Ok (a ∷ b ∷ more)) is k =
+        let several : ts ≡ a.target ∷ b.target ∷ map (λ (part : Part). part.target) more = cc in
+        rw several (p ∙ several_split e (a ∷ b ∷ more) is (omega arith))
 
 pub none_split : (e : Entry) (refusal : Refusal) → Err refusal ≡ parts_of [] e.command 0 → None ≡ places_of (split_at e)
 none_split e refusal p = ap (λ r. places_of (if_several r (split_of (sent e.command)))) p
@@ -277,17 +298,17 @@ pub ready_more : (joins : List (Option Join)) (join : Option Join) → AreReady 
 ready_more [] join r h = (h, tt)
 ready_more (j ∷ joins) join r h = (r.0, ready_more joins join r.1 h)
 
-pub goes_as : (e : Entry) (o : Option CodePart) (b : Bool) → None ≡ places_of (split_at e) → option_map part_of o ≡ entry_part e → is_some o ≡ b → goes_to_slots e ≡ b
+pub goes_as : (e : Entry) (o : Option Route) (b : Bool) → None ≡ places_of (split_at e) → option_map (whole_by (sent e.command)) o ≡ entry_part e → is_some o ≡ b → goes_to_slots e ≡ b
 goes_as e o b split part is = ap (λ q. is_some q || is_some (entry_part e)) (no_split (split_at e) split) ∙ ap is_some (sym part) ∙ same o ∙ is
   where
-    same : (o : Option CodePart) → is_some (option_map part_of o) ≡ is_some o
+    same : (o : Option Route) → is_some (option_map (whole_by (sent e.command)) o) ≡ is_some o
     same None = refl
-    same (Some part) = refl
+    same (Some route) = refl
 
 -- a command that goes whole is not split
-pub whole_unsplit : (e : Entry) (o : Option CodePart) → option_map part_of o ≡ entry_part e → is_some o ≡ true → None ≡ places_of (split_at e)
+pub whole_unsplit : (e : Entry) (o : Option Route) → option_map (whole_by (sent e.command)) o ≡ entry_part e → is_some o ≡ true → None ≡ places_of (split_at e)
 whole_unsplit e None part is = cc
-whole_unsplit e (Some own) part is = ap places_of (sym (is_whole e (part_of own) (sym part)))
+whole_unsplit e (Some route) part is = ap places_of (sym (is_whole e (whole_by (sent e.command) route) (sym part)))
 
 -- the commands of a split command's parts
 

@@ -3,6 +3,7 @@ use Rattle.std.specs.Prelude.{◌≡◌, true, List, [], ◌∷◌, ◌++◌, ma
 use Rattle.std.specs.List.{AllByRecursion}
 use Rattle.cluster_routing.specs.Split.{Split, PartsByPlace, split_by_place}
 use Rattle.cluster_calls.specs.Calls.Call.{Entry}
+use Rattle.cluster_calls.specs.Calls.Parts.{Target}
 use Rattle.cluster_calls.specs.Calls.EachInParts.{entries_by, first_unplaced, goes_to_slots, in_parts, split_at, splits_in}
 use Rattle.cluster_steps.specs.Joins.{HasRoom, shown_join}
 use Rattle.cluster_steps.specs.declared.join.Join.{Join}
@@ -10,6 +11,11 @@ use Rattle.cluster_client.specs.declared.pipeline.in_parts.InParts.{InParts}
 
 abbrev pub places_of : Option Split → Option PartsByPlace
 places_of s = option_map (split_by_place []) s
+
+-- the same, by where the parts of a command go and how it is split
+abbrev pub if_several_targets : List Target → Option PartsByPlace → Option PartsByPlace
+if_several_targets (target ∷ another ∷ targets) places = places
+if_several_targets _ places = None
 
 abbrev pub shown_joins : List (Option Join) → List (Option PartsByPlace)
 shown_joins joins = map (option_map shown_join) joins

@@ -97,10 +97,9 @@ impl<L: ConnectionLike + Drop> ClusterClient<L> {
             ↔ (has_repeats (addresses_of (nodes L.seen links.items)) ≡ true) }
         ensures only { IfErr result (λ e. e ≡ by_cause RepeatedAddress) }
     {
-        let links = Links { nodes: links };
-        if links.has_repeats(alloc) {
+        let Some(links) = Links::new(alloc, links) else {
             return Err(RedisError::from(Cause::RepeatedAddress));
-        }
+        };
         Ok(ClusterClient {
             links,
             read_only,
@@ -133,6 +132,7 @@ impl<L: ConnectionLike + Drop> ClusterClient<L> {
         let reply = exchange_one(&mut self.links, alloc, &mut self.asked, request)?;
         self.slots = slot_map_in(alloc, reply, node)?;
         self.needs_refresh = false;
+        self.links.renew_table();
         Ok(())
     }
 

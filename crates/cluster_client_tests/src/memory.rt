@@ -1,6 +1,6 @@
 //! One request for memory is refused, whichever: `tools/refused-tests` plays each test once for each.
 //!
-//! A client that is made puts its addresses into a set, and does without where that lacks memory.
+//! A client of many nodes keeps a table of their addresses, and does without where that lacks memory.
 //!
 //! A test prints a line `refused CALL` where a call is refused, sees what the client then tells of itself
 //! and what later calls answer, and ends; no further call may be refused.
@@ -202,7 +202,6 @@ const ADDITION: [(&str, &str); 9] = [
     ),
 ];
 
-// Does without 4 of its requests: a new client's set of addresses.
 #[test]
 fn addition(rt: HostRuntime) -> Result<(), Fail> {
     let alloc = rt.alloc();
@@ -267,13 +266,11 @@ fn reads<R: Abort + Print>(rt: &R, alloc: Global, row: &Row, text: &str) -> Resu
     )
 }
 
-// Does without 4 of its requests: a new client's set of addresses.
 #[test]
 fn read_of_one_entry(rt: HostRuntime) -> Result<(), Fail> {
     reads(&rt, rt.alloc(), &row_at(1), ONE_ENTRY)
 }
 
-// Does without 4 of its requests: a new client's set of addresses.
 #[test]
 fn read_of_two_entries(rt: HostRuntime) -> Result<(), Fail> {
     reads(&rt, rt.alloc(), &row_at(2), TWO_ENTRIES)
@@ -321,7 +318,7 @@ fn number_of(outcome: Result<Value, RedisError>) -> i64 {
     }
 }
 
-// Does without 5 of its requests: a new client's set of addresses, and room for all nodes at once.
+// Does without 1 of its requests: room for all nodes at once.
 #[test]
 fn fan_out(rt: HostRuntime) -> Result<(), Fail> {
     let alloc = rt.alloc();
@@ -454,14 +451,12 @@ fn tells_each<R: Abort + Print>(
     sees(rt, alloc, &mut client, "query_each", answers, wanted, texts)
 }
 
-// Does without 4 of its requests: a new client's set of addresses.
 #[test]
 fn each_position(rt: HostRuntime) -> Result<(), Fail> {
     let wanted = "0, 1, false 0 0 0 48 20, n1 GET b, n2 GET a";
     tells_each(&rt, rt.alloc(), false, wanted, &EACH)
 }
 
-// Does without 4 of its requests: a new client's set of addresses.
 #[test]
 fn a_position_in_parts(rt: HostRuntime) -> Result<(), Fail> {
     let wanted = "0, 1, false 0 0 0 48 20, n1 DEL b, n2 DEL a";
@@ -532,7 +527,6 @@ fn is_four(outcome: Result<Vec<i64>, RedisError>) -> i64 {
     }
 }
 
-// Does without 4 of its requests: a new client's set of addresses.
 #[test]
 fn transaction(rt: HostRuntime) -> Result<(), Fail> {
     let alloc = rt.alloc();
@@ -585,7 +579,6 @@ fn later_reads(alloc: Global, client: &mut Client) -> Result<String, RedisError>
     Ok(format!(in alloc; "{primary}, {replica}, {n1}")?)
 }
 
-// Does without 4 of its requests: a new client's set of addresses.
 #[test]
 fn picked_read(rt: HostRuntime) -> Result<(), Fail> {
     let alloc = rt.alloc();
@@ -656,7 +649,7 @@ fn links_once<R: Abort + Print>(rt: &R, alloc: Global, client: &mut Client) -> R
     Ok(())
 }
 
-// Does without 5 of its requests: a new client's set of addresses, and room for all nodes at once.
+// Does without 1 of its requests: room for all nodes at once.
 #[test]
 fn new_link(rt: HostRuntime) -> Result<(), Fail> {
     let alloc = rt.alloc();
@@ -664,5 +657,84 @@ fn new_link(rt: HostRuntime) -> Result<(), Fail> {
     counts_unlinked(&rt, alloc, &client)?;
     links_once(&rt, alloc, &mut client)?;
     assert_eq!(rt; client.links().len(), 2);
+    Ok(())
+}
+
+/// A node of this port, and a link to it.
+fn numbered(alloc: Global, port: u16) -> Result<(NodeAddress, Link), RedisError> {
+    let address = format!(in alloc; "n:{port}")?;
+    Ok((node(alloc, address.as_str())?, link(alloc, b"")?))
+}
+
+/// A client of ten nodes, which are more than are looked through.
+fn many(alloc: Global) -> Result<Client, RedisError> {
+    let mut links: Links = Vec::new(alloc);
+    for port in 1..11 {
+        links.push(numbered(alloc, port)?)?;
+    }
+    ClusterClient::new(alloc, links, Vec::new(alloc), 1)
+}
+
+fn many_again<R: Print>(rt: &R, alloc: Global) -> Result<Client, Fail> {
+    match many(alloc) {
+        Ok(client) => Ok(client),
+        Err(_) => {
+            println!(rt; "refused client")?;
+            Ok(many(alloc)?)
+        }
+    }
+}
+
+/// Puts a link to an eleventh node; a refused one leaves the ten.
+fn links_eleventh(alloc: Global, client: &mut Client) -> Result<bool, RedisError> {
+    let (node, link) = numbered(alloc, 11)?;
+    Ok(client.set_link(node, link)?.is_none())
+}
+
+fn links_eleventh_again<R: Abort + Print>(
+    rt: &R,
+    alloc: Global,
+    client: &mut Client,
+) -> Result<(), Fail> {
+    match links_eleventh(alloc, client) {
+        Ok(is_new) => assert!(rt; is_new),
+        Err(_) => {
+            println!(rt; "refused set_link")?;
+            assert_eq!(rt; client.links().len(), 10);
+            assert!(rt; links_eleventh(alloc, client)?);
+        }
+    }
+    Ok(())
+}
+
+/// How many of twelve nodes have a link.
+fn linked(alloc: Global, client: &Client) -> Result<usize, RedisError> {
+    let mut count: usize = 0;
+    for port in 1..13 {
+        let (node, _) = numbered(alloc, port)?;
+        if client.link_state(&node).is_some() {
+            count = count.saturating_add(1);
+        }
+    }
+    Ok(count)
+}
+
+fn linked_again<R: Print>(rt: &R, alloc: Global, client: &Client) -> Result<usize, Fail> {
+    match linked(alloc, client) {
+        Ok(count) => Ok(count),
+        Err(_) => {
+            println!(rt; "refused link_state")?;
+            Ok(linked(alloc, client)?)
+        }
+    }
+}
+
+// Does without 15 of its requests: the table of the addresses, and what it learns.
+#[test]
+fn many_links(rt: HostRuntime) -> Result<(), Fail> {
+    let alloc = rt.alloc();
+    let mut client = many_again(&rt, alloc)?;
+    links_eleventh_again(&rt, alloc, &mut client)?;
+    assert_eq!(rt; linked_again(&rt, alloc, &client)?, 11);
     Ok(())
 }

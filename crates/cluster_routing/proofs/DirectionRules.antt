@@ -1,10 +1,8 @@
 -- The direction by the rule of a command's name is that of its word and its destination.
 use Rattle.std.specs.List.{list_any, list_all}
 use Rattle.std.specs.Prelude.{is_some, slice_get, if◌then◌else◌}
-use Rattle.std.specs.Str.{str_eq_ignore_ascii_case, str_to_ascii_lowercase}
 use Rattle.std.proofs.Common.{◌≡◌, ℕ, ◌==◌, ◌||◌, Bool, true, false, cond, not, List, [], ◌∷◌, ◌++◌, Option, Some, None, refl, sym, ap, ◌∙◌}
 use Rattle.std.proofs.lemmas.Bool.{false≢true, and_parts}
-use Rattle.std.proofs.lemmas.Slice.Eq.{bytes_eq-Decides}
 use Rattle.cluster_routing.specs.Command.{Args, bytes_of, is_one_of, name_by}
 use Rattle.cluster_routing.specs.Directions.{direction, direction_by, one_direction}
 use Rattle.cluster_routing.specs.Routing.{destination, destination_by, destination_of_word, name_of_word, role_of}
@@ -13,6 +11,7 @@ use Rattle.cluster_routing.specs.Table.{Row, Rule, split, key_after_streams, cou
 use Rattle.cluster_routing.specs.declared.direction.Direction.{Direction}
 use Rattle.cluster_routing.specs.declared.direction.Direction.TheVariants.{SplitByKeys, Elsewhere}
 use Rattle.cluster_routing.specs.declared.route.SlotAddr.{SlotAddr}
+use Rattle.cluster_routing.proofs.Spaces.{has_space, not_among, spaced}
 use Rattle.cluster_routing.proofs.SplitWords.{family_nowhere}
 
 by_rule : (role : SlotAddr) (args : Args) (rule : Rule) → direction_by role args rule ≡ (if is_some (splitting_by rule) then SplitByKeys else one_direction (destination_by role args rule))
@@ -28,29 +27,12 @@ by_rule role args nowhere = refl
 
 -- ---- no name of a split command has a space
 
-abbrev has_space : List ℕ → Bool
-has_space text = list_any (λ byte. byte == 32) (str_to_ascii_lowercase text)
-
 abbrev is_plain : Row → Bool
 is_plain r = not (is_some (splitting_by r.rule)) || list_all (λ name. not (has_space name)) r.names
 
 all_plain : list_all is_plain table ≡ true
 unfolding table
 all_plain = refl
-
-not_among : (names : List (List ℕ)) (text : List ℕ) → has_space text ≡ true → list_all (λ name. not (has_space name)) names ≡ true → is_one_of names text ≡ false
-not_among [] text s a = refl
-not_among (n ∷ ns) text s a = by (str_eq_ignore_ascii_case n text) refl both.0 (not_among ns text s both.1)
-  where
-    both : (not (has_space n) ≡ true) × (list_all (λ name. not (has_space name)) ns ≡ true)
-    both = and_parts (not (has_space n)) (list_all (λ name. not (has_space name)) ns) a
-
-    by : (b : Bool) → str_eq_ignore_ascii_case n text ≡ b → not (has_space n) ≡ true → is_one_of ns text ≡ false → (b || is_one_of ns text) ≡ false
-    by false e f ih = ih
-    by true e f ih =
-        let same : str_to_ascii_lowercase n ≡ str_to_ascii_lowercase text = (bytes_eq-Decides (str_to_ascii_lowercase n) (str_to_ascii_lowercase text)).0 e in
-        let there : has_space n ≡ true = ap (list_any (λ byte. byte == 32)) same ∙ s in
-        absurd (false≢true (ap not (sym there) ∙ f))
 
 no_split : (rows : List Row) (text : List ℕ) → has_space text ≡ true → list_all is_plain rows ≡ true → is_some (splitting_by (rule_in rows text nowhere)) ≡ false
 no_split [] text s a = refl
@@ -64,14 +46,6 @@ no_split (r ∷ rows) text s a = by (is_some (splitting_by r.rule)) (is_one_of r
     by splits false e f p ih = ih
     by false true e f p ih = e
     by true true e f p ih = absurd (false≢true (sym (not_among r.names text s p) ∙ f))
-
-or_true : (b c : Bool) → c ≡ true → (b || c) ≡ true
-or_true true c e = refl
-or_true false c e = e
-
-spaced : (word second : List ℕ) → has_space (word ++ 32 ∷ second) ≡ true
-spaced [] second = refl
-spaced (w ∷ word) second = or_true _ (has_space (word ++ 32 ∷ second)) (spaced word second)
 
 -- ---- a name is split just where its word is
 

@@ -37,4 +37,5 @@ pub mod CountsInTurn
 pub mod AggregatesInTurn
 pub mod SameRoutings
 pub mod Lengths
+pub mod Spaces
 mod DirectionRules

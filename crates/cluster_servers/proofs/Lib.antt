@@ -2,3 +2,4 @@ pub mod Outcomes
 pub mod Asking
 pub mod Telling
 pub mod LawProofs
+pub mod SlotTargets

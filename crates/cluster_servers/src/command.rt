@@ -1,14 +1,17 @@
 //! What a guest asks of the cluster.
 ghost use Rattle.std.proofs.Props.{props};
-ghost use Rattle.std.specs.Prelude.{◌≡◌, length, map, IfOk};
+ghost use Rattle.std.specs.Prelude.{◌≡◌, ◌∷◌, [], filter_map, length, map, nat_lt, IfOk};
 ghost use Rattle.resp_args.specs.Packed.{packed, sent};
-ghost use Rattle.cluster_steps.specs.FirstPlaces.{part_of};
-ghost use Rattle.cluster_servers.specs.Slots.{overlap, slots_in, slots_of};
+ghost use Rattle.cluster_routing.specs.Info.{shown_parts};
+ghost use Rattle.cluster_steps.specs.CodeParts.{route_target, targets_in};
+ghost use Rattle.cluster_steps.specs.FirstPlaces.{target_of};
+ghost use Rattle.cluster_servers.specs.Slots.{overlap, slot_at, slots_of};
 
-use cluster_steps::route::{Part, Target, parts_of};
+use cluster_routing::Route;
+use cluster_steps::route::{Target, Targets, targets_of};
 use proxy_core::{Bytes, Command};
 use resp_args::Cmd;
-use resp_core::{Cause, Protocol};
+use resp_core::{ErrorKind, Protocol};
 use std::alloc::{AllocError, Global};
 
 /// A command of a guest, and the protocol in which the guest reads its reply.
@@ -37,31 +40,63 @@ impl GuestCommand {
             bytes,
         })
     }
+
+    /// The command.
+    pub fn command(&self) -> &Cmd
+        ensures { result.now ≡ self.now.command }
+    {
+        &self.command
+    }
+
+    /// Whether it goes by its keys: to the node of their slot, or in parts to the nodes of several.
+    pub fn has_slots(&self) -> bool
+        ensures { result ≡ nat_lt 0 (length (slots_of self.now.command)) }
+    {
+        !self.slots.is_empty()
+    }
 }
 
 /// The slots of a command's keys.
 fn slots_of(alloc: Global, command: &Cmd) -> Result<Vec<u16>, AllocError>
     ensures { IfOk result (λ slots. slots.items ≡ slots_of command.now) }
 {
-    match parts_of(alloc, command, &[], 0) {
-        Ok(parts) => slots_in(alloc, &parts.list),
-        Err(error) => match error.cause() {
-            Some(Cause::Memory) => Err(AllocError),
+    match targets_of(alloc, command, &[], 0) {
+        Ok(targets) => slots_in(alloc, &targets),
+        Err(error) => match error.kind() {
+            ErrorKind::Memory => Err(AllocError),
             _ => Ok(Vec::new(alloc)),
         },
     }
 }
 
-/// The slots that parts go to.
-fn slots_in(alloc: Global, parts: &[Part]) -> Result<Vec<u16>, AllocError>
-    ensures { IfOk result (λ slots. slots.items ≡ slots_in (map part_of parts.now)) }
+/// The slots that the parts of a command go to.
+fn slots_in(alloc: Global, targets: &Targets) -> Result<Vec<u16>, AllocError>
+    ensures { IfOk result (λ slots. slots.items ≡ filter_map slot_at (targets_in targets.now)) }
 {
-    let mut slots = Vec::with_capacity(alloc, parts.len())?;
-    'parts: for part in parts {
-        match &part.target {
-            Target::Slot(route) => slots.push(route.slot())?,
-            Target::Number(_) => {}
-        }
+    match targets {
+        Targets::Whole(target) => slot_at(alloc, target),
+        Targets::Split(split) => slots_at(alloc, &split.routes),
+    }
+}
+
+/// The slot that a target is a node of, if it is one.
+fn slot_at(alloc: Global, target: &Target) -> Result<Vec<u16>, AllocError>
+    ensures { IfOk result (λ slots. slots.items ≡ filter_map slot_at (target_of target.now ∷ [])) }
+{
+    match target {
+        Target::Slot(route) => Vec::from_slice(alloc, &[route.slot()]),
+        Target::Number(_) => Ok(Vec::new(alloc)),
+    }
+}
+
+/// The slots of routes.
+fn slots_at(alloc: Global, routes: &[(Route, Vec<usize>)]) -> Result<Vec<u16>, AllocError>
+    ensures { IfOk result
+        (λ slots. slots.items ≡ filter_map slot_at (map route_target (shown_parts routes.now))) }
+{
+    let mut slots = Vec::with_capacity(alloc, routes.len())?;
+    'routes: for route in routes {
+        slots.push(route.0.slot())?;
     }
     Ok(slots)
 }

@@ -15,7 +15,6 @@ fn scene<R: Print>(rt: &R, alloc: Global) -> Result<Scene, Fail> {
     }
 }
 
-// Does without 4 of its requests: a new client's set of addresses.
 #[test]
 fn whichever_request_is_refused_no_reply_is_wrong(rt: HostRuntime) -> Result<(), Fail> {
     let alloc = rt.alloc();

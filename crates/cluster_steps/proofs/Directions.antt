@@ -1,6 +1,8 @@
 -- The direction of a command, and its parts.
 use Rattle.std.specs.Prelude.{if◌then◌else◌}
-use Rattle.std.proofs.Common.{◌≡◌, ℕ, Bool, true, false, List, Option, Some, None, refl, sym, ap, ◌∙◌}
+use Rattle.std.proofs.Common.{◌≡◌, ℕ, Bool, true, false, List, [], ◌∷◌, Option, Some, None, Result, Ok, Err, refl, sym, ap, ◌∙◌}
+use Rattle.resp_core.specs.Errors.{Refusal, by_cause}
+use Rattle.resp_core.specs.declared.errors.redis_error.Cause.TheVariants.{NoRoute}
 use Rattle.resp_args.specs.Command.{Command}
 use Rattle.resp_args.specs.Packed.{sent}
 use Rattle.cluster_routing.specs.Command.{Args}
@@ -9,7 +11,8 @@ use Rattle.cluster_routing.specs.Routing.{Destination, to_any_node, to_any_prima
 use Rattle.cluster_routing.specs.Split.{has_split_word}
 use Rattle.cluster_routing.specs.declared.direction.Direction.{Direction}
 use Rattle.cluster_routing.specs.declared.direction.Direction.TheVariants.{SplitByKeys}
-use Rattle.cluster_calls.specs.Calls.Parts.{only_part, parts_of}
+use Rattle.cluster_calls.specs.Calls.Parts.{Target, only_part, parts_of}
+use Rattle.cluster_steps.specs.CodeParts.{part_targets}
 use Rattle.cluster_steps.specs.FirstPlaces.{is_split, part_by, target_by}
 
 not_split : (d : Option Destination) → is_split (one_direction d) ≡ false
@@ -53,3 +56,16 @@ whole d command read_only number response e s =
   where
     word : has_split_word command.args ≡ false
     word = word_of d command.args read_only false e s
+
+-- where it goes
+abbrev pub to_one : Option Target → Result (List Target) Refusal
+to_one None = Err (by_cause NoRoute)
+to_one (Some target) = Ok (target ∷ [])
+
+one_target : (args : List (List ℕ)) (o : Option Target) → to_one o ≡ part_targets (part_by args o)
+one_target args None = refl
+one_target args (Some target) = refl
+
+pub whole_targets : (d : Direction) (command : Command) (read_only : List (List ℕ)) (number : ℕ) → command.no_response ≡ false → d ≡ direction command.args read_only → is_split d ≡ false
+    → to_one (target_by number d) ≡ part_targets (parts_of read_only command number)
+whole_targets d command read_only number response e s = one_target (sent command) (target_by number d) ∙ ap part_targets (whole d command read_only number response e s)

@@ -9,6 +9,7 @@ pub mod Dispatching
 pub mod Dispatched
 pub mod SplitCommands
 mod Directions
+pub mod PartTargets
 pub mod PartReplies
 pub mod Joining
 pub mod OneSlot
@@ -17,3 +18,4 @@ pub mod ReadStreams
 pub mod JoinedReads
 pub mod PipelineReads
 pub mod AttemptReplies
+pub mod DistinctLinks

@@ -14,8 +14,8 @@ use Rattle.cluster_routing.specs.declared.route.Route.{Route}
 use Rattle.cluster_routing.specs.declared.route.SlotAddr.{SlotAddr}
 use Rattle.cluster_routing.proofs.SplitWords.{split_words_are_names}
 use Rattle.cluster_routing.proofs.PartPlaces.{subs_are_at_their_places}
-use Rattle.cluster_calls.specs.Calls.Parts.{is_gap, role_by, slot_part, split_parts, parts_of}
-use Rattle.cluster_steps.specs.CodeParts.{part_at}
+use Rattle.cluster_calls.specs.Calls.Parts.{Part, at_slot, is_gap, role_by, slot_part, split_parts, parts_of}
+use Rattle.cluster_steps.specs.CodeParts.{part_at, part_targets, route_target}
 
 -- ---- arguments without a gap
 
@@ -67,6 +67,11 @@ module _ (read_only : List (List ℕ)) (command : Command) (g : list_any is_gap 
   every [] = refl
   every (slot ∷ slots) = rw (one slot, every slots) refl
 
+-- where the parts of a command that is cut go
+targets_at : (command : Route × List ℕ → Command) (routes : List (Route × List ℕ)) → map (λ (part : Part). part.target) (map part_at (zip routes (map command routes))) ≡ map route_target routes
+targets_at command [] = refl
+targets_at command (r ∷ routes) = ap (λ ts. at_slot r.0 ∷ ts) (targets_at command routes)
+
 -- ---- a command of a split word
 
 pub cut_bytes : (read_only : List (List ℕ)) (command : Command) → list_any is_gap command.args ≡ false → parts_by_place command.args read_only ≡ option_map (split_by_place read_only) (split_of (sent command))
@@ -95,3 +100,6 @@ module _ (read_only : List (List ℕ)) (command : Command) (response : command.n
       by (Some split) s k =
           let same : made ≡ split_by_place read_only split = cc in
           rw same (cut_up g ∙ ap (split_parts (role_by (name_of command.args) read_only)) s ∙ ap (λ ps. Ok ps) (sym (every read_only command g split s (part_slots split.tuples))))
+
+  pub targets_parted : list_any is_gap command.args ≡ false → (made : PartsByPlace) → Some made ≡ parts_by_place command.args read_only → part_targets (parts_of read_only command number) ≡ Ok (map route_target made.routes)
+  targets_parted g made e = ap part_targets (parted g made e) ∙ ap (λ ts. Ok ts) (targets_at (command_at command.args) made.routes)

@@ -1,6 +1,7 @@
 //! The links, found by the addresses of their nodes.
 ghost use Rattle.std.specs.List.{list_any};
-ghost use Rattle.std.specs.Prelude.{◌≡◌, ◌<◌, length, map, position, vec_len, IfOk, IfSome, MatchOption, MatchResult, false};
+ghost use Rattle.std.proofs.Props.{props};
+ghost use Rattle.std.specs.Prelude.{◌≡◌, ◌<◌, ◌++◌, ◌∷◌, [], None, Some, is_some, length, map, not, position, vec_len, IfOk, IfSome, MatchOption, MatchResult, OnErr, OnOk, false};
 ghost use Rattle.resp_core.specs.View.{view};
 ghost use Rattle.cluster_routing.specs.Address.{same_address};
 ghost use Rattle.cluster_routing.specs.Seen.{address};
@@ -12,20 +13,109 @@ use indexmap::IndexSet;
 use resp_core::{RedisError, Value};
 use resp_link::ConnectionLike;
 use std::alloc::{AllocError, Global};
+use std::mem;
+
+/// So few links are looked through as quickly as a table is asked.
+const FEW: usize = 8;
 
 /// The links of a client, one for each node.
 #[derive(Drop)]
 pub struct Links<L> {
     pub nodes: Vec<(NodeAddress, L)>,
+
+    // The addresses in the order of the nodes, where these are many. A hint: who asks it looks there.
+    places: Option<IndexSet<NodeAddress>>,
+    ghost distinct: { has_repeats (map (λ link. address link.0) nodes.items) ≡ false } by { Prim.hlevel props },
+}
+
+impl<L: ConnectionLike + Drop> Links<L> {
+    /// These links, unless an address is given twice. Where memory is refused it takes the square of the
+    /// time.
+    pub fn new(alloc: Global, links: Vec<(NodeAddress, L)>) -> Option<Links<L>>
+        ensures repeated { is_some result ≡ not (has_repeats (addresses_of (nodes L.seen links.items))) }
+        ensures kept { IfSome result (λ made. made.nodes ≡ links) }
+    {
+        if links.len() <= FEW {
+            return without_table(links);
+        }
+        match table_of(alloc, &links) {
+            Ok(Some(table)) => Some(Links {
+                nodes: links,
+                places: Some(table),
+            }),
+            Ok(None) => None,
+            Err(_) => without_table(links),
+        }
+    }
+
+    /// Puts a node that is new, and its link, behind the others.
+    ///
+    /// # Errors
+    /// `AllocError` where memory is refused for the links; what is refused for the table only makes it slow.
+    pub fn push(&mut self, node: NodeAddress, link: L) -> Result<(), AllocError>
+        requires { place_at (nodes L.seen self.old.nodes.items) (address node) ≡ None }
+        ensures put { OnOk result (self.new.nodes.items ≡ self.old.nodes.items ++ ((node, link) ∷ [])) }
+        ensures stays { OnErr result (self.new.nodes.items ≡ self.old.nodes.items) }
+    {
+        self.nodes.push((node, link))?;
+        self.learn_last();
+        Ok(())
+    }
 }
 
 impl<L: ConnectionLike> Links<L> {
+    /// Puts a link in the place of the one that stands there, which is handed back.
+    pub fn replace(&mut self, which: usize, link: L) -> L
+        requires { which < vec_len self.old.nodes }
+        ensures { Calls (nodes L.seen self.old.nodes.items) (nodes L.seen self.new.nodes.items) which
+            (λ before after. (before ≡ L.seen result) × (after ≡ L.seen link)) }
+    {
+        mem::replace(&mut self.nodes[which].1, link)
+    }
+
+    /// The table learns of the last node, or is made anew.
+    fn learn_last(&mut self)
+        ensures { self.new.nodes ≡ self.old.nodes }
+    {
+        if let Some(table) = self.places.take() {
+            self.places = with_last(table, &self.nodes).ok();
+        }
+        self.renew_table();
+    }
+
+    /// Makes the table of many nodes that have none. Where memory is refused, they go without.
+    pub fn renew_table(&mut self)
+        ensures { self.new.nodes ≡ self.old.nodes }
+    {
+        if self.places.is_none() && self.nodes.len() > FEW {
+            self.places = table_of(*self.nodes.allocator(), &self.nodes).unwrap_or(None);
+        }
+    }
+
     /// The place of a node.
     pub fn place_of(&self, node: &NodeAddress) -> Option<usize>
         ensures place { result ≡ place_at (nodes L.seen self.now.nodes.items) (address node.now) }
         ensures within { IfSome result (λ which. which < vec_len self.now.nodes) }
     {
-        place_of(&self.nodes, node)
+        match self.told_place(node) {
+            Some(which) => Some(which),
+            None => place_of(&self.nodes, node),
+        }
+    }
+
+    /// The place of a node by the table, where the node does stand there.
+    fn told_place(&self, node: &NodeAddress) -> Option<usize>
+        ensures place { IfSome result
+            (λ which. place_at (nodes L.seen self.now.nodes.items) (address node.now) ≡ Some which) }
+        ensures within { IfSome result (λ which. which < vec_len self.now.nodes) }
+    {
+        let which = self.places.as_ref()?.get_index_of(node)?;
+        let link = self.nodes.get(which)?;
+        if is_same(&link.0, node) {
+            Some(which)
+        } else {
+            None
+        }
     }
 
     /// The place of a node whose link is open.
@@ -43,14 +133,6 @@ impl<L: ConnectionLike> Links<L> {
         } else {
             None
         }
-    }
-
-    /// Whether an address is given twice. It takes some memory where that is there, and else the square of
-    /// the time.
-    pub fn has_repeats(&self, alloc: Global) -> bool
-        ensures { result ≡ has_repeats (addresses_of (nodes L.seen self.now.nodes.items)) }
-    {
-        has_repeats(alloc, &self.nodes)
     }
 
     /// One link call of the node at this place: it sends the bytes, drops `offset` replies, and
@@ -152,28 +234,44 @@ fn repeats_behind<L: ConnectionLike>(links: &[(NodeAddress, L)]) -> bool
     false
 }
 
-/// The same by a set of those that were seen.
-fn repeats_seen<L: ConnectionLike>(
+/// Links without a table, unless an address is given twice.
+fn without_table<L: ConnectionLike + Drop>(links: Vec<(NodeAddress, L)>) -> Option<Links<L>>
+    ensures repeated { is_some result ≡ not (has_repeats (addresses_of (nodes L.seen links.items))) }
+    ensures kept { IfSome result (λ made. made.nodes ≡ links) }
+{
+    if repeats_behind(&links) {
+        return None;
+    }
+    Some(Links {
+        nodes: links,
+        places: None,
+    })
+}
+
+/// The addresses of the links in their order, unless one is given twice.
+fn table_of<L: ConnectionLike>(
     alloc: Global,
     links: &[(NodeAddress, L)],
-) -> Result<bool, AllocError>
-    ensures { IfOk result (λ b. b ≡ has_repeats (addresses_of (nodes L.seen links.now))) }
+) -> Result<Option<IndexSet<NodeAddress>>, AllocError>
+    ensures { IfOk result (λ table. is_some table ≡ not (has_repeats (addresses_of (nodes L.seen links.now)))) }
 {
     let mut seen = IndexSet::with_capacity(alloc, links.len())?;
     'links: for link in links {
-        if !seen.insert(&link.0)? {
-            return Ok(true);
+        if !seen.insert(link.0.clone()?)? {
+            return Ok(None);
         }
     }
-    Ok(false)
+    Ok(Some(seen))
 }
 
-/// Whether an address is given twice. Memory only makes it quick.
-fn has_repeats<L: ConnectionLike>(alloc: Global, links: &[(NodeAddress, L)]) -> bool
-    ensures { result ≡ has_repeats (addresses_of (nodes L.seen links.now)) }
-{
-    match repeats_seen(alloc, links) {
-        Ok(repeats) => repeats,
-        Err(_) => repeats_behind(links),
+/// The table with the address of the last link.
+fn with_last<L>(
+    table: IndexSet<NodeAddress>,
+    links: &[(NodeAddress, L)],
+) -> Result<IndexSet<NodeAddress>, AllocError> {
+    let mut table = table;
+    if let Some(last) = links.last() {
+        table.insert(last.0.clone()?)?;
     }
+    Ok(table)
 }

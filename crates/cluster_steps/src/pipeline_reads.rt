@@ -18,7 +18,7 @@ use std::alloc::{AllocError, Global};
 pub fn reads_several_slots(alloc: Global, command: &Cmd) -> Result<bool, AllocError>
     ensures { IfOk result (λ b. b ≡ reads_several_slots command.now.args) }
 {
-    if !is_read(alloc, command)? {
+    if !is_read(command) {
         return Ok(false);
     }
     match command.position(b"STREAMS") {
@@ -27,12 +27,13 @@ pub fn reads_several_slots(alloc: Global, command: &Cmd) -> Result<bool, AllocEr
     }
 }
 
-fn is_read(alloc: Global, command: &Cmd) -> Result<bool, AllocError>
-    ensures { IfOk result (λ b. b ≡ is_read_name (name_of command.now.args)) }
+/// Whether a command is an `XREAD`: its word tells, since no word of a family is that.
+fn is_read(command: &Cmd) -> bool
+    ensures { result ≡ is_read_name (name_of command.now.args) }
 {
-    match command.command(alloc)? {
-        Some(name) => Ok(is_xread(&name)),
-        None => Ok(false),
+    match command.arg_idx(0) {
+        Some(word) => is_xread(word),
+        None => false,
     }
 }
 

@@ -8,7 +8,7 @@ ghost use Rattle.resp_args.specs.Packed.{sent};
 ghost use Rattle.cluster_routing.specs.Info.{shown_parts, shown_split, texts};
 ghost use Rattle.cluster_routing.specs.Split.{has_split_word, parts_by_place};
 ghost use Rattle.cluster_calls.specs.Calls.Parts.{is_gap, parts_of};
-ghost use Rattle.cluster_steps.specs.CodeParts.{IsWholePart, part_at, parts_by};
+ghost use Rattle.cluster_steps.specs.CodeParts.{IsSplitBy, IsWholePart, part_at, part_targets, parts_by, split_in, targets_by};
 ghost use Rattle.cluster_steps.specs.FirstPlaces.{is_split, one_part, part_by, part_of, target_by, target_of};
 
 use cluster_routing::{Direction, Route, SplitParts};
@@ -39,6 +39,15 @@ pub struct Parts {
     pub split: Option<SplitParts>,
 }
 
+/// Where the parts of a command are to go.
+#[derive(Drop)]
+pub enum Targets {
+    /// A command that is not split, whole.
+    Whole(Target),
+    /// The parts of one whose word is split by its keys, each to a node of its slot.
+    Split(SplitParts),
+}
+
 /// The parts of a command.
 ///
 /// # Errors
@@ -63,6 +72,37 @@ pub fn parts_of(
     let mut list = Vec::new(alloc);
     list.push(part)?;
     Ok(Parts { list, split: None })
+}
+
+/// Where the parts of a command are to go. No argument is copied.
+///
+/// # Errors
+/// As `parts_of`.
+pub fn targets_of(
+    alloc: Global,
+    cmd: &Cmd,
+    read_only: &[Vec<u8>],
+    number: u64,
+) -> Result<Targets, RedisError>
+    ensures targets { result ≢ Err (by_cause Memory)
+        → targets_by result ≡ part_targets (parts_of (texts read_only.now) cmd.now number) }
+    ensures split { IfOk result
+        (λ t. option_map shown_split (split_in t) ≡ parts_by_place cmd.now.args (texts read_only.now)) }
+{
+    if cmd.is_no_response() {
+        return Err(RedisError::from(Cause::NoResponse));
+    }
+    let direction = Direction::for_routable(alloc, cmd, read_only)?;
+    if is_split(direction) {
+        return match split_of(alloc, cmd, read_only) {
+            Ok(split) => Ok(Targets::Split(split)),
+            Err(e) => Err(e),
+        };
+    }
+    match target_in(direction, number) {
+        Some(target) => Ok(Targets::Whole(target)),
+        None => Err(RedisError::from(Cause::NoRoute)),
+    }
 }
 
 /// The one part of a command that is not split by its keys: the command whole. `None` for a command that is.
@@ -118,6 +158,22 @@ fn is_gap(arg: Arg<&[u8]>) -> bool
     }
 }
 
+/// How a command is split whose word is split by its keys.
+fn split_of(alloc: Global, cmd: &Cmd, read_only: &[Vec<u8>]) -> Result<SplitParts, RedisError>
+    requires word { has_split_word cmd.now.args ≡ true }
+    requires response { cmd.now.no_response ≡ false }
+    ensures { result ≢ Err (by_cause Memory) → (number : ℕ)
+        → IsSplitBy (texts read_only.now) cmd.now number result }
+{
+    if has_gap(cmd.args_iter()) {
+        return Err(RedisError::from(Cause::CursorInSplit));
+    }
+    match SplitParts::for_routable(alloc, cmd, read_only)? {
+        Some(split) => Ok(split),
+        None => Err(RedisError::from(Cause::BrokenTuples)),
+    }
+}
+
 /// The parts of a command whose word is split by its keys: one for each of their slots.
 fn split_parts(alloc: Global, cmd: &Cmd, read_only: &[Vec<u8>]) -> Result<Parts, RedisError>
     requires word { has_split_word cmd.now.args ≡ true }
@@ -127,11 +183,9 @@ fn split_parts(alloc: Global, cmd: &Cmd, read_only: &[Vec<u8>]) -> Result<Parts,
     ensures split { IfOk result
         (λ p. option_map shown_split p.split ≡ parts_by_place cmd.now.args (texts read_only.now)) }
 {
-    if has_gap(cmd.args_iter()) {
-        return Err(RedisError::from(Cause::CursorInSplit));
-    }
-    let Some(split) = SplitParts::for_routable(alloc, cmd, read_only)? else {
-        return Err(RedisError::from(Cause::BrokenTuples));
+    let split = match split_of(alloc, cmd, read_only) {
+        Ok(split) => split,
+        Err(e) => return Err(e),
     };
     let commands = split.commands(alloc, cmd)?;
     let list = parts_at(alloc, &split.routes, &commands)?;

@@ -1,7 +1,7 @@
 //! Commands that are asked by themselves.
 use crate::ask::{Ask, How};
 use crate::block::{flat_by, waits, without_waiting};
-use crate::info::with_waiting;
+use crate::info::{is_saving, with_waiting};
 use crate::own::refuse;
 use crate::scan::{primaries, scan};
 use crate::way::{Way, argument, is_word};
@@ -51,6 +51,30 @@ pub(crate) fn ask_first<L: ConnectionLike + Drop>(
         Some(node) => ask_at(alloc, client, node, command),
         None => Err(RedisError::from(Cause::NoNode)),
     }
+}
+
+/// Asks for INFO: the first primary that is saving, so that who waits for an end waits for that of all, or else the
+/// first.
+fn ask_info<L: ConnectionLike + Drop>(
+    alloc: Global,
+    client: &mut ClusterClient<L>,
+    command: &Cmd,
+) -> Result<Value, RedisError> {
+    let mut told = Err(RedisError::from(Cause::NoNode));
+    for (number, node) in primaries(alloc, client)?.iter().enumerate() {
+        let next: Result<Value, RedisError> = ask_at(alloc, client, node, command);
+        let saves = match &next {
+            Ok(value) => is_saving(value),
+            Err(_) => false,
+        };
+        if saves {
+            return next;
+        }
+        if number == 0 {
+            told = next;
+        }
+    }
+    told
 }
 
 /// Asks all primaries, one after the other: the answer is the first error, or what the last one told.
@@ -148,7 +172,7 @@ fn answer<L: ConnectionLike + Drop>(
         How::Alone(Way::InTurn, command) => ask_in_turn(alloc, client, around.number, command),
         How::Alone(Way::Primaries, command) => ask_primaries(alloc, client, command),
         How::Alone(Way::FirstNode, command) if is_word(command, 0, b"INFO") => {
-            match ask_first(alloc, client, command) {
+            match ask_info(alloc, client, command) {
                 Ok(told) => Ok(with_waiting(alloc, told, around.waiting)?),
                 Err(error) => Err(error),
             }

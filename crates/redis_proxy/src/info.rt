@@ -1,4 +1,4 @@
-//! INFO of a node, with the count of the guests that wait in place of its own.
+//! INFO of a node, with the count of the guests that wait in place of its own, and whether it saves its keys.
 use cluster_client::Value;
 use std::alloc::{AllocError, Global};
 
@@ -20,6 +20,24 @@ fn with_count(alloc: Global, text: &[u8], count: usize) -> Result<Vec<u8>, Alloc
     // Behind the last piece there was none.
     let _added = told.pop();
     Ok(told)
+}
+
+fn has_progress(text: &[u8]) -> bool {
+    for line in text.split(|byte| *byte == b'\n') {
+        if line.ends_with(b"_in_progress:1\r") {
+            return true;
+        }
+    }
+    false
+}
+
+/// Whether a node told that it saves its keys, or writes its file of commands anew.
+pub(crate) fn is_saving(told: &Value) -> bool {
+    match told {
+        Value::BulkString(text) => has_progress(text),
+        Value::VerbatimString { text, .. } => has_progress(text.as_bytes()),
+        _ => false,
+    }
 }
 
 /// What a node told, with the count of those that wait.

@@ -6,6 +6,9 @@
 //! many bytes of that guest. A frame of none ends the guest. A frame for the number 4294967295 asks for the
 //! time behind so many milliseconds, and one of that number tells it.
 //!
+//! `redis_proxy FOLDER --frames NUMBER PROGRAMS` is the program of this number, from 0, of so many that stand
+//! side by side, each with guests and a folder of its own. Their guests have different ids.
+//!
 //! It opens no socket. The file `nodes` of the folder lists the nodes, `host:port` a line. For each node the
 //! folder has pairs of FIFOs, `host:port.0.to` and `host:port.0.from`, then `.1.`, and so on: another program
 //! joins each pair to a socket of the node.
@@ -17,6 +20,7 @@ mod cluster;
 mod frames;
 mod guest;
 mod held;
+mod ids;
 mod info;
 mod last_ids;
 mod own;

@@ -1,14 +1,17 @@
 //! The program's loop: input, turns of the cluster, output.
 use crate::cluster::Cluster;
+use crate::ids::Ids;
 use crate::session::Session;
 use crate::side::Side;
 use crate::waits::Waits;
 use anyhow::Result;
 use node_files::{Link, Peer, listed, relink};
 use resp_core::Protocol;
+use std::alloc::Global;
+use std::env::{self, Args};
+use std::io;
 use std::io::{Read, Write};
 use std::rt::{Env, Files};
-use std::{env, io};
 
 // How many bytes one read takes at most.
 const PIECE: usize = 65536;
@@ -45,7 +48,7 @@ fn turn<R: Files + AllocGlobal>(
     restore(rt, folder, peers, &mut cluster.three)?;
     cluster.two.servers.patient = is_patient;
     cluster.three.servers.patient = is_patient;
-    session.proxy.turn(rt.alloc(), &mut session.cluster)?;
+    session.frontend.turn(rt.alloc(), &mut session.cluster)?;
     Ok(())
 }
 
@@ -97,6 +100,7 @@ fn flush<R: Print>(rt: &R, output: &mut Vec<u8>) -> io::Result<()> {
 fn session_of<R: Files + AllocGlobal>(
     rt: &R,
     folder: &str,
+    ids: Ids,
     is_framed: bool,
 ) -> Result<Session<Link<R::File>>> {
     let alloc = rt.alloc();
@@ -110,7 +114,16 @@ fn session_of<R: Files + AllocGlobal>(
         alone: 0,
         is_settled: true,
     };
-    Ok(Session::new(alloc, cluster, listed(rt, folder)?, is_framed))
+    let peers = listed(rt, folder)?;
+    Ok(Session::new(alloc, cluster, peers, ids, is_framed))
+}
+
+/// A number among the arguments; another where there is none.
+fn number_in(args: &mut Args<Global>, other: u32) -> u32 {
+    match args.next() {
+        Some(word) => word.parse::<u32>().unwrap_or(other),
+        None => other,
+    }
 }
 
 /// Takes the guests' bytes until they end.
@@ -119,11 +132,13 @@ pub(crate) fn serve<R: Files + Env + Input + Print + AllocGlobal>(rt: &R) -> Res
     let mut args = env::args(rt)?;
     let _program = args.next();
     let Some(folder) = args.next() else {
-        println!(rt; "redis_proxy FOLDER [--frames]")?;
+        println!(rt; "redis_proxy FOLDER [--frames [NUMBER PROGRAMS]]")?;
         return Ok(());
     };
     let folder = folder.as_str();
-    let mut session = session_of(rt, folder, args.next().is_some())?;
+    let is_framed = args.next().is_some();
+    let ids = Ids::new(number_in(&mut args, 0), number_in(&mut args, 1));
+    let mut session = session_of(rt, folder, ids, is_framed)?;
     let mut input = rt.reader();
     let mut piece = Vec::from_elem(alloc, 0u8, PIECE)?;
     for _ in 0..u64::MAX {

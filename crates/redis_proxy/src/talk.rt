@@ -5,7 +5,7 @@ use crate::ask::Ask;
 use crate::block::Block;
 use crate::own::{self, line, refuse};
 use crate::queued::Queued;
-use crate::way::{Own, Way, way_of};
+use crate::way::{Own, Way, way_by_table, way_of};
 use cluster_client::Cmd;
 use cluster_servers::Reply;
 use proxy_connection::Translator;
@@ -51,12 +51,23 @@ impl Talk {
         ensures err { OnErr result (self.new ≡ self.old) }
     {
         match way {
-            Way::Keyed => Ok(Entry::Waits(Ask::together(alloc, command, self.protocol)?)),
+            Way::ByTable => self.by_table(alloc, command),
             Way::Refused => Ok(Entry::Reads(refuse(alloc, &command)?)),
             Way::Own(own) => Ok(Entry::Reads(own::answer(alloc, self, own, &command)?)),
             Way::Wait => self.wait(alloc, command),
             _ => Ok(Entry::Waits(Ask::alone(alloc, way, command, self.protocol)?)),
         }
+    }
+
+    /// What a command puts into the queue that goes as the routing table says.
+    fn by_table(&self, alloc: Global, command: Cmd) -> Result<Entry<Ask, Reply>, AllocError> {
+        let ask = Ask::together(alloc, command, self.protocol)?;
+        if ask.command.has_slots() {
+            return Ok(Entry::Waits(ask));
+        }
+        let command = ask.command.command().clone()?;
+        let way = way_by_table(alloc, &command)?;
+        Ok(Entry::Waits(Ask::alone(alloc, way, command, self.protocol)?))
     }
 
     /// What a command that waits puts into the queue.
@@ -94,7 +105,7 @@ impl Talk {
                 b"-ERR MULTI calls can not be nested",
             )?)),
             Way::Own(Own::Reset | Own::Quit) => self.plain(alloc, way, command),
-            Way::Keyed => self.queue(alloc, command),
+            Way::ByTable if is_keyed(alloc, &command)? => self.queue(alloc, command),
             Way::Wait => match Block::new(alloc, &command)? {
                 Ok(_) => self.queue(alloc, command),
                 Err(fault) => self.abort(alloc, &fault.line(alloc, &command)?),
@@ -147,6 +158,11 @@ impl Talk {
     }
 }
 
+/// Whether a command that is named nowhere here goes by its keys.
+fn is_keyed(alloc: Global, command: &Cmd) -> Result<bool, AllocError> {
+    Ok(matches!(way_by_table(alloc, command)?, Way::Keyed))
+}
+
 /// What EXEC answers where no command is asked.
 fn nothing_done(alloc: Global, is_aborted: bool) -> Result<Reply, AllocError> {
     if is_aborted {
@@ -158,7 +174,11 @@ fn nothing_done(alloc: Global, is_aborted: bool) -> Result<Reply, AllocError> {
 }
 
 fn command_of(alloc: Global, words: &[Vec<u8>]) -> Result<Cmd, AllocError> {
-    let mut command = Cmd::with_capacity(alloc, words.len(), 0)?;
+    let mut size = 0usize;
+    for word in words {
+        size = size.saturating_add(word.len());
+    }
+    let mut command = Cmd::with_capacity(alloc, words.len(), size)?;
     for word in words {
         command.arg(word.as_slice())?;
     }
@@ -178,7 +198,7 @@ impl Translator<Ask, Reply> for Talk {
         words: &[Vec<u8>],
     ) -> Result<Entry<Ask, Reply>, AllocError> {
         let command = command_of(alloc, words)?;
-        let way = way_of(alloc, &command)?;
+        let way = way_of(&command);
         if self.queued.is_some() {
             return self.behind_multi(alloc, way, command);
         }

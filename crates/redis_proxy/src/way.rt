@@ -6,6 +6,8 @@ use std::alloc::{AllocError, Global};
 /// How a command is answered.
 #[derive(Clone, Copy, Debug, PartialEq, Eq)]
 pub(crate) enum Way {
+    /// As the routing table says, which was not asked yet.
+    ByTable,
     /// By the nodes of its keys' slots, with what waits of other guests.
     Keyed,
     /// By all nodes or all primaries, behind all that the guest asked before.
@@ -45,73 +47,116 @@ pub(crate) enum Own {
     Discard,
 }
 
-const NAMED: [(&str, Way); 42] = [
+// The words that the routing table does not decide, by their lengths.
+const OF_3: [(&str, Way); 1] = [("ACL", Way::Refused)];
+
+const OF_4: [(&str, Way); 11] = [
     ("PING", Way::Own(Own::Ping)),
     ("ECHO", Way::Own(Own::Echo)),
-    ("SELECT", Way::Own(Own::Select)),
-    ("HELLO", Way::Own(Own::Hello)),
-    ("CLIENT", Way::Own(Own::Client)),
     ("QUIT", Way::Own(Own::Quit)),
-    ("RESET", Way::Own(Own::Reset)),
-    ("MULTI", Way::Own(Own::Multi)),
     ("EXEC", Way::Own(Own::Exec)),
-    ("DISCARD", Way::Own(Own::Discard)),
     ("SCAN", Way::Scan),
     ("INFO", Way::FirstNode),
-    ("COMMAND", Way::FirstNode),
     ("TIME", Way::FirstNode),
-    ("RANDOMKEY", Way::InTurn),
-    ("WATCH", Way::Refused),
-    ("UNWATCH", Way::Refused),
-    ("SUBSCRIBE", Way::Refused),
-    ("PSUBSCRIBE", Way::Refused),
-    ("SSUBSCRIBE", Way::Refused),
-    ("UNSUBSCRIBE", Way::Refused),
-    ("PUNSUBSCRIBE", Way::Refused),
-    ("SUNSUBSCRIBE", Way::Refused),
-    ("MONITOR", Way::Refused),
     ("WAIT", Way::Refused),
-    ("WAITAOF", Way::Refused),
-    ("SHUTDOWN", Way::Refused),
-    ("MIGRATE", Way::Refused),
-    ("CLUSTER", Way::Refused),
-    ("ASKING", Way::Refused),
-    ("READONLY", Way::Refused),
-    ("READWRITE", Way::Refused),
-    ("SWAPDB", Way::Refused),
     ("MOVE", Way::Refused),
     ("AUTH", Way::Refused),
-    ("ACL", Way::Refused),
     ("SYNC", Way::Refused),
+];
+
+const OF_5: [(&str, Way); 5] = [
+    ("HELLO", Way::Own(Own::Hello)),
+    ("RESET", Way::Own(Own::Reset)),
+    ("MULTI", Way::Own(Own::Multi)),
+    ("WATCH", Way::Refused),
     ("PSYNC", Way::Refused),
-    ("REPLCONF", Way::Refused),
-    ("REPLICAOF", Way::Refused),
+];
+
+const OF_6: [(&str, Way); 4] = [
+    ("SELECT", Way::Own(Own::Select)),
+    ("CLIENT", Way::Own(Own::Client)),
+    ("ASKING", Way::Refused),
+    ("SWAPDB", Way::Refused),
+];
+
+const OF_7: [(&str, Way); 8] = [
+    ("DISCARD", Way::Own(Own::Discard)),
+    ("COMMAND", Way::FirstNode),
+    ("UNWATCH", Way::Refused),
+    ("MONITOR", Way::Refused),
+    ("WAITAOF", Way::Refused),
+    ("MIGRATE", Way::Refused),
+    ("CLUSTER", Way::Refused),
     ("SLAVEOF", Way::Refused),
+];
+
+const OF_8: [(&str, Way); 4] = [
+    ("SHUTDOWN", Way::Refused),
+    ("READONLY", Way::Refused),
+    ("REPLCONF", Way::Refused),
     ("FAILOVER", Way::Refused),
 ];
 
+const OF_9: [(&str, Way); 4] = [
+    ("RANDOMKEY", Way::InTurn),
+    ("SUBSCRIBE", Way::Refused),
+    ("READWRITE", Way::Refused),
+    ("REPLICAOF", Way::Refused),
+];
+
+const OF_10: [(&str, Way); 2] = [("PSUBSCRIBE", Way::Refused), ("SSUBSCRIBE", Way::Refused)];
+
+const OF_11: [(&str, Way); 1] = [("UNSUBSCRIBE", Way::Refused)];
+
+const OF_12: [(&str, Way); 2] = [
+    ("PUNSUBSCRIBE", Way::Refused),
+    ("SUNSUBSCRIBE", Way::Refused),
+];
+
+/// The words of a length that the routing table does not decide.
+fn words_of(length: usize) -> &'static [(&'static str, Way)] {
+    match length {
+        3 => &OF_3,
+        4 => &OF_4,
+        5 => &OF_5,
+        6 => &OF_6,
+        7 => &OF_7,
+        8 => &OF_8,
+        9 => &OF_9,
+        10 => &OF_10,
+        11 => &OF_11,
+        12 => &OF_12,
+        _ => &[],
+    }
+}
+
 /// How a command is answered.
-pub(crate) fn way_of(alloc: Global, command: &Cmd) -> Result<Way, AllocError> {
+pub(crate) fn way_of(command: &Cmd) -> Way {
     let Some(word) = command.arg_idx(0) else {
-        return Ok(Way::Refused);
+        return Way::Refused;
     };
     if is_word(command, 0, b"CLIENT") && is_word(command, 1, b"UNBLOCK") {
-        return Ok(Way::Unblock);
+        return Way::Unblock;
     }
-    for (name, way) in &NAMED {
+    for (name, way) in words_of(word.len()) {
         if name.as_bytes().eq_ignore_ascii_case(word) {
-            return Ok(*way);
+            return *way;
         }
     }
     if waits(command) {
-        return Ok(Way::Wait);
+        return Way::Wait;
     }
     if is_word(command, 0, b"DEBUG") {
-        return Ok(way_of_debug(command));
+        return way_of_debug(command);
     }
     if is_word(command, 0, b"FUNCTION") {
-        return Ok(way_of_function(command));
+        return way_of_function(command);
     }
+    Way::ByTable
+}
+
+/// How a command is answered that is named nowhere here: as the routing table says.
+pub(crate) fn way_by_table(alloc: Global, command: &Cmd) -> Result<Way, AllocError> {
     Ok(way_by(RoutingInfo::for_routable(alloc, command, &[])?))
 }
 

@@ -1,7 +1,7 @@
 //! Links handed in, and handed back.
-ghost use Rattle.std.specs.Prelude.{◌≡◌, ◌<◌, IfOk, IfErr, option_map, vec_len};
+ghost use Rattle.std.specs.Prelude.{◌≡◌, IfOk, IfErr, option_map};
 ghost use Rattle.cluster_routing.specs.Seen.{address, addresses};
-ghost use Rattle.cluster_calls.specs.Links.World.{Calls, is_linked, link_at, nodes, open_links};
+ghost use Rattle.cluster_calls.specs.Links.World.{is_linked, link_at, nodes, open_links};
 ghost use Rattle.cluster_client.specs.Relinks.{unlinked_nodes, with_link};
 ghost use Rattle.cluster_client.specs.Whole.{whole};
 
@@ -10,7 +10,6 @@ use cluster_routing::NodeAddress;
 use cluster_steps::links::Links;
 use resp_link::ConnectionLike;
 use std::alloc::{AllocError, Global};
-use std::mem;
 
 impl<L: ConnectionLike + Drop> ClusterClient<L> {
     /// Every node and its link, handed back, in the order of `links`. The slot map and the log are
@@ -38,9 +37,9 @@ impl<L: ConnectionLike + Drop> ClusterClient<L> {
         ensures stays { IfErr result (λ _. whole L.seen self.new ≡ whole L.seen self.old) }
     {
         match self.links.place_of(&node) {
-            Some(which) => Ok(Some(replace_link(&mut self.links, which, link))),
+            Some(which) => Ok(Some(self.links.replace(which, link))),
             None => {
-                self.links.nodes.push((node, link))?;
+                self.links.push(node, link)?;
                 Ok(None)
             }
         }
@@ -63,15 +62,6 @@ impl<L: ConnectionLike + Drop> ClusterClient<L> {
         }
         Ok(unlinked)
     }
-}
-
-/// Puts a link in the place of the one that stands there, which is handed back.
-fn replace_link<L: ConnectionLike>(links: &mut Links<L>, which: usize, link: L) -> L
-    requires { which < vec_len links.old.nodes }
-    ensures { Calls (nodes L.seen links.old.nodes.items) (nodes L.seen links.new.nodes.items) which
-        (λ before after. (before ≡ L.seen result) × (after ≡ L.seen link)) }
-{
-    mem::replace(&mut links.nodes[which].1, link)
 }
 
 /// Whether an open link leads to a node.

@@ -4,13 +4,14 @@ ghost use Rattle.resp_core.specs.Errors.{at_position, by_cause};
 ghost use Rattle.resp_core.specs.declared.errors.redis_error.Cause.TheVariants.{Memory};
 ghost use Rattle.cluster_routing.specs.Info.{shown_split};
 ghost use Rattle.cluster_calls.specs.Calls.EachInParts.{first_unplaced, goes_to_slots, split_at};
-ghost use Rattle.cluster_client.specs.InParts.{AreInParts, IsAdded, places_of};
+ghost use Rattle.cluster_steps.specs.CodeParts.{split_in, targets_in};
+ghost use Rattle.cluster_client.specs.InParts.{AreInParts, IsAdded, if_several_targets, places_of};
 
 use crate::pipeline::PipelineCommand;
-use crate::pipeline::parts::whole_part;
+use crate::pipeline::parts::whole_route;
 use cluster_routing::SplitParts;
 use cluster_steps::join::Join;
-use cluster_steps::route::parts_of;
+use cluster_steps::route::{Targets, targets_of};
 use resp_args::Cmd;
 use resp_core::{Cause, ErrorKind, RedisError};
 use std::alloc::{AllocError, Global};
@@ -23,20 +24,31 @@ pub(crate) struct InParts {
     pub joins: Vec<Option<Join>>,
 }
 
+/// How a command is split that goes to several slots; none for any other.
+fn several_slots(targets: Targets) -> Option<SplitParts>
+    ensures { option_map shown_split result
+        ≡ if_several_targets (targets_in targets) (option_map shown_split (split_in targets)) }
+{
+    match targets {
+        Targets::Whole(_) => None,
+        Targets::Split(split) => {
+            if split.routes.len() < 2 {
+                None
+            } else {
+                Some(split)
+            }
+        }
+    }
+}
+
 /// How a command is split whose keys have several slots; none for any other.
 fn split_at(alloc: Global, command: &PipelineCommand) -> Result<Option<SplitParts>, RedisError>
     ensures split { IfOk result
         (λ o. option_map shown_split o ≡ places_of (split_at command.now)) }
     ensures only { IfErr result (λ e. e ≡ by_cause Memory) }
 {
-    match parts_of(alloc, &command.command, &[], 0) {
-        Ok(parts) => {
-            if parts.list.len() < 2 {
-                Ok(None)
-            } else {
-                Ok(parts.split)
-            }
-        }
+    match targets_of(alloc, &command.command, &[], 0) {
+        Ok(targets) => Ok(several_slots(targets)),
         Err(e) => match e.kind() {
             ErrorKind::Memory => Err(RedisError::from(Cause::Memory)),
             _ => Ok(None),
@@ -101,7 +113,7 @@ impl InParts {
         ensures refused { IfErr result (λ e. e ≢ by_cause Memory
             → (goes_to_slots command.now ≡ false) × (e ≡ at_position position)) }
     {
-        if whole_part(alloc, &command.command)?.is_some() {
+        if whole_route(alloc, &command.command)?.is_some() {
             self.add_whole(command)?;
             return Ok(());
         }

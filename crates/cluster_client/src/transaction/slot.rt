@@ -8,9 +8,8 @@ ghost use Rattle.cluster_routing.specs.Routing.{name_of};
 ghost use Rattle.cluster_routing.specs.Rows.{names_of};
 ghost use Rattle.cluster_calls.specs.Calls.OneSlot.{agrees, common_slot, is_before, is_outside, names_block, outside_names, own_slot, read_names, whole_slot};
 
-use crate::pipeline::parts::whole_part;
+use crate::pipeline::parts::whole_route;
 use cluster_routing::Routable;
-use cluster_steps::route::Target;
 use resp_args::Cmd;
 use resp_core::RedisError;
 use std::alloc::{AllocError, Global};
@@ -104,12 +103,9 @@ fn whole_slot(alloc: Global, command: &Cmd) -> Result<Option<u16>, RedisError>
     ensures slot { IfOk result (λ o. o ≡ whole_slot command.now) }
     ensures only { IfErr result (λ e. e ≡ by_cause Memory) }
 {
-    let Some(part) = whole_part(alloc, command)? else {
-        return Ok(None);
-    };
-    match part.target {
-        Target::Slot(route) => Ok(Some(route.slot())),
-        Target::Number(_) => Ok(None),
+    match whole_route(alloc, command)? {
+        Some(route) => Ok(Some(route.slot())),
+        None => Ok(None),
     }
 }
 

@@ -1,11 +1,9 @@
-use Rattle.std.specs.Prelude.{codes}
-use Rattle.std.proofs.Common.{◌∙◌, ◌∷◌, [], ap}
-use Rattle.cluster_routing.specs.Command.{is_one_of}
-use Rattle.cluster_routing.specs.Routing.{name_of}
-use Rattle.cluster_steps.proofs.PipelineReads.{named}
+use Rattle.std.proofs.Common.{◌∙◌, None, Some}
+use Rattle.cluster_steps.proofs.PipelineReads.{read_by_word}
 use Rattle.cluster_steps.proofs.pipeline_reads.is_read.Goals as goal
 
 pub returns-in-Some : goal.returns-in-Some
-returns-in-Some c =
-    let name = rw c.in-Some.is at c.in_ok-name.ensures in
-    c.is_xread.ensures ∙ ap (is_one_of (codes "XREAD" ∷ [])) c.deref.ensures.value ∙ named (name_of c.args.command.now.args) c.in-Some.name.items name
+returns-in-Some c = c.is_xread.ensures ∙ read_by_word c.args.command.now.args (Some c.in-Some.word.now) c.in-Some.ensures
+
+pub returns-in-None : goal.returns-in-None
+returns-in-None c = read_by_word c.args.command.now.args None c.in-None.ensures

@@ -45,4 +45,4 @@ returns-clause-made g c =
     let is = ap request_in c.in_ok-request.ensures.dispatch ∙ c.in_ok-dispatch.ensures.request in
     let made = exchange_ok _ _ _ _ at _ _ (c.in_ok-request.ensures.log ∙ c.new.ensures.items) (request_in c.in_ok-request.request.dispatch) is _ c.in_ok-reply.ensures.exchange in
     let accepted = c.in_ok-self.ensures (λ k. cc k) in
-    refresh_ok _ _ _ c.in-Some.ensures.place.linked made.0 refl (ap addresses c.new-2.ensures.items) _ made.1 accepted.0 accepted.1 refl
+    rw c.renew_table.ensures (refresh_ok _ _ _ c.in-Some.ensures.place.linked made.0 refl (ap addresses c.new-2.ensures.items) _ made.1 accepted.0 accepted.1 refl)

@@ -1,0 +1,22 @@
+use Rattle.std.proofs.Common.{◌≡◌, ◌∙◌, [], ap}
+use Rattle.resp_core.specs.Errors.{by_cause, kind_of}
+use Rattle.resp_core.specs.declared.errors.redis_error.Cause.TheVariants.{Memory}
+use Rattle.resp_args.specs.Packed.{sent}
+use Rattle.cluster_calls.specs.Calls.Parts.{parts_of}
+use Rattle.cluster_steps.specs.CodeParts.{targets_in}
+use Rattle.cluster_steps.proofs.PartTargets.{no_whole, whole_by_targets}
+use Rattle.cluster_client.proofs.pipeline.parts.route_of_parts.Goals as goal
+
+pub returns-in-Ok-clause-route : goal.returns-in-Ok-clause-route
+returns-in-Ok-clause-route c =
+    let command = c.args.command.now in
+    c.primary_route.ensures (sent command) ∙ whole_by_targets (sent command) (targets_in c.in-Ok.targets) (parts_of [] command 0) (c.in-Ok.ensures.targets (λ k. cc k))
+
+pub returns : goal.returns
+returns c =
+    let command = c.args.command.now in
+    let told = c.in-Err.ensures.targets (λ k. let same : c.in-Err.e ≡ by_cause Memory = cc in c.in_default.not-Memory (c.kind.ensures ∙ ap kind_of same)) in
+    record {
+      route = no_whole (sent command) c.in-Err.e (parts_of [] command 0) told;
+      only = tt;
+    }

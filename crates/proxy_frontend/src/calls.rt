@@ -1,0 +1,177 @@
+//! The calls of a frontend.
+ghost use Rattle.std.specs.Prelude.{◌≡◌, ◌<◌, ◌⊎◌, ℕ, [], is_some, length, true, false, IfOk, IfErr, OnOk, OnErr, MatchOption};
+ghost use Rattle.std.specs.Option.{option_map};
+ghost use Rattle.proxy_core.specs.Guests.{free_from, openings, queue_at, queues};
+ghost use Rattle.proxy_connection.specs.Serving.{is_over};
+ghost use Rattle.proxy_connection.specs.Ways.{ways};
+ghost use Rattle.proxy_frontend.specs.Histories.{heard, joined, left, nobody};
+ghost use Rattle.proxy_frontend.specs.Moves.{Advances, HasNext, IsConnected, IsJoinDue, Turns, Writes};
+ghost use Rattle.proxy_frontend.specs.Serving.{AllGo, AllStay, Always, AreServed};
+ghost use Rattle.proxy_frontend.specs.State.{connection_at, state_of};
+
+use crate::connections::{advance_at, feed_at, place_at, remove_at, write_at};
+use crate::frontend::Frontend;
+use proxy_connection::{Connection, Progress, Translator, Written};
+use proxy_core::{Command, JoinRefusal, Proxy, Servers};
+use resp_requests::Limits;
+use std::alloc::{AllocError, Global};
+
+impl<T: Translator<C, V>, C: Command, V: Written> Frontend<T, C, V> {
+    /// A frontend with no guest: `shares` is how much its proxy holds, and `limits` what a guest may send.
+    pub fn new(alloc: Global, shares: proxy_core::Limits, limits: Limits) -> Frontend<T, C, V>
+        ensures nobody { AreServed (ways C.overlaps V.written T.translates T.refuses T.has_ended)
+            (state_of result) nobody }
+        ensures limits { result.limits ≡ limits }
+        ensures shares { result.proxy.limits ≡ shares }
+    {
+        Frontend {
+            proxy: Proxy::new(alloc, shares),
+            connections: Vec::new(alloc),
+            limits,
+        }
+    }
+
+    /// Lets a guest in, whose words are understood so, and answers its number: the first one that no guest has.
+    /// Where it is refused nothing has changed. The place of a guest that left takes no memory.
+    pub fn join(&mut self, alloc: Global, translator: T) -> Result<usize, JoinRefusal>
+        ensures number { IfOk result (λ g. g ≡ free_from 0 (openings self.old.proxy.guests.items)) }
+        ensures within { IfOk result (λ g. g < self.old.proxy.limits.guests) }
+        ensures ok { IfOk result (λ g. AllGo (ways C.overlaps V.written T.translates T.refuses T.has_ended)
+            (state_of self.old) (state_of self.new) (joined g self.old.limits translator)) }
+        ensures why { IfErr result (λ why. IsJoinDue (state_of self.old) why) }
+        ensures err { OnErr result (AllStay (ways C.overlaps V.written T.translates T.refuses T.has_ended)
+            (state_of self.old) (state_of self.new)) }
+        ensures queues { OnErr result (Always (ways C.overlaps V.written T.translates T.refuses T.has_ended)
+            (state_of self.old) (λ histories. (g : ℕ) → queue_at (queues self.new.proxy.guests.items) g
+            ≡ queue_at (queues self.old.proxy.guests.items) g)) }
+        ensures limits { self.new.limits ≡ self.old.limits }
+        ensures shares { self.new.proxy.limits ≡ self.old.proxy.limits }
+    {
+        let guest = self.proxy.join(alloc)?;
+        let connection = Connection::new(alloc, guest, translator, self.limits);
+        match place_at(&mut self.connections, guest, connection) {
+            Ok(()) => Ok(guest),
+            Err(_) => {
+                self.proxy.leave(alloc, guest);
+                Err(JoinRefusal::NoMemory)
+            }
+        }
+    }
+
+    /// Takes bytes that a guest sent, behind those before. Where no guest has that number nothing happens.
+    ///
+    /// # Errors `AllocError` where memory is refused: nothing changes, and the call may be made again.
+    pub fn hear(&mut self, guest: usize, bytes: &[u8]) -> Result<(), AllocError>
+        ensures ok { OnOk result (AllGo (ways C.overlaps V.written T.translates T.refuses T.has_ended)
+            (state_of self.old) (state_of self.new) (heard guest bytes.now)) }
+        ensures err { OnErr result (AllStay (ways C.overlaps V.written T.translates T.refuses T.has_ended)
+            (state_of self.old) (state_of self.new)) }
+        ensures due { OnErr result (IsConnected (state_of self.old) guest) }
+        ensures queues { queues self.new.proxy.guests.items ≡ queues self.old.proxy.guests.items }
+        ensures openings { openings self.new.proxy.guests.items ≡ openings self.old.proxy.guests.items }
+        ensures limits { self.new.limits ≡ self.old.limits }
+        ensures shares { self.new.proxy.limits ≡ self.old.proxy.limits }
+    {
+        feed_at(&mut self.connections, guest, bytes)
+    }
+
+    /// Takes a guest's next command, and puts what it means into the guest's queue; or tells why there is none.
+    ///
+    /// # Errors `AllocError` where memory is refused: nothing is lost, and the call may be made again.
+    pub fn advance(&mut self, alloc: Global, guest: usize) -> Result<Progress, AllocError>
+        ensures ok { IfOk result (λ progress. Advances (ways C.overlaps V.written T.translates T.refuses T.has_ended)
+            C.bytes V.bytes (state_of self.old) (state_of self.new) guest progress) }
+        ensures err { OnErr result (AllStay (ways C.overlaps V.written T.translates T.refuses T.has_ended)
+            (state_of self.old) (state_of self.new)) }
+        ensures due { OnErr result (IsConnected (state_of self.old) guest) }
+        ensures queues { OnErr result (queues self.new.proxy.guests.items ≡ queues self.old.proxy.guests.items) }
+        ensures openings { openings self.new.proxy.guests.items ≡ openings self.old.proxy.guests.items }
+        ensures limits { self.new.limits ≡ self.old.limits }
+        ensures shares { self.new.proxy.limits ≡ self.old.proxy.limits }
+    {
+        advance_at(&mut self.connections, alloc, guest, &mut self.proxy)
+    }
+
+    /// Puts behind `out` the bytes that are to be written to a guest next: those of one reply. Whether there was a
+    /// reply.
+    ///
+    /// # Errors `AllocError` where memory is refused: `out` has not changed, and a later call puts the same bytes.
+    pub fn write(&mut self, guest: usize, out: &mut Vec<u8>) -> Result<bool, AllocError>
+        ensures ok { IfOk result (λ any. Writes (ways C.overlaps V.written T.translates T.refuses T.has_ended)
+            (state_of self.old) (state_of self.new) guest out.old.items out.new.items any) }
+        ensures err { OnErr result (AllStay (ways C.overlaps V.written T.translates T.refuses T.has_ended)
+            (state_of self.old) (state_of self.new)) }
+        ensures out { OnErr result (out.new.items ≡ out.old.items) }
+        ensures due { OnErr result (HasNext (ways C.overlaps V.written T.translates T.refuses T.has_ended)
+            (state_of self.old) guest (λ next. is_some next ≡ true)) }
+        ensures openings { openings self.new.proxy.guests.items ≡ openings self.old.proxy.guests.items }
+        ensures limits { self.new.limits ≡ self.old.limits }
+        ensures shares { self.new.proxy.limits ≡ self.old.proxy.limits }
+    {
+        write_at(&mut self.connections, guest, &mut self.proxy, out)
+    }
+
+    /// Ends a guest: drops its connection, and what the proxy holds of it. Its number is free.
+    pub fn leave(&mut self, alloc: Global, guest: usize)
+        ensures ended { AllGo (ways C.overlaps V.written T.translates T.refuses T.has_ended)
+            (state_of self.old) (state_of self.new) (left guest) }
+        ensures limits { self.new.limits ≡ self.old.limits }
+        ensures shares { self.new.proxy.limits ≡ self.old.proxy.limits }
+    {
+        remove_at(&mut self.connections, guest);
+        self.proxy.leave(alloc, guest);
+    }
+
+    /// Asks the servers all that waits, in one call, and leaves each guest's queue as its outcomes say.
+    ///
+    /// # Errors `AllocError` where memory is refused: nothing changes, and the servers were not called or asked
+    /// nothing.
+    pub fn turn<S: Servers<C, V>>(
+        &mut self,
+        alloc: Global,
+        servers: &mut S,
+    ) -> Result<(), AllocError>
+        ensures ok { OnOk result (Turns (ways C.overlaps V.written T.translates T.refuses T.has_ended) S.asks
+            (state_of self.old) (state_of self.new) servers.old servers.new) }
+        ensures err { OnErr result (AllStay (ways C.overlaps V.written T.translates T.refuses T.has_ended)
+            (state_of self.old) (state_of self.new)) }
+        ensures queues { OnErr result (queues self.new.proxy.guests.items ≡ queues self.old.proxy.guests.items) }
+        ensures unasked { OnErr result ((servers.new ≡ servers.old) ⊎ S.asks servers.old [] [] servers.new) }
+        ensures openings { openings self.new.proxy.guests.items ≡ openings self.old.proxy.guests.items }
+        ensures limits { self.new.limits ≡ self.old.limits }
+        ensures shares { self.new.proxy.limits ≡ self.old.proxy.limits }
+    {
+        self.proxy.turn(alloc, servers)
+    }
+
+    /// How many entries are held of a guest: commands that wait, and replies that were not written.
+    pub fn held(&self, guest: usize) -> usize
+        ensures { result ≡ length (queue_at (queues self.now.proxy.guests.items) guest) }
+    {
+        self.proxy.held(guest)
+    }
+
+    /// Whether nothing more is read of a guest, and all of its replies are written; not so where no guest has that
+    /// number.
+    pub fn is_over(&self, guest: usize) -> bool
+        ensures { MatchOption (connection_at self.now.connections.items guest) (result ≡ false)
+            (λ c. result ≡ is_over (ways C.overlaps V.written T.translates T.refuses T.has_ended) c
+            (queue_at (queues self.now.proxy.guests.items) c.guest)) }
+    {
+        match self.connections.get(guest) {
+            Some(Some(connection)) => connection.is_over(&self.proxy),
+            _ => false,
+        }
+    }
+
+    /// How a guest's words are understood by now.
+    pub fn translator(&self, guest: usize) -> Option<&T>
+        ensures { option_map (λ t. t.now) result
+            ≡ option_map (λ c. c.translator) (connection_at self.now.connections.items guest) }
+    {
+        match self.connections.get(guest) {
+            Some(Some(connection)) => Some(connection.translator()),
+            _ => None,
+        }
+    }
+}
