@@ -1,5 +1,6 @@
 -- What comes of looking for a guest's next command.
 use Rattle.std.proofs.Common.{◌≡◌, ◌≢◌, ℕ, List, [], ◌∷◌, ◌++◌, Option, Some, None, set, refl, sym, ◌∙◌, ap, subst}
+use Rattle.std.specs.Prelude.{is_some}
 use Rattle.std.proofs.lemmas.List.{get_or-set_other}
 use Rattle.proxy_core.specs.Guests.{Queues, queue_at, is_open_at}
 use Rattle.proxy_core.specs.Sees.{Came}
@@ -48,6 +49,7 @@ module _ {T C V : Type 0} (w : Ways T C V) (command : C → ℕ) (reply : V → 
     advances_some : (progress : Progress) → Goes_so progress → Advances w command reply old new g progress
     advances_some Taken m = (
       m.0,
+      ap is_some was,
       moved w old new g c c' (λ h. then h (Came m.0)) was made k f
           (λ n other. ap (λ (qs : Queues C V). queue_at qs n) m.1.1 ∙ get_or-set_other old.proxy.queues c.guest n (queue_at old.proxy.queues c.guest ++ m.0 ∷ []) [] other) m.2,
     )

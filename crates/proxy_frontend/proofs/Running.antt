@@ -28,7 +28,7 @@ module _ {T C V S : Type 0} (w : Ways T C V) (command : C → ℕ) (reply : V �
 
   pub advanced : (g : ℕ) (progress : Progress) (old new : State T C V) (s s' : S) → s' ≡ s → SameLimits old new → Advances w command reply old new g progress
       → MakesOne w command reply asks (calls.Advance g) (answers.Advanced progress) old s new s'
-  advanced g Taken old new s s' e l m = (Entered g m.0, refl, refl, (m.1, l, e))
+  advanced g Taken old new s s' e l m = (Entered g m.0, refl, refl, (m.2, l, (m.1, e)))
   advanced g Short old new s s' e l m = (Rested g Short, refl, refl, (m.0, l, (m.1, e)))
   advanced g Full old new s s' e l m = (Rested g Full, refl, refl, (m.0, l, (m.1, e)))
   advanced g Ended old new s s' e l m = (Rested g Ended, refl, refl, (m.0, l, (m.1, e)))

@@ -54,7 +54,8 @@ RestsAt w command reply old new g why = (new.proxy.queues ≡ old.proxy.queues) 
 -- what came of looking for the next command of guest g
 abbrev pub Advances : {T C V : Type 0} → Ways T C V → (C → ℕ) → (V → ℕ) → State T C V → State T C V → ℕ → Progress
     → Type 0
-Advances {T} {C} {V} w command reply old new g Taken = (e : Entry C V) × AllGo w old new (entered g e)
+Advances {T} {C} {V} w command reply old new g Taken =
+    (e : Entry C V) × IsConnected old g × AllGo w old new (entered g e)
 Advances w command reply old new g why = AllStay w old new × RestsAt w command reply old new g why
 
 -- what is to be written next to a guest with this connection and this queue: what is left of the reply that is going
