@@ -1,5 +1,6 @@
 pub mod Digits
 pub mod LineRuns
+pub mod Searchings
 pub mod WordSteps
 pub mod Readings
 pub mod Parts

@@ -78,6 +78,12 @@ stops_by stops.Short r h = record { unfinished = h; same = λ more. refl }
 stops_by (stops.Fault f) r h = h
 stops_by stops.Memory r h = λ more. refl
 
+-- only what was searched is another
+pub stops_as : (e : Stop) (r s : RequestReader) → SameNext r s → Stops e r r → Stops e r s
+stops_as stops.Short r s same h = record { unfinished = h.unfinished; same = same }
+stops_as (stops.Fault f) r s same h = h
+stops_as stops.Memory r s same h = same
+
 fails_as : {A : Type 0} (e : Stop) (part : Read A) (all : Read Command) → ((g : Gap) → part ≡ Err g → all ≡ Err g) → Fails e part → Fails e all
 fails_as stops.Short part all same h = same short h
 fails_as (stops.Fault f) part all same h = same (fault f) h

@@ -1,6 +1,7 @@
 pub mod Messages
 pub mod Gaps
 pub mod Lines
+pub mod Searches
 pub mod Numbers
 pub mod Words
 pub mod WordRuns

@@ -1,6 +1,7 @@
 //! The parts of an array: its count, and its arguments.
 ghost use Rattle.resp_requests.specs.Arrays.{within, count_in, length_in, count_at, text_at, argument_at};
 ghost use Rattle.resp_requests.specs.Given.{Gives};
+ghost use Rattle.resp_requests.specs.Searches.{Unended};
 
 use crate::fault::Fault;
 use crate::limits::Limits;
@@ -39,12 +40,19 @@ fn length_in(line: &[u8], longest: usize) -> Result<usize, Stop>
     }
 }
 
-/// How many arguments an array announces, and what is behind its line.
+/// How many arguments an array announces, and what is behind its line. The first `searched` bytes are not
+/// searched again, and it leaves how many were.
 #[tactic(auto, unfolding(crate::specs::Arrays::count_at))]
-pub(crate) fn count_of(bytes: &[u8], limits: Limits) -> Result<(usize, &[u8]), Stop>
-    ensures { Gives (λ x. (x.0, x.1.now)) result (count_at limits bytes.now) }
+pub(crate) fn count_of<'a>(
+    bytes: &'a [u8],
+    searched: &mut usize,
+    limits: Limits,
+) -> Result<(usize, &'a [u8]), Stop>
+    requires { Unended 13 limits.longest_line bytes.now searched.old }
+    ensures gives { Gives (λ x. (x.0, x.1.now)) result (count_at limits bytes.now) }
+    ensures searched { Unended 13 limits.longest_line bytes.now searched.new }
 {
-    let (line, rest) = head_of(bytes, limits.longest_line, Fault::LongCount)?;
+    let (line, rest) = head_of(bytes, searched, limits.longest_line, Fault::LongCount)?;
     let digits = match line {
         [_, digits @ ..] => digits,
         [] => line,
@@ -64,15 +72,19 @@ fn text_of(alloc: Global, bytes: &[u8], length: usize) -> Result<(Vec<u8>, &[u8]
     Ok((text, &bytes[length + 2..]))
 }
 
-/// The argument at the front of the bytes, and what is behind it.
+/// The argument at the front of the bytes, and what is behind it. The first `searched` bytes are not searched
+/// again for the end of its length, and it leaves how many were.
 #[tactic(auto, unfolding(crate::specs::Arrays::argument_at))]
-pub(crate) fn argument_of(
+pub(crate) fn argument_of<'a>(
     alloc: Global,
-    bytes: &[u8],
+    bytes: &'a [u8],
+    searched: &mut usize,
     limits: Limits,
-) -> Result<(Vec<u8>, &[u8]), Stop>
-    ensures { Gives (λ x. (x.0.items, x.1.now)) result (argument_at limits bytes.now) }
+) -> Result<(Vec<u8>, &'a [u8]), Stop>
+    requires { Unended 13 limits.longest_line bytes.now searched.old }
+    ensures gives { Gives (λ x. (x.0.items, x.1.now)) result (argument_at limits bytes.now) }
+    ensures searched { Unended 13 limits.longest_line bytes.now searched.new }
 {
-    let (line, rest) = head_of(bytes, limits.longest_line, Fault::LongLength)?;
+    let (line, rest) = head_of(bytes, searched, limits.longest_line, Fault::LongLength)?;
     text_of(alloc, rest, length_in(line, limits.longest_argument)?)
 }

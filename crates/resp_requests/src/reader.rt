@@ -1,6 +1,7 @@
 //! A reader of requests over a growing buffer.
-ghost use Rattle.std.specs.Prelude.{◌≤◌};
+ghost use Rattle.std.specs.Prelude.{◌≤◌, drop};
 ghost use Rattle.std.specs.Vec.{vec_len};
+ghost use Rattle.resp_requests.specs.Searches.{Searched};
 
 use crate::argument::{argument_of, count_of};
 use crate::error::RequestError;
@@ -13,13 +14,15 @@ use std::mem;
 
 /// Takes bytes in pieces, and hands out the commands that they spell.
 ///
-/// It keeps the arguments that are whole of an unfinished array, and the bytes behind them. Of a line that
-/// is unfinished the search begins anew when more bytes were fed.
+/// It keeps the arguments that are whole of an unfinished array, and the bytes behind them. Of a line that is
+/// unfinished the search goes on where it ended, when more bytes were fed.
 #[derive(Drop)]
 pub struct RequestReader {
     buffer: Vec<u8>,
     // the bytes before it were taken
     front: usize,
+    // so many bytes behind it were searched, and hold no end of a line
+    searched: usize,
     // the arguments that were taken of an array, and how many it lacks
     arguments: Vec<Vec<u8>>,
     missing: usize,
@@ -27,6 +30,7 @@ pub struct RequestReader {
     // the fault that it told
     fault: Option<Fault>,
     ghost front_within: { front ≤ vec_len buffer },
+    ghost searches: { Searched limits missing (drop front buffer.items) searched },
 }
 
 impl RequestReader {
@@ -34,6 +38,7 @@ impl RequestReader {
     ghost use Rattle.resp_requests.specs.declared.limits.Limits.{Limits};
     ghost use Rattle.resp_requests.specs.declared.fault.Fault.{Fault};
     ghost use Rattle.resp_requests.specs.declared.error.RequestError.TheVariants.{Protocol, Memory};
+    ghost use Rattle.resp_requests.specs.declared.stop.Stop.TheVariants.{Short};
     ghost use Rattle.resp_requests.specs.Given.{texts};
     ghost use Rattle.resp_requests.specs.Requests.{Command};
     ghost use Rattle.resp_requests.specs.Standing.{Stands, IsNext, AreAll, AreBeforeFault, waiting, going, told, limits_of, kept, room};
@@ -63,6 +68,7 @@ impl RequestReader {
         RequestReader {
             buffer: Vec::new(alloc),
             front: 0,
+            searched: 0,
             arguments: Vec::new(alloc),
             missing: 0,
             limits,
@@ -93,6 +99,7 @@ impl RequestReader {
     fn drop_front(&mut self)
         ensures waiting { waiting self.new ≡ waiting self.old }
         ensures half { self.new.front ≤ length (waiting self.new) }
+        ensures searched { self.new.searched ≡ self.old.searched }
         ensures arguments { self.new.arguments ≡ self.old.arguments }
         ensures missing { self.new.missing ≡ self.old.missing }
         ensures told { self.new.fault ≡ self.old.fault }
@@ -198,8 +205,12 @@ impl RequestReader {
         ensures limits { self.new.limits ≡ self.old.limits }
     {
         let alloc = *self.buffer.allocator();
-        let (count, rest) = count_of(&self.buffer[self.front..], self.limits)?;
+        let mut searched = self.searched;
+        let read = count_of(&self.buffer[self.front..], &mut searched, self.limits);
+        self.searched = searched;
+        let (count, rest) = read?;
         self.front = self.buffer.len() - rest.len();
+        self.searched = 0;
         if count == 0 {
             return Ok(Some(Vec::new(alloc)));
         }
@@ -217,10 +228,15 @@ impl RequestReader {
         ensures limits { self.new.limits ≡ self.old.limits }
     {
         let alloc = *self.buffer.allocator();
-        let (argument, rest) = argument_of(alloc, &self.buffer[self.front..], self.limits)?;
+        let mut searched = self.searched;
+        let waiting = &self.buffer[self.front..];
+        let read = argument_of(alloc, waiting, &mut searched, self.limits);
+        self.searched = searched;
+        let (argument, rest) = read?;
         let left = rest.len();
         self.arguments.push(argument)?;
         self.front = self.buffer.len() - left;
+        self.searched = 0;
         self.missing -= 1;
         if self.missing > 0 {
             return Ok(None);
@@ -233,13 +249,20 @@ impl RequestReader {
         requires no_star { OtherWaits self.old }
         ensures advances { Advances result self.old self.new }
         ensures moves { IfOk result (λ _. self.old.front < self.new.front) }
+        // What waits of an unfinished line is not searched again.
+        ensures searched { IsErrOf result Short → self.new.searched ≡ length (waiting self.new) }
         ensures buffer { self.new.buffer ≡ self.old.buffer }
         ensures told { self.new.fault ≡ self.old.fault }
         ensures limits { self.new.limits ≡ self.old.limits }
     {
         let alloc = *self.buffer.allocator();
-        let (words, rest) = inline_of(alloc, &self.buffer[self.front..], self.limits)?;
+        let mut searched = self.searched;
+        let waiting = &self.buffer[self.front..];
+        let read = inline_of(alloc, waiting, &mut searched, self.limits);
+        self.searched = searched;
+        let (words, rest) = read?;
         self.front = self.buffer.len() - rest.len();
+        self.searched = 0;
         Ok(Some(words))
     }
 }

@@ -1,10 +1,12 @@
 //! Inline requests: a line of words.
-ghost use Rattle.std.specs.Prelude.{◌≡◌, ◌≤◌, ◌<◌, [], ◌∷◌, zero, length, IfOk, IfSome, Some};
+ghost use Rattle.std.specs.Prelude.{◌≡◌, ◌≤◌, ◌<◌, [], ◌∷◌, zero, length, IfOk, IfSome, Some, IsErrOf};
+ghost use Rattle.resp_requests.specs.declared.stop.Stop.TheVariants.{Short};
 ghost use Rattle.resp_requests.specs.Given.{Gives, Makes, texts};
 ghost use Rattle.resp_requests.specs.Words.{is_space, ends_word, hex_digit, hex_both, escaped, between, plain, double, single, split, does, more, words_in, is_escaped_quote};
 ghost use Rattle.resp_requests.specs.WordRuns.{put_before, worded};
 ghost use Rattle.resp_requests.specs.WordParts.{place_of, QuoteSteps, GoesOnAs, BeginsAs};
 ghost use Rattle.resp_requests.specs.Requests.{closed_words, inline_at};
+ghost use Rattle.resp_requests.specs.Searches.{Unended};
 
 use crate::fault::Fault;
 use crate::limits::Limits;
@@ -260,15 +262,26 @@ fn words_of(alloc: Global, line: &[u8]) -> Result<Vec<Vec<u8>>, Stop>
     }
 }
 
-/// The words of the line at the front of the bytes, and what is behind its LF.
+/// The words of the line at the front of the bytes, and what is behind its LF. The first `searched` bytes are
+/// not searched again, and it leaves how many were.
 #[tactic(auto, unfolding(crate::specs::Requests::inline_at))]
-pub(crate) fn inline_of(
+pub(crate) fn inline_of<'a>(
     alloc: Global,
-    bytes: &[u8],
+    bytes: &'a [u8],
+    searched: &mut usize,
     limits: Limits,
-) -> Result<(Vec<Vec<u8>>, &[u8]), Stop>
-    ensures { Gives (λ x. (texts x.0.items, x.1.now)) result (inline_at limits bytes.now) }
+) -> Result<(Vec<Vec<u8>>, &'a [u8]), Stop>
+    requires { Unended 10 limits.longest_line bytes.now searched.old }
+    ensures gives { Gives (λ x. (texts x.0.items, x.1.now)) result (inline_at limits bytes.now) }
+    ensures searched { Unended 10 limits.longest_line bytes.now searched.new }
+    ensures all { IsErrOf result Short → searched.new ≡ length bytes.now }
 {
-    let (line, rest) = line_of(bytes, b'\n', limits.longest_line, Fault::LongInline)?;
+    let (line, rest) = line_of(
+        bytes,
+        searched,
+        b'\n',
+        limits.longest_line,
+        Fault::LongInline,
+    )?;
     Ok((words_of(alloc, line)?, rest))
 }

@@ -54,6 +54,33 @@ fn limits_are_kept(rt: HostRuntime) -> Result<(), Fail> {
     Ok(())
 }
 
+// Lines with quotes, with a zero byte, at the limit and one beyond it, behind one another, and unfinished.
+const LINES: [&[u8]; 9] = [
+    b"'a b'\nPING\n",
+    b"X \"b\n",
+    b"ECHO a\r\nPING\n",
+    b"a b\0\n",
+    b"123456\n123456\nPING\n",
+    b"PING\n1234567\n",
+    b"  \n\n\"\\n\"\nPI",
+    b"*1\r\n$4\r\nPING\r\nX b\n*0\r\nX",
+    b"PING\n*1\r\n$0001\r\n",
+];
+
+#[test]
+fn pieces_are_answered_as_the_whole(rt: HostRuntime) -> Result<(), Fail> {
+    for sent in LINES {
+        let whole = answers_to(rt.alloc(), SMALL, sent, sent.len())?;
+        for size in [1, 2, 3, 5] {
+            let answers = answers_to(rt.alloc(), SMALL, sent, size)?;
+            let same = answers.as_slice() == whole.as_slice();
+            let shown = String::from_utf8_lossy(rt.alloc(), sent)?;
+            assert!(rt; same, "{shown} in pieces of {size}");
+        }
+    }
+    Ok(())
+}
+
 // A server of Redis 7.0.15 took a line of 65536 bytes before its LF, and said of 65537 that they are too many.
 #[test]
 fn long_lines_are_as_those_of_redis(rt: HostRuntime) -> Result<(), Fail> {

@@ -1,6 +1,7 @@
 use Rattle.std.proofs.Common.{◌≡◌, ℕ, List, ◌++◌, drop, Bool, if◌then◌else◌, ap, ◌∙◌, arith}
 use Rattle.std.proofs.lemmas.List.{drop-append-le}
 use Rattle.resp_requests.proofs.Standings.{on_ok_from, stands_fed}
+use Rattle.resp_requests.proofs.Searchings.{searched_fed}
 use Rattle.resp_requests.proofs.reader.RequestReader.feed.Goals as goal
 
 pub returns-clause-ok : goal.returns-clause-ok
@@ -14,3 +15,8 @@ returns-clause-ok c =
     let waits : drop q.front c.extend_from_slice.new.self.items ≡ drop p.front p.buffer.items ++ piece =
     ap (drop q.front) items ∙ drop-append-le q.front q.buffer.items piece (omega arith) ∙ ap (λ (l : List ℕ). l ++ piece) kept.waiting in
     stands_fed p _ piece kept.told kept.limits kept.arguments kept.missing waits cs bytes stands)
+
+pub invariant_of-self-clause-searches : goal.invariant_of-self-clause-searches
+invariant_of-self-clause-searches c =
+    let q = c.drop_front.new.self in
+    searched_fed q.limits q.missing q.front q.buffer.items c.args.piece.now _ _ q.searched (omega arith) c.extend_from_slice.ensures.items q.searches
