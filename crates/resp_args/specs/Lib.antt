@@ -8,3 +8,4 @@ pub mod Convert
 pub mod Laws
 pub mod Names
 pub mod Examples
+pub mod Pairs

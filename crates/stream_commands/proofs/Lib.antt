@@ -2,6 +2,8 @@ pub mod Reading
 pub mod Telling
 mod ExampleCommands
 pub mod Made
+pub mod Forms
+mod EntryLists
 pub mod Gather
 pub mod GatherSteps
 pub mod Lookups

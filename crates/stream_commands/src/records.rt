@@ -9,6 +9,7 @@ mod autoclaim;
 mod consumers;
 mod entries;
 mod fields;
+mod forms;
 mod groups;
 mod pending;
 mod pending_count;

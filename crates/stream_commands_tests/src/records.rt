@@ -329,3 +329,63 @@ fn fields(rt: HostRuntime) {
     let found = first_field_text(rt.alloc(), RANGE);
     is_text(&rt, found, "(Ok(Some(\"v\")), true, 1, false)");
 }
+
+// Why a reply to XREAD is refused, by the owned form, and by the lent one where that is another.
+fn cause(alloc: Global, bytes: &[u8]) -> Result<String, RedisError> {
+    let value = parse_redis_value(alloc, bytes)?;
+    let lent = said(alloc, from_redis_value_ref(alloc, &value))?;
+    let owned = said(alloc, from_redis_value(alloc, value))?;
+    if lent == owned {
+        return Ok(owned);
+    }
+    Ok(format!(in alloc; "{owned} but lent {lent}")?)
+}
+
+fn said(
+    alloc: Global,
+    outcome: Result<StreamReadReply, ParsingError>,
+) -> Result<String, AllocError> {
+    match outcome {
+        Ok(record) => shown(alloc, record),
+        Err(e) => format!(in alloc; "{e}"),
+    }
+}
+
+const NO_FOUR: &str = "an array of four was wanted";
+
+// Refused replies: a later entry has no id, in the standard form and in claim form; the second key, and the first, is no
+// text; and a later entry of a claim has two parts.
+const REFUSED: &[(&[u8], &str)] = &[
+    (
+        b"*1\r\n*2\r\n$1\r\na\r\n*2\r\n*2\r\n$3\r\n1-0\r\n*0\r\n*2\r\n$-1\r\n*0\r\n",
+        NO_FOUR,
+    ),
+    (
+        b"%1\r\n$1\r\na\r\n*2\r\n*2\r\n$3\r\n1-0\r\n*0\r\n*2\r\n_\r\n*0\r\n",
+        NO_FOUR,
+    ),
+    (
+        b"*1\r\n*2\r\n$1\r\na\r\n*2\r\n*4\r\n$3\r\n1-0\r\n*0\r\n:5\r\n:1\r\n*4\r\n$-1\r\n*0\r\n:5\r\n:1\r\n",
+        "a text was wanted",
+    ),
+    (
+        b"*2\r\n*2\r\n$1\r\na\r\n*1\r\n*2\r\n$3\r\n1-0\r\n*0\r\n*2\r\n$1\r\n\xff\r\n*0\r\n",
+        NO_FOUR,
+    ),
+    (
+        b"*1\r\n*2\r\n$1\r\n\xff\r\n*1\r\n*2\r\n$3\r\n1-0\r\n*0\r\n",
+        "a text in UTF-8 was wanted",
+    ),
+    (
+        b"*1\r\n*2\r\n$1\r\na\r\n*2\r\n*4\r\n$3\r\n1-0\r\n*0\r\n:5\r\n:1\r\n*2\r\n$3\r\n1-1\r\n*0\r\n",
+        NO_FOUR,
+    ),
+];
+
+#[test]
+fn causes_of_refused_reads(rt: HostRuntime) {
+    let alloc = rt.alloc();
+    for (bytes, wanted) in REFUSED {
+        is_text(&rt, cause(alloc, bytes), wanted);
+    }
+}

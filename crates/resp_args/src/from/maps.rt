@@ -1,11 +1,12 @@
 //! Replies as maps.
 ghost use Rattle.std.specs.Prelude.{◌≡◌, false, List, option_and_then, map as each, MatchResult, [], None};
-ghost use Rattle.indexmap.specs.IndexMap.{insert_all};
+ghost use Rattle.indexmap.specs.IndexMap.{insert_entry};
 ghost use Rattle.resp_core.specs.Errors.{no_memory};
 ghost use Rattle.resp_core.specs.MapIters.{owned_left, pairs_left};
 ghost use Rattle.resp_core.specs.Parts.{pairs_in};
 ghost use Rattle.resp_core.specs.View.{view, pair_view};
-ghost use Rattle.resp_args.specs.Convert.{plain, fields, fields_of, part_by_part, traverse, Answers};
+ghost use Rattle.resp_args.specs.Pairs.{count_pairs};
+ghost use Rattle.resp_args.specs.Convert.{plain, fields, fields_of, part_by_part, Answers};
 
 use crate::from::names::FieldName;
 use crate::from::plain::{into_plain, plain};
@@ -13,6 +14,9 @@ use crate::from::{FromRedisValue, one};
 use indexmap::IndexMap;
 use resp_core::{MapIter, OwnedMapIter, ParsingError, Value};
 use std::alloc::Global;
+
+// For so many pairs a map has room at most before the first of them is read.
+const ROOM: usize = 65_536;
 
 /// The pairs of a map or of an array of even length, in order of their first names; a repeated
 /// name has its last value.
@@ -54,8 +58,9 @@ fn convert_pairs<K: FieldName, V: FromRedisValue>(
     ensures { Answers (λ m. each (λ e. (K.meaning e.0, V.meaning e.1)) m.entries)
         (option_and_then (fields_of K.convert V.convert K.same) (pairs_in (view value))) result }
 {
+    let count = pair_count(&value);
     match value.into_map_iter() {
-        Ok(pairs) => collect(alloc, each_pair(alloc, pairs)?),
+        Ok(pairs) => each_pair(alloc, pairs, count),
         Err(_) => Err(ParsingError::fixed("a map, or an even number of items, was wanted")),
     }
 }
@@ -68,38 +73,50 @@ fn convert_pairs_ref<K: FieldName, V: FromRedisValue>(
         (option_and_then (fields_of K.convert V.convert K.same) (pairs_in (view value.now))) result }
 {
     match value.as_map_iter() {
-        Some(pairs) => collect(alloc, each_pair_ref(alloc, pairs)?),
+        Some(pairs) => each_pair_ref(alloc, pairs, pair_count(value)),
         None => Err(ParsingError::fixed("a map, or an even number of items, was wanted")),
     }
 }
 
-// A repeated name keeps its first place and its last value.
-fn collect<K: FieldName, V: FromRedisValue>(
-    alloc: Global,
-    pairs: Vec<(K, V)>,
-) -> Result<IndexMap<K, V>, ParsingError>
-    ensures { MatchResult result (λ m. m.entries ≡ insert_all K.eq [] pairs.items) (λ e. e ≡ no_memory) }
+// How many pairs there are, where there are any.
+fn pair_count(value: &Value) -> usize
+    ensures { count_pairs (pairs_in (view value.now)) result }
 {
-    let mut map = IndexMap::new(alloc);
-    for pair in pairs {
-        let (key, value) = pair;
-        drop(map.insert(key, value)?);
+    match value {
+        Value::Map(pairs) => pairs.len(),
+        Value::Array(items) => items.len() / 2,
+        _ => 0,
     }
-    Ok(map)
 }
 
-fn each_pair<K: FromRedisValue, V: FromRedisValue>(
+// A repeated name keeps its first place and its last value.
+fn put<K: FieldName, V: FromRedisValue>(
+    map: &mut IndexMap<K, V>,
+    pair: (K, V),
+) -> Result<(), ParsingError>
+    ensures { MatchResult result (λ _. map.new.entries ≡ insert_entry K.eq map.old.entries pair.0 pair.1)
+        (λ e. e ≡ no_memory) }
+{
+    let (key, value) = pair;
+    drop(map.insert(key, value)?);
+    Ok(())
+}
+
+// Each pair is put into the map as soon as it is read. The map has room before the first is read, and grows only
+// where there are many.
+fn each_pair<K: FieldName, V: FromRedisValue>(
     alloc: Global,
     pairs: OwnedMapIter,
-) -> Result<Vec<(K, V)>, ParsingError>
-    ensures { Answers (λ v. each (λ e. (K.meaning e.0, V.meaning e.1)) v.items)
-        (traverse (part_by_part K.convert V.convert) (owned_left pairs)) result }
+    count: usize,
+) -> Result<IndexMap<K, V>, ParsingError>
+    ensures { Answers (λ m. each (λ e. (K.meaning e.0, V.meaning e.1)) m.entries)
+        (fields_of K.convert V.convert K.same (owned_left pairs)) result }
 {
-    let mut list = Vec::new(alloc);
+    let mut map = IndexMap::with_capacity(alloc, count.min(ROOM))?;
     for pair in pairs {
-        list.push(convert_both::<K, V>(alloc, pair)?)?;
+        put(&mut map, convert_both::<K, V>(alloc, pair)?)?;
     }
-    Ok(list)
+    Ok(map)
 }
 
 fn convert_both<K: FromRedisValue, V: FromRedisValue>(
@@ -116,18 +133,19 @@ fn convert_both<K: FromRedisValue, V: FromRedisValue>(
     ))
 }
 
-fn each_pair_ref<K: FromRedisValue, V: FromRedisValue>(
+fn each_pair_ref<K: FieldName, V: FromRedisValue>(
     alloc: Global,
     pairs: MapIter<'_>,
-) -> Result<Vec<(K, V)>, ParsingError>
-    ensures { Answers (λ v. each (λ e. (K.meaning e.0, V.meaning e.1)) v.items)
-        (traverse (part_by_part K.convert V.convert) (pairs_left pairs.entry)) result }
+    count: usize,
+) -> Result<IndexMap<K, V>, ParsingError>
+    ensures { Answers (λ m. each (λ e. (K.meaning e.0, V.meaning e.1)) m.entries)
+        (fields_of K.convert V.convert K.same (pairs_left pairs.entry)) result }
 {
-    let mut list = Vec::new(alloc);
+    let mut map = IndexMap::with_capacity(alloc, count.min(ROOM))?;
     for pair in pairs {
-        list.push(convert_both_ref::<K, V>(alloc, pair)?)?;
+        put(&mut map, convert_both_ref::<K, V>(alloc, pair)?)?;
     }
-    Ok(list)
+    Ok(map)
 }
 
 fn convert_both_ref<K: FromRedisValue, V: FromRedisValue>(

@@ -2,7 +2,10 @@
 ghost use Rattle.std.specs.Prelude.{◌≡◌, ◌++◌, false, List, pos, string_bytes, option_map, map as each, MatchResult, None};
 ghost use Rattle.std.specs.List.{flat_map};
 ghost use Rattle.resp_core.specs.Errors.{no_memory};
-ghost use Rattle.stream_commands.specs.Entries.{Entry, without_times, with_times, entries, claimed_entries};
+ghost use Rattle.resp_core.specs.Trees.{array};
+ghost use Rattle.resp_core.specs.View.{view, trees_of};
+ghost use Rattle.resp_args.specs.Convert.{Answers, traverse};
+ghost use Rattle.stream_commands.specs.Entries.{Entry, ids_with_fields, without_times, with_times, entries, claimed_entries};
 ghost use Rattle.stream_commands.specs.RecordViews.{entry_view, entries_view, fields_view};
 
 use crate::records::fields::{Fields, copy_fields};
@@ -132,10 +135,10 @@ impl FromRedisValue for Entries {
     ghost byte_item = { None };
 
     fn from_redis_value(alloc: Global, value: Value) -> Result<Entries, ParsingError> {
-        let maps = Vec::<IndexMap<String, Fields>>::from_redis_value(alloc, value)?;
-        Ok(Entries {
-            ids: list_entries(alloc, maps)?,
-        })
+        match value {
+            Value::Array(items) => each_entry(alloc, items),
+            value => other_entries(alloc, value),
+        }
     }
 
     fn from_redis_value_ref(alloc: Global, value: &Value) -> Result<Entries, ParsingError> {
@@ -149,6 +152,69 @@ impl FromRedisValue for Entries {
         let value = Entries::from_redis_value(alloc, Value::BulkString(bytes))?;
         one(alloc, value)
     }
+}
+
+// Entries in another form than an array.
+fn other_entries(alloc: Global, value: Value) -> Result<Entries, ParsingError>
+    ensures { Answers (λ e. entries_view e.ids.items) (entries (view value)) result }
+{
+    let maps = Vec::<IndexMap<String, Fields>>::from_redis_value(alloc, value)?;
+    Ok(Entries {
+        ids: list_entries(alloc, maps)?,
+    })
+}
+
+fn each_entry(alloc: Global, items: Vec<Value>) -> Result<Entries, ParsingError>
+    ensures { Answers (λ e. entries_view e.ids.items)
+        (option_map (flat_map (each without_times)) (traverse ids_with_fields (each view items.items))) result }
+{
+    let mut ids = Vec::with_capacity(alloc, items.len())?;
+    for item in items {
+        read_entry(alloc, &mut ids, item)?;
+    }
+    Ok(Entries { ids })
+}
+
+// An id with its fields is an entry at once, without a map of one pair round it.
+fn read_entry(alloc: Global, ids: &mut Vec<StreamId>, item: Value) -> Result<(), ParsingError>
+    ensures { Answers (λ _. entries_view ids.new.items)
+        (option_map (λ es. entries_view ids.old.items ++ each without_times es) (ids_with_fields (view item))) result }
+{
+    match item {
+        Value::Array(parts) => read_parts(alloc, ids, parts),
+        item => read_map(alloc, ids, item),
+    }
+}
+
+fn read_parts(alloc: Global, ids: &mut Vec<StreamId>, parts: Vec<Value>) -> Result<(), ParsingError>
+    ensures { Answers (λ _. entries_view ids.new.items)
+        (option_map (λ es. entries_view ids.old.items ++ each without_times es)
+        (ids_with_fields (array (trees_of (each view parts.items))))) result }
+{
+    match <[Value; 2]>::try_from(parts) {
+        Ok(both) => {
+            let [id, fields] = both;
+            let entry = StreamId {
+                id: String::from_redis_value(alloc, id)?,
+                map: Fields::from_redis_value(alloc, fields)?,
+                milliseconds_elapsed_from_delivery: None,
+                delivered_count: None,
+            };
+            ids.push(entry)?;
+            Ok(())
+        }
+        Err(parts) => read_map(alloc, ids, Value::Array(parts)),
+    }
+}
+
+fn read_map(alloc: Global, ids: &mut Vec<StreamId>, item: Value) -> Result<(), ParsingError>
+    ensures { Answers (λ _. entries_view ids.new.items)
+        (option_map (λ es. entries_view ids.old.items ++ each without_times es) (ids_with_fields (view item))) result }
+{
+    add_entries(
+        ids,
+        IndexMap::<String, Fields>::from_redis_value(alloc, item)?,
+    )
 }
 
 impl EntryForm for Entries {

@@ -9,6 +9,7 @@ ghost use Rattle.stream_commands.specs.ReadReply.{Row, row, rows, read_reply};
 ghost use Rattle.stream_commands.specs.RecordViews.{row_view, rows_view};
 
 use crate::records::entries::{ClaimedEntries, Entries, EntryForm, StreamId};
+use crate::records::forms::{has_no_claim_form, has_no_standard_form};
 use crate::records::one;
 use indexmap::IndexMap;
 use resp_args::FromRedisValue;
@@ -67,6 +68,17 @@ impl FromRedisValue for StreamReadReply {
     ghost byte_item = { None };
 
     fn from_redis_value(alloc: Global, value: Value) -> Result<StreamReadReply, ParsingError> {
+        // Where the first entry leaves one form alone, the reply is read in it at once, and no text is copied.
+        if has_no_claim_form(&value) {
+            return Ok(StreamReadReply {
+                keys: only_standard_rows(alloc, value)?,
+            });
+        }
+        if has_no_standard_form(&value) {
+            return Ok(StreamReadReply {
+                keys: own_claimed_rows(alloc, value)?,
+            });
+        }
         StreamReadReply::from_redis_value_ref(alloc, &value)
     }
 
@@ -101,6 +113,36 @@ fn claimed_rows(alloc: Global, value: &Value) -> Result<Vec<StreamKey>, ParsingE
     ensures { Answers (λ v. rows_view v.items) (rows claimed_entries (view value.now)) result }
 {
     let maps = Vec::<IndexMap<String, ClaimedEntries>>::from_redis_value_ref(alloc, value)?;
+    all_rows(alloc, maps)
+}
+
+// The rows of a reply whose first entry is an array of another length than four, which the claim form refuses. Where
+// the standard form is refused too, the cause that is told is the claim form's, as for a lent reply: it is tried last.
+fn only_standard_rows(alloc: Global, value: Value) -> Result<Vec<StreamKey>, ParsingError>
+    ensures { Answers (λ v. rows_view v.items) (rows entries (view value)) result }
+{
+    match own_standard_rows(alloc, value) {
+        Ok(keys) => Ok(keys),
+        Err(e) => {
+            if e.is_memory() {
+                return Err(e);
+            }
+            Err(ParsingError::fixed("an array of four was wanted"))
+        }
+    }
+}
+
+fn own_standard_rows(alloc: Global, value: Value) -> Result<Vec<StreamKey>, ParsingError>
+    ensures { Answers (λ v. rows_view v.items) (rows entries (view value)) result }
+{
+    let maps = Vec::<IndexMap<String, Entries>>::from_redis_value(alloc, value)?;
+    all_rows(alloc, maps)
+}
+
+fn own_claimed_rows(alloc: Global, value: Value) -> Result<Vec<StreamKey>, ParsingError>
+    ensures { Answers (λ v. rows_view v.items) (rows claimed_entries (view value)) result }
+{
+    let maps = Vec::<IndexMap<String, ClaimedEntries>>::from_redis_value(alloc, value)?;
     all_rows(alloc, maps)
 }
 
