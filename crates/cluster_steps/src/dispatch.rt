@@ -101,7 +101,7 @@ pub fn dispatches<L: ConnectionLike>(
     ensures placed { IfOk result
         (λ v. AllByRecursion (IsPlaced (nodes L.seen links.now.nodes.items)) v.items) }
 {
-    let mut all = Vec::new(alloc);
+    let mut all = Vec::with_capacity(alloc, parts.len())?;
     'parts: for part in parts {
         let place = first_place(links, alloc, slots, &part.target, strategy, picked)?;
         all.push(Dispatch {

@@ -19,7 +19,7 @@ pub fn empty_queues<T: Drop>(alloc: Global, count: usize) -> Result<Vec<VecDeque
     ensures len { IfOk result (λ v. vec_len v ≡ count) }
     ensures empty { IfOk result (λ v. (k : ℕ) → queue_in (map (λ q. q.items) v.items) k ≡ []) }
 {
-    let mut queues = Vec::new(alloc);
+    let mut queues = Vec::with_capacity(alloc, count)?;
     'places: for place in 0..count {
         queues.push(VecDeque::new(alloc))?;
     }
@@ -89,7 +89,7 @@ pub fn drawn<T: Drop>(
     ensures { IfOk result (λ v. v.items ≡ draw places.now (queued no_queues (map items_at answered.items))) }
 {
     let mut queues = queues_of(alloc, count, answered)?;
-    let mut items = Vec::new(alloc);
+    let mut items = Vec::with_capacity(alloc, places.len())?;
     'places: for place in places {
         push_some(&mut items, next(&mut queues, *place))?;
     }

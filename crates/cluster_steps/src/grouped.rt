@@ -21,7 +21,7 @@ struct Gathered {
 pub fn places_of(alloc: Global, dispatches: &[Dispatch]) -> Result<Vec<usize>, AllocError>
     ensures { IfOk result (λ v. v.items ≡ map place_in dispatches.now) }
 {
-    let mut places = Vec::new(alloc);
+    let mut places = Vec::with_capacity(alloc, dispatches.len())?;
     'dispatches: for dispatch in dispatches {
         places.push(dispatch.place.which)?;
     }
@@ -33,7 +33,7 @@ fn empty_groups(alloc: Global, count: usize) -> Result<Vec<Gathered>, AllocError
     ensures len { IfOk result (λ v. vec_len v ≡ count) }
     ensures groups { IfOk result (λ v. map gathered_of v.items ≡ map empty_group (numbers_below count)) }
 {
-    let mut groups = Vec::new(alloc);
+    let mut groups = Vec::with_capacity(alloc, count)?;
     'places: for which in 0..count {
         groups.push(Gathered {
             which,
@@ -77,7 +77,7 @@ fn put(groups: &mut Vec<Gathered>, which: usize, request: Asked) -> Result<(), A
 fn packed(alloc: Global, all: Vec<Gathered>) -> Result<Vec<Group>, AllocError>
     ensures { IfOk result (λ v. map group_of v.items ≡ map gathered_of all.items) }
 {
-    let mut groups = Vec::new(alloc);
+    let mut groups = Vec::with_capacity(alloc, all.len())?;
     'gathered: for gathered in all {
         let Gathered { which, requests } = gathered;
         let bytes = bytes_of(alloc, &requests)?;

@@ -97,7 +97,7 @@ fn in_order<T: Drop>(alloc: Global, items: Vec<T>, order: &[usize]) -> Result<Ve
 pub fn takeable<T: Drop>(alloc: Global, items: Vec<T>) -> Result<Vec<Option<T>>, AllocError>
     ensures { IfOk result (λ v. v.items ≡ map (λ item. Some item) items.items) }
 {
-    let mut all = Vec::new(alloc);
+    let mut all = Vec::with_capacity(alloc, items.len())?;
     'items: for item in items {
         all.push(Some(item))?;
     }
@@ -115,7 +115,7 @@ pub fn taken<T: Drop>(
     ensures { IfOk result (λ v. v.items ≡ filter_map (there_at items.items) order.now) }
 {
     let mut left = items;
-    let mut all = Vec::new(alloc);
+    let mut all = Vec::with_capacity(alloc, order.len())?;
     'numbers: for number in order {
         if let Some(item) = left[*number].take() {
             all.push(item)?;

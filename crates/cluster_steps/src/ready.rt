@@ -1,12 +1,12 @@
 //! Requests are made ready before they go out: they are packed, and have room in the log.
-ghost use Rattle.std.specs.Prelude.{◌≡◌, ◌+◌, ◌≤◌, map, vec_capacity, vec_len, IfOk, OnOk};
+ghost use Rattle.std.specs.Prelude.{◌≡◌, ◌+◌, ◌≤◌, ◌++◌, map, vec_capacity, vec_len, IfOk, OnOk};
 ghost use Rattle.resp_args.specs.Packed.{packed};
 ghost use Rattle.cluster_routing.specs.Info.{texts};
 ghost use Rattle.cluster_calls.specs.Links.Request.{asking_command, bytes_of, outgoing, outgoing_for};
 
 use crate::asked::Asked;
 use crate::dispatch::Dispatch;
-use resp_args::{command, pack_command};
+use resp_args::{command, pack_command_into};
 use std::alloc::{AllocError, Global};
 
 /// A dispatch, and the bytes that go out for it.
@@ -26,40 +26,39 @@ pub struct Group {
     ghost packed: { bytes.items ≡ bytes_of requests.items },
 }
 
-/// The bytes of the command ASKING.
-fn asking_command(alloc: Global) -> Result<Vec<u8>, AllocError>
-    ensures { IfOk result (λ v. v.items ≡ packed asking_command) }
+/// Appends the bytes of the command ASKING.
+fn append_asking(bytes: &mut Vec<u8>) -> Result<(), AllocError>
+    ensures { OnOk result (bytes.new.items ≡ bytes.old.items ++ packed asking_command) }
 {
-    command::cmd(alloc, "ASKING")?.get_packed_command()
+    command::cmd(*bytes.allocator(), "ASKING")?.write_packed_command(bytes)
 }
 
-/// The bytes of arguments, behind those of ASKING where that is wanted.
-fn outgoing_for(alloc: Global, args: &[Vec<u8>], asking: bool) -> Result<Vec<u8>, AllocError>
-    ensures { IfOk result (λ v. v.items ≡ outgoing_for asking (texts args.now)) }
+/// Appends the bytes of arguments, behind those of ASKING where that is wanted.
+fn append_outgoing(bytes: &mut Vec<u8>, args: &[Vec<u8>], asking: bool) -> Result<(), AllocError>
+    ensures { OnOk result
+        (bytes.new.items ≡ bytes.old.items ++ outgoing_for asking (texts args.now)) }
 {
-    let command = pack_command(alloc, args)?;
     if !asking {
-        return Ok(command);
+        return pack_command_into(bytes, args);
     }
-    let mut bytes = asking_command(alloc)?;
-    bytes.extend_from_slice(&command)?;
-    Ok(bytes)
+    append_asking(bytes)?;
+    pack_command_into(bytes, args)
 }
 
-/// The bytes of a request.
-fn outgoing(alloc: Global, request: &Asked) -> Result<Vec<u8>, AllocError>
-    ensures { IfOk result (λ v. v.items ≡ outgoing request.now) }
+/// Appends the bytes of a request.
+fn append_request(bytes: &mut Vec<u8>, request: &Asked) -> Result<(), AllocError>
+    ensures { OnOk result (bytes.new.items ≡ bytes.old.items ++ outgoing request.now) }
 {
-    outgoing_for(alloc, &request.args, request.asking)
+    append_outgoing(bytes, &request.args, request.asking)
 }
 
-/// The bytes of requests, one after another.
+/// The bytes of requests, one after another. Each is packed where it stands in the end.
 pub(crate) fn bytes_of(alloc: Global, requests: &[Asked]) -> Result<Vec<u8>, AllocError>
     ensures { IfOk result (λ v. v.items ≡ bytes_of requests.now) }
 {
     let mut bytes = Vec::new(alloc);
     for request in requests {
-        bytes.extend_from_slice(&outgoing(alloc, request)?)?;
+        append_request(&mut bytes, request)?;
     }
     Ok(bytes)
 }
@@ -67,7 +66,8 @@ pub(crate) fn bytes_of(alloc: Global, requests: &[Asked]) -> Result<Vec<u8>, All
 fn packed(alloc: Global, dispatch: Dispatch) -> Result<Ready, AllocError>
     ensures { IfOk result (λ r. r.dispatch ≡ dispatch) }
 {
-    let bytes = outgoing_for(alloc, &dispatch.args, dispatch.place.asking)?;
+    let mut bytes = Vec::new(alloc);
+    append_outgoing(&mut bytes, &dispatch.args, dispatch.place.asking)?;
     Ok(Ready { dispatch, bytes })
 }
 
@@ -103,7 +103,7 @@ pub fn make_all_ready(
     ensures dispatches { IfOk result (λ v. map (λ r. r.dispatch) v.items ≡ dispatches.items) }
 {
     log.reserve(dispatches.len())?;
-    let mut all = Vec::new(alloc);
+    let mut all = Vec::with_capacity(alloc, dispatches.len())?;
     'dispatches: for dispatch in dispatches {
         all.push(packed(alloc, dispatch)?)?;
     }

@@ -15,6 +15,6 @@ mod write;
 pub use arguments::ArgsIter;
 pub use cmd::{Arg, Cmd};
 pub use from::{Count, FieldName, FromRedisValue, Number, from_redis_value, from_redis_value_ref};
-pub use packing::pack_command;
+pub use packing::{pack_command, pack_command_into};
 pub use to_args::{ToRedisArgs, ToSingleRedisArg};
 pub use write::RedisWrite;

@@ -17,10 +17,23 @@ const LINES: usize = 16;
 pub fn pack_command(alloc: Global, args: &[Vec<u8>]) -> Result<Vec<u8>, AllocError>
     ensures { IfOk result (λ v. v.items ≡ packed (map (λ a. a.items) args.now)) }
 {
-    let mut out = Vec::with_capacity(alloc, packed_room(args.len(), bytes_in(args)))?;
-    write_count(&mut out, b'*', args.len())?;
-    pack_each(&mut out, args)?;
+    let mut out = Vec::new(alloc);
+    pack_command_into(&mut out, args)?;
     Ok(out)
+}
+
+/// Appends the bytes that a list of arguments is sent as. The room for them is made at once.
+///
+/// It is refused only for want of memory; some more bytes may then stand behind those of the buffer.
+/// Source: Redis serialization protocol specification, "Sending commands to a Redis server".
+pub fn pack_command_into(out: &mut Vec<u8>, args: &[Vec<u8>]) -> Result<(), AllocError>
+    ensures { MatchResult result
+        (λ _. out.new.items ≡ out.old.items ++ packed (map (λ a. a.items) args.now))
+        (λ _. (more : List ℕ) × (out.new.items ≡ out.old.items ++ more)) }
+{
+    out.reserve(packed_room(args.len(), bytes_in(args)))?;
+    write_count(out, b'*', args.len())?;
+    pack_each(out, args)
 }
 
 // Room for so many arguments of so many bytes in all, once they are packed.
@@ -40,7 +53,9 @@ fn bytes_in(args: &[Vec<u8>]) -> usize {
 }
 
 fn pack_each(out: &mut Vec<u8>, args: &[Vec<u8>]) -> Result<(), AllocError>
-    ensures { IfOk result (λ _. out.new.items ≡ out.old.items ++ packed_args (map (λ a. a.items) args.now)) }
+    ensures { MatchResult result
+        (λ _. out.new.items ≡ out.old.items ++ packed_args (map (λ a. a.items) args.now))
+        (λ _. (more : List ℕ) × (out.new.items ≡ out.old.items ++ more)) }
 {
     for arg in args {
         pack_arg(out, arg)?;

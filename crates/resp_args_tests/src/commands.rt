@@ -1,6 +1,6 @@
 //! Commands: what they are sent as, and what they tell of themselves.
 use resp_args::command::cmd;
-use resp_args::{Arg, Cmd, RedisWrite};
+use resp_args::{Arg, Cmd, RedisWrite, pack_command_into};
 use std::process::Abort;
 use std::test::Fail;
 
@@ -49,5 +49,20 @@ fn clears_to_a_new_command(rt: HostRuntime) -> Result<(), Fail> {
     assert!(rt; command.args_iter().next().is_none());
     command.arg("PING")?;
     packs(&rt, &command, b"*1\r\n$4\r\nPING\r\n");
+    Ok(())
+}
+
+#[test]
+fn packs_arguments_behind_others(rt: HostRuntime) -> Result<(), Fail> {
+    let ping = cmd(rt.alloc(), "PING")?;
+    let mut get = cmd(rt.alloc(), "GET")?;
+    get.arg("a")?;
+    let mut out = Vec::new(rt.alloc());
+    pack_command_into(&mut out, &ping.wire_args()?)?;
+    pack_command_into(&mut out, &get.wire_args()?)?;
+    assert_eq!(rt;
+        out.as_slice(),
+        b"*1\r\n$4\r\nPING\r\n*2\r\n$3\r\nGET\r\n$1\r\na\r\n".as_slice()
+    );
     Ok(())
 }

@@ -8,7 +8,7 @@ use Rattle.cluster_steps.proofs.dispatch.dispatches.Goals as goal
 
 pub returns-in_err-place-clause-dispatched : goal.returns-in_err-place-clause-dispatched
 returns-in_err-place-clause-dispatched g c =
-    let p = err_from_is_err_and c.from_residual.result c.from_residual.ensures.1 in
+    let p = err_from_is_err_and c.from_residual-in_err-place.result c.from_residual-in_err-place.ensures.1 in
     let left = c.parts.invariant.split ∙ ap (λ rs. c.parts.yielded ++ rs) c.in-Some.ensures.steps.0 in
     rw (p.1, p.2) (λ m settings. dispatched_as _ _
     (loop_refused _ _ _ (part_of c.in-Some.part) (map part_of c.next.new.self.rest.items) _ _ _ _ (c.parts.invariant.loop settings) (c.in_err-place.ensures.found (λ k. m (cc k))))
