@@ -1,7 +1,7 @@
 -- A pipeline in which split commands stand as their parts, from the run of these parts.
 use Rattle.std.specs.Prelude.{◌+◌, ◌≤◌, ◌||◌, cond, is_some, IfSome, MatchOption}
 use Rattle.std.specs.List.{list_any, AllByRecursion}
-use Rattle.std.proofs.Common.{◌≡◌, ◌≢◌, ℕ, zero, suc, Bool, true, false, List, [], ◌∷◌, ◌++◌, map, take, drop, length, length-append, append-nil, append_assoc, Option, Some, None, option_map, Result, Ok, Err, refl, sym, ap, ◌∙◌, subst, arith}
+use Rattle.std.proofs.Common.{◌≡◌, ◌≢◌, ℕ, zero, suc, Bool, true, false, List, [], ◌∷◌, ◌++◌, map, zip, take, drop, length, length-append, append-nil, append_assoc, Option, Some, None, option_map, Result, Ok, Err, refl, sym, ap, ◌∙◌, subst, arith}
 use Rattle.std.proofs.lemmas.List.{length-map}
 use Rattle.resp_core.specs.Trees.{Tree, nil}
 use Rattle.resp_core.specs.Trees as trees
@@ -16,11 +16,12 @@ use Rattle.cluster_routing.specs.Routing.{Destination, to_any_node, to_any_prima
 use Rattle.cluster_routing.specs.Split.{Split, PartsByPlace, split_of, split_by_place, parts_by_place, has_split_word, part_places, part_slots, sub_at, with_texts}
 use Rattle.cluster_routing.specs.declared.route.Route.{Route}
 use Rattle.cluster_routing.specs.declared.route.SlotAddr.{SlotAddr}
+use Rattle.cluster_routing.specs.declared.route.SlotAddr.TheVariants.{Master}
 use Rattle.cluster_routing.proofs.PartPlaces.{subs_are_at_their_places}
 use Rattle.cluster_calls.specs.Calls.Call.{Entry, Pipeline}
 use Rattle.cluster_calls.specs.Calls.Each.{each_exchange, each_of, exchanges_with, nodes_of, outcome_of, position_exchanges, reply_in, reply_outcome, without_first_with}
 use Rattle.cluster_calls.specs.Calls.EachInParts.{AreOutcomesOf, if_several, IsMadeOf, each_plan, entries_by, first_unplaced, goes_to_slots, in_parts, part_entry, refusal_of_parts, reply_in_parts, split_at, splits_in}
-use Rattle.cluster_calls.specs.Calls.Parts.{Part, Target, is_gap, only_part, parts_of, pipeline_parts, result_then, role_by, split_parts, with_whole}
+use Rattle.cluster_calls.specs.Calls.Parts.{Part, Target, at_slot, if_one_slot, is_gap, only_part, part_to, parts_of, pipeline_parts, result_then, role_by, split_parts, whole_part, with_whole}
 use Rattle.cluster_calls.specs.Calls.Plan.{Client, Dispatch, dispatches, plan, unless}
 use Rattle.cluster_calls.specs.Calls.Replies.{reply_or_nil}
 use Rattle.cluster_calls.specs.Links.EachMade.{EachMade, refusal_by, refusals_of, told_of}
@@ -34,12 +35,13 @@ use Rattle.cluster_steps.specs.Joins.{AreOutcomesBy, HasRoom, IsJoinedBy, IsTold
 use Rattle.cluster_steps.specs.FirstPlaces.{part_of}
 use Rattle.cluster_steps.specs.declared.join.Join.{Join}
 use Rattle.cluster_steps.specs.declared.route.Part.{Part as CodePart}
-use Rattle.cluster_steps.specs.CodeParts.{part_targets}
+use Rattle.cluster_steps.specs.CodeParts.{part_at, part_targets}
 use Rattle.cluster_steps.specs.WholeParts.{whole_by}
 use Rattle.cluster_client.specs.InParts.{AreInParts, AreReady, IsAdded, if_several_targets, places_of, shown_joins}
 use Rattle.cluster_client.specs.declared.pipeline.in_parts.InParts.{InParts}
+use Rattle.cluster_client.proofs.PipeParts.{before, before_none}
 use Rattle.cluster_calls.proofs.LinkLaws.OneCommand.{nothing_happened, relogged_untouched}
-use Rattle.cluster_calls.proofs.LogLaws.EachInParts.{entry_part, is_whole, split_is, wholes_stay_whole, whole_told_so}
+use Rattle.cluster_calls.proofs.LogLaws.EachInParts.{entry_part, is_whole, part_to_slot, split_is, split_parts_go, wholes_stay_whole, whole_told_so}
 use Rattle.cluster_calls.proofs.LogLaws.Fates.{pairwise_length, pipe_dispatches}
 use Rattle.cluster_calls.proofs.ServerLaws.Pipes.{IsEntryDispatch}
 use Rattle.cluster_steps.proofs.PartReplies.{cut_so}
@@ -358,19 +360,93 @@ parts_stand e made some = by (split_at e) refl some
         let same : made ≡ split_by_place [] s = cc in
         (ap (λ o. is_some o || is_some (entry_part e)) is, ap (λ (m : PartsByPlace). map unignored (map (λ (p : Route × List ℕ). with_texts new_command (sub_at e.command.args p.1)) m.routes)) same ∙ each s is (role_of s.word []) (part_slots s.tuples))
 
+abbrev routes_to : Split → List ℕ → List (Route × List ℕ)
+routes_to s slots = map (λ slot. (route_to Master slot, part_places slot s.tuples)) slots
+
+-- its parts are made of its routes
+pub parts_placed : (e : Entry) (made : PartsByPlace) → Some made ≡ places_of (split_at e) → (position : ℕ)
+    → pipeline_parts position (entries_by e (split_at e)) ≡ Ok (map part_at (zip made.routes (map (λ (p : Route × List ℕ). with_texts new_command (sub_at e.command.args p.1)) made.routes)))
+parts_placed e made some position = by (split_at e) refl some
+  where
+    each : (s : Split) → split_at e ≡ Some s → (slots : List ℕ)
+        → map part_at (zip (routes_to s slots) (map (λ (p : Route × List ℕ). with_texts new_command (sub_at e.command.args p.1)) (routes_to s slots))) ≡ map (part_to_slot s) slots
+    each s is [] = refl
+    each s is (slot ∷ slots) =
+        ap (λ texts. part_to (sent (with_texts new_command texts)) (at_slot (route_to Master slot)) ∷ map part_at (zip (routes_to s slots) (map (λ (p : Route × List ℕ). with_texts new_command (sub_at e.command.args p.1)) (routes_to s slots))))
+        (subs_are_at_their_places e.command.args (sent e.command) s slot (gap_free e.command s is) (split_is (parts_of [] e.command 0) (split_of (sent e.command)) s is))
+        ∙ ap (λ ps. part_to_slot s slot ∷ ps) (each s is slots)
+
+    by : (o : Option Split) → split_at e ≡ o → Some made ≡ places_of o
+        → pipeline_parts position (entries_by e o) ≡ Ok (map part_at (zip made.routes (map (λ (p : Route × List ℕ). with_texts new_command (sub_at e.command.args p.1)) made.routes)))
+    by None is k = cc
+    by (Some s) is k =
+        let same : made ≡ split_by_place [] s = cc in
+        split_parts_go e s is position ∙ ap (λ ps. Ok ps) (sym (each s is (part_slots s.tuples)))
+        ∙ ap (λ (m : PartsByPlace). Ok (map part_at (zip m.routes (map (λ (p : Route × List ℕ). with_texts new_command (sub_at e.command.args p.1)) m.routes)))) (sym same)
+
+-- the part of a command that goes whole
+pub whole_placed : (e : Entry) (part : Part) → entry_part e ≡ Some part → (position : ℕ) → pipeline_parts position (entries_by e (split_at e)) ≡ Ok (part ∷ [])
+whole_placed e part h position =
+    ap (λ o. pipeline_parts position (entries_by e o)) (is_whole e part h) ∙ ap (λ o. with_whole position o (Ok [])) h
+
+pub whole_goes : (e : Entry) (part : Part) → entry_part e ≡ Some part → goes_to_slots e ≡ true
+whole_goes e part h = ap (λ o. is_some o || is_some (entry_part e)) (is_whole e part h) ∙ ap is_some h
+
+-- a command without parts is no part
+pub unparted : (several : Bool) (args : List (List ℕ)) (r : Result (List Part) Refusal) (refusal : Refusal) → Err refusal ≡ r → None ≡ if_one_slot several (whole_part args r)
+unparted true args r refusal e = refl
+unparted false args r refusal e = ap (whole_part args) e
+
 -- ---- one command after another
+
+before_both : (part : Part) (qs : List Part) (position : ℕ) (r : Result (List Part) Refusal) → with_whole position (Some part) (before qs r) ≡ before (part ∷ qs) r
+before_both part qs position (Ok more) = refl
+before_both part qs position (Err refusal) = refl
+
+before_more : (ps qs : List Part) (r : Result (List Part) Refusal) → before ps (before qs r) ≡ before (ps ++ qs) r
+before_more ps qs (Ok more) = ap (λ xs. Ok xs) (sym (append_assoc ps qs more))
+before_more ps qs (Err refusal) = refl
+
+-- the parts of some commands, and then those of the others
+parts_then : (es fs : List Entry) (ps : List Part) (position : ℕ) → pipeline_parts position es ≡ Ok ps → pipeline_parts position (es ++ fs) ≡ before ps (pipeline_parts (position + length ps) fs)
+parts_then [] fs ps position h =
+    let none : ps ≡ [] = cc in
+    let same : position ≡ position + 0 = omega arith in
+    rw none (sym (before_none (pipeline_parts position fs)) ∙ ap (λ n. before [] (pipeline_parts n fs)) same)
+parts_then (e ∷ es) fs ps position h = by (entry_part e) (pipeline_parts (suc position) es) refl refl h (λ qs q. parts_then es fs qs (suc position) q)
+  where
+    by : (o : Option Part) (r : Result (List Part) Refusal) → entry_part e ≡ o → pipeline_parts (suc position) es ≡ r → with_whole position o r ≡ Ok ps
+        → ((qs : List Part) → pipeline_parts (suc position) es ≡ Ok qs → pipeline_parts (suc position) (es ++ fs) ≡ before qs (pipeline_parts (suc position + length qs) fs))
+        → pipeline_parts position ((e ∷ es) ++ fs) ≡ before ps (pipeline_parts (position + length ps) fs)
+    by None r p q k ih = cc
+    by (Some part) (Err refusal) p q k ih = cc
+    by (Some part) (Ok qs) p q k ih =
+        let is : part ∷ qs ≡ ps = cc in
+        let count : suc position + length qs ≡ position + length (part ∷ qs) = omega arith in
+        subst (λ xs. pipeline_parts position ((e ∷ es) ++ fs) ≡ before xs (pipeline_parts (position + length xs) fs)) is
+        (ap (λ o. with_whole position o (pipeline_parts (suc position) (es ++ fs))) p
+        ∙ ap (with_whole position (Some part)) (ih qs q)
+        ∙ before_both part qs position (pipeline_parts (suc position + length qs) fs)
+        ∙ ap (λ n. before (part ∷ qs) (pipeline_parts n fs)) count)
 
 -- what is known behind so many commands
 pub record Added (entries : List Entry) (position : ℕ) (rest : List Entry) (p : InParts) : Type 0 where
   pub placed : first_unplaced position rest ≡ first_unplaced 0 entries
-  pub commands : p.commands.items ++ in_parts rest ≡ in_parts entries
+  pub parts : before (map part_of p.parts.items) (pipeline_parts (length (map part_of p.parts.items)) (in_parts rest)) ≡ pipeline_parts 0 (in_parts entries)
   pub joins : shown_joins p.joins.items ++ map places_of (splits_in rest) ≡ map places_of (splits_in entries)
   pub ready : AreReady p.joins.items
 
 pub added_more : (entries : List Entry) (position : ℕ) (e : Entry) (rest : List Entry) (old new : InParts) → Added entries position (e ∷ rest) old → IsAdded e old new → Added entries (suc position) rest new
 added_more entries position e rest old new a more = record {
   placed = sym (ap (λ b. cond b (first_unplaced (suc position) rest) (Some (at_position position))) more.placed) ∙ a.placed;
-  commands = ap (λ es. es ++ in_parts rest) more.commands ∙ append_assoc old.commands.items (entries_by e (split_at e)) (in_parts rest) ∙ a.commands;
+  parts =
+      let ps = map part_of old.parts.items in
+      let count : length (ps ++ more.more) ≡ length ps + length more.more = length-append ps more.more in
+      ap (λ xs. before xs (pipeline_parts (length xs) (in_parts rest))) more.parts
+      ∙ ap (λ n. before (ps ++ more.more) (pipeline_parts n (in_parts rest))) count
+      ∙ sym (before_more ps more.more (pipeline_parts (length ps + length more.more) (in_parts rest)))
+      ∙ ap (before ps) (sym (parts_then (entries_by e (split_at e)) (in_parts rest) more.more (length ps) (more.goes (length ps))))
+      ∙ a.parts;
   joins = ap (λ js. js ++ map places_of (splits_in rest)) more.joins ∙ append_assoc (shown_joins old.joins.items) (places_of (split_at e) ∷ []) (map places_of (splits_in rest)) ∙ a.joins;
   ready = more.ready a.ready;
 }
@@ -378,7 +454,7 @@ added_more entries position e rest old new a more = record {
 pub added_all : (entries : List Entry) (position : ℕ) (p : InParts) → Added entries position [] p → AreInParts entries p
 added_all entries position p a = record {
   placed = sym a.placed;
-  commands = sym (append-nil p.commands.items) ∙ a.commands;
+  parts = sym a.parts ∙ ap (λ xs. Ok xs) (append-nil (map part_of p.parts.items));
   joins = sym (append-nil (shown_joins p.joins.items)) ∙ a.joins;
   ready = a.ready;
 }

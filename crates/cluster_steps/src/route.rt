@@ -195,8 +195,12 @@ fn split_parts(alloc: Global, cmd: &Cmd, read_only: &[Vec<u8>]) -> Result<Parts,
     })
 }
 
-/// The part of each command, for the route that stands at its place.
-fn parts_at(
+/// The part of each command, for the route that stands at its place; there are as many parts as there are both
+/// a route and a command for.
+///
+/// # Errors
+/// `AllocError` where memory is refused.
+pub fn parts_at(
     alloc: Global,
     routes: &[(Route, Vec<usize>)],
     commands: &[Cmd],

@@ -102,12 +102,13 @@ module _ (args : List (List ℕ)) (s : Split) (is_split : split_of args ≡ Some
       rw (has_word, no_gap (sub s slot))
       (ap (split_parts role) (ap split_of (sent_as_they_are 0 (sub s slot)) ∙ again) ∙ ap (λ ks. Ok (map (slot_part role part) ks)) one)
 
+  pub part_goes : entry_part (part_entry s slot) ≡ Some (part_to (sent its) (at_slot (route_to Master slot)))
+  part_goes =
+      ap (λ b. if_one_slot (b && have_several_slots (keys_behind its.args (place_of (codes "STREAMS") its.args))) (whole_part (sent its) (parts_of [] its 0))) is_named
+      ∙ ap (whole_part (sent its)) its_parts
+
   pub part_whole : HasPart (part_entry s slot)
-  part_whole = (
-    part_to (sent its) (at_slot (route_to Master slot)),
-    ap (λ b. if_one_slot (b && have_several_slots (keys_behind its.args (place_of (codes "STREAMS") its.args))) (whole_part (sent its) (parts_of [] its 0))) is_named
-        ∙ ap (whole_part (sent its)) its_parts,
-  )
+  part_whole = (part_to (sent its) (at_slot (route_to Master slot)), part_goes)
 
 parts_whole : (args : List (List ℕ)) (s : Split) → split_of args ≡ Some s → (ks : List ℕ) → AllByRecursion (λ k. among nat_eq k (map tuple_slot s.tuples) ≡ true) ks → AllByRecursion HasPart (map (part_entry s) ks)
 parts_whole args s e [] h = tt
@@ -132,6 +133,22 @@ placed_whole e h = by (split_at e) refl h
     by : (o : Option Split) → split_at e ≡ o → (is_some o || is_some (entry_part e)) ≡ true → AllByRecursion HasPart (entries_by e o)
     by None s k = (some_of (entry_part e) k, tt)
     by (Some s) is k = parts_whole (sent e.command) s (split_is (parts_of [] e.command 0) (split_of (sent e.command)) s is) (part_slots s.tuples) (firsts_among (map tuple_slot s.tuples))
+
+-- the part of a slot, as it goes out for a pipeline
+abbrev pub part_to_slot : Split → ℕ → Part
+part_to_slot s slot = part_to (sent (plain_command (sub s slot))) (at_slot (route_to Master slot))
+
+parts_go : (args : List (List ℕ)) (s : Split) → split_of args ≡ Some s → (ks : List ℕ) → AllByRecursion (λ k. among nat_eq k (map tuple_slot s.tuples) ≡ true) ks
+    → (position : ℕ) → pipeline_parts position (map (part_entry s) ks) ≡ Ok (map (part_to_slot s) ks)
+parts_go args s e [] h position = refl
+parts_go args s e (k ∷ ks) h position =
+    ap (λ o. with_whole position o (pipeline_parts (suc position) (map (part_entry s) ks))) (part_goes args s e k h.0)
+    ∙ ap (with_whole position (Some (part_to_slot s k))) (parts_go args s e ks h.1 (suc position))
+
+-- the parts of a split command
+pub split_parts_go : (e : Entry) (s : Split) → split_at e ≡ Some s → (position : ℕ) → pipeline_parts position (map (part_entry s) (part_slots s.tuples)) ≡ Ok (map (part_to_slot s) (part_slots s.tuples))
+split_parts_go e s is position =
+    parts_go (sent e.command) s (split_is (parts_of [] e.command 0) (split_of (sent e.command)) s is) (part_slots s.tuples) (firsts_among (map tuple_slot s.tuples)) position
 
 all-joined : {A : Type 0} (P : A → Type 0) (xs ys : List A) → AllByRecursion P xs → AllByRecursion P ys → AllByRecursion P (xs ++ ys)
 all-joined P [] ys h k = k

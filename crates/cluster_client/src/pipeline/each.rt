@@ -1,14 +1,16 @@
 //! A pipeline that tells of each of its positions.
-ghost use Rattle.std.specs.Prelude.{ℕ, ◌≡◌, ◌≤◌, ◌+◌, [], Option, map, nat_eq, vec_capacity, vec_len};
+ghost use Rattle.std.specs.Prelude.{ℕ, ◌≡◌, ◌≤◌, ◌+◌, List, [], Ok, Option, map, nat_eq, vec_capacity, vec_len};
 ghost use Rattle.std.specs.List.{AllByRecursion};
 ghost use Rattle.resp_core.specs.View.{view};
 ghost use Rattle.cluster_routing.specs.Choice.{Strategy};
 ghost use Rattle.cluster_routing.specs.Lists.{IsDistinct};
-ghost use Rattle.cluster_calls.specs.Calls.Call.{Pipeline};
+ghost use Rattle.cluster_calls.specs.Calls.Call.{Entry, Pipeline};
+ghost use Rattle.cluster_calls.specs.Calls.Parts.{pipeline_parts};
 ghost use Rattle.cluster_calls.specs.Calls.Plan.{plan};
 ghost use Rattle.cluster_calls.specs.Links.EachMade.{EachMade, WholesMade};
 ghost use Rattle.cluster_calls.specs.Links.Happened.{client_of};
 ghost use Rattle.cluster_calls.specs.Links.World.{nodes};
+ghost use Rattle.cluster_steps.specs.FirstPlaces.{part_of};
 ghost use Rattle.cluster_steps.specs.GroupRuns.{IsGroupPlaced};
 ghost use Rattle.cluster_steps.specs.Groups.{group_of, request_count};
 ghost use Rattle.cluster_steps.specs.Queues.{queue_in};
@@ -17,12 +19,14 @@ ghost use Rattle.cluster_client.specs.Whole.{whole};
 
 use crate::client::ClusterClient;
 use crate::pipeline::in_parts::{InParts, commands_in_parts};
+use crate::pipeline::parts::pipeline_parts;
 use crate::pipeline::{ClusterPipeline, PipelineCommand};
 use cluster_steps::drawn::{empty_queues, put};
 use cluster_steps::each::{Lost, link_cause, tell_each};
 use cluster_steps::grouped::{grouped, places_of};
 use cluster_steps::join::join_each;
 use cluster_steps::ready::Group;
+use cluster_steps::route::Part;
 use resp_core::{RedisError, Value};
 use resp_link::ConnectionLike;
 use std::alloc::Global;
@@ -62,6 +66,29 @@ impl<L: ConnectionLike + Drop> ClusterClient<L> {
         None
     }
 
+    /// The outcome of each part of a pipeline's commands, which all go whole.
+    fn outcomes_of_parts(
+        &mut self,
+        alloc: Global,
+        parts: Vec<Part>,
+    ) -> Result<Vec<Result<Value, RedisError>>, RedisError>
+        ensures { (strategy : Option Strategy) (entries : List Entry)
+            → pipeline_parts 0 entries ≡ Ok (map part_of parts.items)
+            → WholesMade strategy (whole L.seen self.old) (whole L.seen self.new) entries
+            (plan (client_of (whole L.seen self.old)) [] (Pipeline entries))
+            (λ each outcomes. outcomes ≡ each) (outcomes_of result) }
+    {
+        let dispatches = self.dispatches_of_parts(alloc, parts)?;
+        let count = self.links.nodes.len();
+        let places = places_of(alloc, &dispatches)?;
+        let groups = grouped(alloc, count, dispatches)?;
+        let mut queues = empty_queues(alloc, count)?;
+        let mut outcomes = Vec::with_capacity(alloc, places.len())?;
+        let lost = self.exchange_each(alloc, groups, &mut queues);
+        tell_each(queues, &places, lost, &mut outcomes);
+        Ok(outcomes)
+    }
+
     /// The outcome of each of a pipeline's commands, which all go whole.
     fn outcomes_of_wholes(
         &mut self,
@@ -73,15 +100,14 @@ impl<L: ConnectionLike + Drop> ClusterClient<L> {
             (plan (client_of (whole L.seen self.old)) [] (Pipeline commands.now))
             (λ each outcomes. outcomes ≡ each) (outcomes_of result) }
     {
-        let dispatches = self.pipeline_dispatches(alloc, commands)?;
-        let count = self.links.nodes.len();
-        let places = places_of(alloc, &dispatches)?;
-        let groups = grouped(alloc, count, dispatches)?;
-        let mut queues = empty_queues(alloc, count)?;
-        let mut outcomes = Vec::with_capacity(alloc, places.len())?;
-        let lost = self.exchange_each(alloc, groups, &mut queues);
-        tell_each(queues, &places, lost, &mut outcomes);
-        Ok(outcomes)
+        match pipeline_parts(alloc, commands) {
+            Ok(parts) => self.outcomes_of_parts(alloc, parts),
+            Err(e) => {
+                self.asked = Vec::new(alloc);
+                self.picked = Vec::new(alloc);
+                Err(e)
+            }
+        }
     }
 
     /// The outcome of each of a pipeline's positions, of which some are split commands of several slots.
@@ -96,12 +122,9 @@ impl<L: ConnectionLike + Drop> ClusterClient<L> {
     {
         self.asked = Vec::new(alloc);
         self.picked = Vec::new(alloc);
-        let InParts {
-            commands: parts,
-            joins,
-        } = commands_in_parts(alloc, commands)?;
+        let InParts { parts, joins } = commands_in_parts(alloc, commands)?;
         let mut outcomes = Vec::with_capacity(alloc, joins.len())?;
-        let told = self.outcomes_of_wholes(alloc, &parts)?;
+        let told = self.outcomes_of_parts(alloc, parts)?;
         join_each(alloc, joins, told, &mut outcomes);
         Ok(outcomes)
     }

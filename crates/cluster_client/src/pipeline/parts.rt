@@ -19,7 +19,7 @@ use std::alloc::Global;
 
 /// The route to the primary of the one slot that all parts of a command go to; none where they go to
 /// several, or where any node may serve the command.
-fn primary_route(targets: &Targets) -> Option<Route>
+pub(crate) fn primary_route(targets: &Targets) -> Option<Route>
     ensures { (args : List (List ℕ))
         → option_map (whole_by args) result ≡ whole_at args (targets_in targets.now) }
 {

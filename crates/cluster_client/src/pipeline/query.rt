@@ -1,14 +1,16 @@
 //! Pipelines are sent: to each node its commands in one write.
-ghost use Rattle.std.specs.Prelude.{◌≡◌, ◌≢◌, ◌<◌, ◌≤◌, ◌+◌, [], Err, Option, map, vec_capacity, vec_len, IfOk};
+ghost use Rattle.std.specs.Prelude.{◌≡◌, ◌≢◌, ◌<◌, ◌≤◌, ◌+◌, List, [], Err, Ok, Option, map, vec_capacity, vec_len, IfOk};
 ghost use Rattle.std.specs.List.{AllByRecursion};
 ghost use Rattle.resp_core.specs.Errors.{by_cause};
 ghost use Rattle.resp_core.specs.View.{view};
 ghost use Rattle.resp_core.specs.declared.errors.redis_error.Cause.TheVariants.{Memory};
 ghost use Rattle.cluster_routing.specs.Choice.{Strategy};
-ghost use Rattle.cluster_calls.specs.Calls.Call.{Pipeline};
+ghost use Rattle.cluster_calls.specs.Calls.Call.{Entry, Pipeline};
+ghost use Rattle.cluster_calls.specs.Calls.Parts.{pipeline_parts};
 ghost use Rattle.cluster_calls.specs.Links.Converted.{ValueMade, value_answer};
 ghost use Rattle.cluster_steps.specs.Dispatches.{IsPlaced, IsPlanned, dispatches_of};
 ghost use Rattle.cluster_calls.specs.Links.Happened.{CallMade, Happened, client_of};
+ghost use Rattle.cluster_steps.specs.FirstPlaces.{part_of};
 ghost use Rattle.cluster_steps.specs.GroupRuns.{GroupExchanged, GroupsMade, IsGroupPlaced, answers_of};
 ghost use Rattle.cluster_steps.specs.Groups.{group_of, request_count};
 ghost use Rattle.cluster_calls.specs.Links.Run.{with_log};
@@ -24,12 +26,36 @@ use cluster_steps::drawn::{Answered, drawn};
 use cluster_steps::exchange::exchange;
 use cluster_steps::grouped::{grouped, places_of};
 use cluster_steps::ready::Group;
+use cluster_steps::route::Part;
 use resp_args::{FromRedisValue, from_redis_value};
 use resp_core::{RedisError, Value};
 use resp_link::ConnectionLike;
 use std::alloc::Global;
 
 impl<L: ConnectionLike + Drop> ClusterClient<L> {
+    /// Where each part of a pipeline goes, and room for all of them in the log.
+    pub(crate) fn dispatches_of_parts(
+        &mut self,
+        alloc: Global,
+        parts: Vec<Part>,
+    ) -> Result<Vec<Dispatch>, RedisError>
+        ensures stays { whole L.seen self.new ≡ with_log (whole L.seen self.old) [] [] }
+        ensures planned { result ≢ Err (by_cause Memory) → (strategy : Option Strategy)
+            (entries : List Entry) → pipeline_parts 0 entries ≡ Ok (map part_of parts.items)
+            → IsPlanned strategy (client_of (whole L.seen self.old)) (Pipeline entries) []
+            (dispatches_of result) }
+        ensures placed { IfOk result
+            (λ v. AllByRecursion (IsPlaced (nodes L.seen self.new.links.nodes.items)) v.items) }
+        ensures room { IfOk result (λ v. vec_len self.new.asked + vec_len v ≤ vec_capacity self.new.asked) }
+    {
+        self.asked = Vec::new(alloc);
+        self.picked = Vec::new(alloc);
+        let mut picked = Vec::new(alloc);
+        let all = dispatches(&self.links, alloc, &self.slots, parts, None, &mut picked)?;
+        self.asked.reserve(all.len())?;
+        Ok(all)
+    }
+
     /// What is done for a pipeline before its first byte: where each command goes, and room for all of
     /// them in the log.
     pub(crate) fn pipeline_dispatches(
@@ -45,13 +71,14 @@ impl<L: ConnectionLike + Drop> ClusterClient<L> {
             (λ v. AllByRecursion (IsPlaced (nodes L.seen self.new.links.nodes.items)) v.items) }
         ensures room { IfOk result (λ v. vec_len self.new.asked + vec_len v ≤ vec_capacity self.new.asked) }
     {
-        self.asked = Vec::new(alloc);
-        self.picked = Vec::new(alloc);
-        let parts = pipeline_parts(alloc, commands)?;
-        let mut picked = Vec::new(alloc);
-        let all = dispatches(&self.links, alloc, &self.slots, parts, None, &mut picked)?;
-        self.asked.reserve(all.len())?;
-        Ok(all)
+        match pipeline_parts(alloc, commands) {
+            Ok(parts) => self.dispatches_of_parts(alloc, parts),
+            Err(e) => {
+                self.asked = Vec::new(alloc);
+                self.picked = Vec::new(alloc);
+                Err(e)
+            }
+        }
     }
 
     /// The replies to requests that go out over one link in one write. The log has room for them.

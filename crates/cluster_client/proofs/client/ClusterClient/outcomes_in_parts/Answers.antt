@@ -34,41 +34,39 @@ returns-in_err-told g c strategy =
     let seen = g.L.ConnectionLike.seen in
     let old = whole seen c.args.self.now in
     let mid = whole seen (record c.args.self.now { asked = c.new.result; picked = c.new-2.result }) in
-    let new = whole seen c.outcomes_of_wholes.new.self in
+    let new = whole seen c.outcomes_of_parts.new.self in
     let stays : mid ≡ with_log old [] [] = rw (c.new.ensures.items, c.new-2.ensures.items) refl in
     let parts = c.in_ok-parts.ensures.parts in
-    let same : c.deref.result.now ≡ in_parts c.args.commands.now = c.deref.ensures.value ∙ parts.commands in
     let p = err_from_is_err_and c.from_residual-in_err-told.result c.from_residual-in_err-told.ensures.1 in
     rw (p.1, p.2) (each_before strategy old mid new c.args.commands.now (Err c.in_err-told.field-0.0) stays
-    (refused_in_parts strategy mid new c.args.commands.now parts.placed c.in_err-told.field-0.0 (subst (λ es. WholesTold strategy mid new es (Err c.in_err-told.field-0.0)) same (c.in_err-told.ensures strategy))))
+    (refused_in_parts strategy mid new c.args.commands.now parts.placed c.in_err-told.field-0.0 (c.in_err-told.ensures strategy (in_parts c.args.commands.now) parts.parts)))
 
 pub join_each-requires-clause-told : goal.join_each-requires-clause-told
 join_each-requires-clause-told g c =
     let seen = g.L.ConnectionLike.seen in
+    let parts = c.in_ok-parts.ensures.parts in
     let mid = whole seen (record c.args.self.now { asked = c.new.result; picked = c.new-2.result }) in
-    (wholes_are_told _ mid (whole seen c.outcomes_of_wholes.new.self) c.deref.result.now (map (tree_result view) c.in_ok-told.told.items) (c.in_ok-told.ensures None)).each
+    (wholes_are_told _ mid (whole seen c.outcomes_of_parts.new.self) (in_parts c.args.commands.now) (map (tree_result view) c.in_ok-told.told.items) (c.in_ok-told.ensures None (in_parts c.args.commands.now) parts.parts)).each
 
 pub join_each-requires-clause-whole : goal.join_each-requires-clause-whole
 join_each-requires-clause-whole g c =
     let seen = g.L.ConnectionLike.seen in
     let mid = whole seen (record c.args.self.now { asked = c.new.result; picked = c.new-2.result }) in
     let parts = c.in_ok-parts.ensures.parts in
-    let same : c.deref.result.now ≡ in_parts c.args.commands.now = c.deref.ensures.value ∙ parts.commands in
-    let told = wholes_are_told _ mid (whole seen c.outcomes_of_wholes.new.self) c.deref.result.now (map (tree_result view) c.in_ok-told.told.items) (c.in_ok-told.ensures None) in
-    ap width_of_all parts.joins ∙ widths c.args.commands.now ∙ ap length (sym same) ∙ sym told.count ∙ length-map _ _
+    let told = wholes_are_told _ mid (whole seen c.outcomes_of_parts.new.self) (in_parts c.args.commands.now) (map (tree_result view) c.in_ok-told.told.items) (c.in_ok-told.ensures None (in_parts c.args.commands.now) parts.parts) in
+    ap width_of_all parts.joins ∙ widths c.args.commands.now ∙ sym told.count ∙ length-map _ _
 
 pub returns : goal.returns
 returns g c strategy =
     let seen = g.L.ConnectionLike.seen in
     let old = whole seen c.args.self.now in
     let mid = whole seen (record c.args.self.now { asked = c.new.result; picked = c.new-2.result }) in
-    let new = whole seen c.outcomes_of_wholes.new.self in
+    let new = whole seen c.outcomes_of_parts.new.self in
     let stays : mid ≡ with_log old [] [] = rw (c.new.ensures.items, c.new-2.ensures.items) refl in
     let parts = c.in_ok-parts.ensures.parts in
-    let same : c.deref.result.now ≡ in_parts c.args.commands.now = c.deref.ensures.value ∙ parts.commands in
     let told = map (tree_result view) c.in_ok-told.told.items in
     let outcomes = map (tree_result view) c.join_each.new.outcomes.items in
-    let w = subst (λ es. WholesTold strategy mid new es (Ok told)) same (c.in_ok-told.ensures strategy) in
+    let w = c.in_ok-told.ensures strategy (in_parts c.args.commands.now) parts.parts in
     let count = widths c.args.commands.now ∙ sym (wholes_are_told strategy mid new (in_parts c.args.commands.now) told w).count in
     each_before strategy old mid new c.args.commands.now (Ok outcomes) stays
     (told_in_parts strategy mid new c.args.commands.now parts.placed told outcomes w

@@ -1,22 +1,10 @@
 use Rattle.std.proofs.Common.{refl, sym}
-use Rattle.std.proofs.lemmas.Result.{err_from_is_err_and}
-use Rattle.cluster_calls.specs.Links.Happened.{client_of}
-use Rattle.cluster_client.specs.Whole.{whole}
-use Rattle.cluster_client.proofs.PipeParts.{pipeline_unplanned, planned_unpicked}
+use Rattle.cluster_client.proofs.PipeParts.{pipeline_unplanned}
 use Rattle.cluster_client.proofs.client.ClusterClient.pipeline_dispatches.Goals as goal
 
-pub returns-in_err-parts-clause-planned : goal.returns-in_err-parts-clause-planned
-returns-in_err-parts-clause-planned g c =
-    let p = err_from_is_err_and c.from_residual.result c.from_residual.ensures.1 in
-    rw (p.1, p.2) (λ m strategy. pipeline_unplanned strategy _ _ _ _ (sym (c.in_err-parts.ensures (λ k. m (cc k)))) refl)
+pub returns-in-Ok-clause-planned : goal.returns-in-Ok-clause-planned
+returns-in-Ok-clause-planned g c m strategy =
+    c.dispatches_of_parts.ensures.planned m strategy c.args.commands.now (sym (c.in-Ok.ensures (λ k. cc k)))
 
-pub returns-in_err-all-clause-planned : goal.returns-in_err-all-clause-planned
-returns-in_err-all-clause-planned g c =
-    let world = whole g.L.ConnectionLike.seen c.args.self.now in
-    let p = err_from_is_err_and c.from_residual-in_err-all.result c.from_residual-in_err-all.ensures.1 in
-    rw (p.1, p.2) (λ m strategy. planned_unpicked strategy (client_of world) c.args.commands.now _ _ _ (sym (c.in_ok-parts.ensures (λ k. cc k))) (c.in_err-all.ensures.dispatched (λ k. m (cc k)) world.settings))
-
-pub returns-clause-planned : goal.returns-clause-planned
-returns-clause-planned g c m strategy =
-    let world = whole g.L.ConnectionLike.seen c.args.self.now in
-    planned_unpicked strategy (client_of world) c.args.commands.now _ _ _ (sym (c.in_ok-parts.ensures (λ k. cc k))) (c.in_ok-all.ensures.dispatched (λ k. cc k) world.settings)
+pub returns-in-Err-clause-planned : goal.returns-in-Err-clause-planned
+returns-in-Err-clause-planned g c m strategy = pipeline_unplanned strategy _ _ _ _ (sym (c.in-Err.ensures (λ k. m (cc k)))) refl
