@@ -24,7 +24,7 @@ use Rattle.cluster_calls.specs.Calls.EachInParts.{AreOutcomesOf, if_several, IsM
 use Rattle.cluster_calls.specs.Calls.Parts.{Part, Target, at_slot, if_one_slot, is_gap, only_part, part_to, parts_of, pipeline_parts, result_then, role_by, split_parts, whole_part, with_whole}
 use Rattle.cluster_calls.specs.Calls.Plan.{Client, Dispatch, dispatches, plan, unless}
 use Rattle.cluster_calls.specs.Calls.Replies.{reply_or_nil}
-use Rattle.cluster_calls.specs.Links.EachMade.{EachMade, refusal_by, refusals_of, told_of}
+use Rattle.cluster_calls.specs.Links.EachMade.{EachMade, WholesMade, refusal_by, refusals_of, told_of}
 use Rattle.cluster_calls.specs.Links.Events.{Event, Ending, answers, fails, lacks_memory}
 use Rattle.cluster_calls.specs.Links.Faults.{LinkFault, io, grammar, refusal_by_fault}
 use Rattle.cluster_calls.specs.Links.Happened.{Happened, client_of}
@@ -180,18 +180,25 @@ happened_before strategy old new entries h = record {
   flag = h.flag;
 }
 
-pub each_before : (strategy : Option Strategy) (old mid new : World) (entries : List Entry) (result : Result (List Outcome) Refusal) → mid ≡ with_log old [] [] → EachMade strategy mid new entries result → EachMade strategy old new entries result
-each_before strategy old mid new entries result stays made = by result (subst (λ (w : World). EachMade strategy w new entries result) stays made)
+-- the same of commands that go whole
+pub wholes_before : (strategy : Option Strategy) (old mid new : World) (entries : List Entry) (planned : Result (List Dispatch) Refusal) (Tells : List Outcome → List Outcome → Type 0) (result : Result (List Outcome) Refusal)
+    → mid ≡ with_log old [] [] → WholesMade strategy mid new entries planned Tells result → WholesMade strategy old new entries planned Tells result
+wholes_before strategy old mid new entries planned Tells result stays made = by result (subst (λ (w : World). WholesMade strategy w new entries planned Tells result) stays made)
   where
-    by : (r : Result (List Outcome) Refusal) → EachMade strategy (with_log old [] []) new entries r → EachMade strategy old new entries r
+    by : (r : Result (List Outcome) Refusal) → WholesMade strategy (with_log old [] []) new entries planned Tells r → WholesMade strategy old new entries planned Tells r
     by (Ok outcomes) m = record {
-      happened = happened_before strategy old new (in_parts entries) m.happened;
+      happened = happened_before strategy old new entries m.happened;
       told = record { dispatches = m.told.dispatches; planned = m.told.planned; picks = m.told.picks; unpicked = m.told.unpicked; legal = m.told.legal; each = m.told.each };
     }
     by (Err refusal) m = record {
-      happened = happened_before strategy old new (in_parts entries) m.happened;
+      happened = happened_before strategy old new entries m.happened;
       told = record { stays = m.told.stays; refused = m.told.refused };
     }
+
+pub each_before : (strategy : Option Strategy) (old mid new : World) (entries : List Entry) (result : Result (List Outcome) Refusal) → mid ≡ with_log old [] [] → EachMade strategy mid new entries result → EachMade strategy old new entries result
+each_before strategy old mid new entries result stays made =
+    wholes_before strategy old mid new (in_parts entries) (each_plan (client_of old) [] entries) (AreOutcomesOf (splits_in entries)) result stays
+    (subst (λ (w : World). WholesMade strategy mid new (in_parts entries) (each_plan (client_of w) [] entries) (AreOutcomesOf (splits_in entries)) result) stays made)
 
 -- ---- the call
 

@@ -6,7 +6,6 @@ pub mod Trees
 pub mod Answering
 pub mod Texts
 pub mod Fields
-mod Halves
 pub mod Numerals
 pub mod ReadBack
 pub mod PackedOnce

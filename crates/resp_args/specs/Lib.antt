@@ -8,4 +8,3 @@ pub mod Convert
 pub mod Laws
 pub mod Names
 pub mod Examples
-pub mod Pairs

@@ -100,14 +100,10 @@ impl<L: ConnectionLike + Drop> ClusterClient<L> {
             (plan (client_of (whole L.seen self.old)) [] (Pipeline commands.now))
             (λ each outcomes. outcomes ≡ each) (outcomes_of result) }
     {
-        match pipeline_parts(alloc, commands) {
-            Ok(parts) => self.outcomes_of_parts(alloc, parts),
-            Err(e) => {
-                self.asked = Vec::new(alloc);
-                self.picked = Vec::new(alloc);
-                Err(e)
-            }
-        }
+        self.asked = Vec::new(alloc);
+        self.picked = Vec::new(alloc);
+        let parts = pipeline_parts(alloc, commands)?;
+        self.outcomes_of_parts(alloc, parts)
     }
 
     /// The outcome of each of a pipeline's positions, of which some are split commands of several slots.
@@ -177,8 +173,8 @@ impl ClusterPipeline {
     /// What goes out, the log, the slot map, `needs_refresh` and the links are those of `query`, and so is
     /// what it costs: one round trip for each node that is used, one node after another. All outcomes are
     /// held until the last; room for them is taken before the first byte, and behind it a link call alone
-    /// takes memory, and the one value of several parts. With a split command of several slots all commands
-    /// are copied once more.
+    /// takes memory, and the one value of several parts. With a split command of several slots the commands
+    /// before the first such are looked up and copied once more.
     ///
     /// # Errors
     /// Only where nothing was sent: for the first command that waits for no response, goes neither whole to

@@ -71,14 +71,10 @@ impl<L: ConnectionLike + Drop> ClusterClient<L> {
             (λ v. AllByRecursion (IsPlaced (nodes L.seen self.new.links.nodes.items)) v.items) }
         ensures room { IfOk result (λ v. vec_len self.new.asked + vec_len v ≤ vec_capacity self.new.asked) }
     {
-        match pipeline_parts(alloc, commands) {
-            Ok(parts) => self.dispatches_of_parts(alloc, parts),
-            Err(e) => {
-                self.asked = Vec::new(alloc);
-                self.picked = Vec::new(alloc);
-                Err(e)
-            }
-        }
+        self.asked = Vec::new(alloc);
+        self.picked = Vec::new(alloc);
+        let parts = pipeline_parts(alloc, commands)?;
+        self.dispatches_of_parts(alloc, parts)
     }
 
     /// The replies to requests that go out over one link in one write. The log has room for them.

@@ -5,7 +5,6 @@ ghost use Rattle.resp_core.specs.Errors.{no_memory};
 ghost use Rattle.resp_core.specs.MapIters.{owned_left, pairs_left};
 ghost use Rattle.resp_core.specs.Parts.{pairs_in};
 ghost use Rattle.resp_core.specs.View.{view, pair_view};
-ghost use Rattle.resp_args.specs.Pairs.{count_pairs};
 ghost use Rattle.resp_args.specs.Convert.{plain, fields, fields_of, part_by_part, Answers};
 
 use crate::from::names::FieldName;
@@ -14,9 +13,6 @@ use crate::from::{FromRedisValue, one};
 use indexmap::IndexMap;
 use resp_core::{MapIter, OwnedMapIter, ParsingError, Value};
 use std::alloc::Global;
-
-// For so many pairs a map has room at most before the first of them is read.
-const ROOM: usize = 65_536;
 
 /// The pairs of a map or of an array of even length, in order of their first names; a repeated
 /// name has its last value.
@@ -58,9 +54,8 @@ fn convert_pairs<K: FieldName, V: FromRedisValue>(
     ensures { Answers (λ m. each (λ e. (K.meaning e.0, V.meaning e.1)) m.entries)
         (option_and_then (fields_of K.convert V.convert K.same) (pairs_in (view value))) result }
 {
-    let count = pair_count(&value);
     match value.into_map_iter() {
-        Ok(pairs) => each_pair(alloc, pairs, count),
+        Ok(pairs) => each_pair(alloc, pairs),
         Err(_) => Err(ParsingError::fixed("a map, or an even number of items, was wanted")),
     }
 }
@@ -73,19 +68,8 @@ fn convert_pairs_ref<K: FieldName, V: FromRedisValue>(
         (option_and_then (fields_of K.convert V.convert K.same) (pairs_in (view value.now))) result }
 {
     match value.as_map_iter() {
-        Some(pairs) => each_pair_ref(alloc, pairs, pair_count(value)),
+        Some(pairs) => each_pair_ref(alloc, pairs),
         None => Err(ParsingError::fixed("a map, or an even number of items, was wanted")),
-    }
-}
-
-// How many pairs there are, where there are any.
-fn pair_count(value: &Value) -> usize
-    ensures { count_pairs (pairs_in (view value.now)) result }
-{
-    match value {
-        Value::Map(pairs) => pairs.len(),
-        Value::Array(items) => items.len() / 2,
-        _ => 0,
     }
 }
 
@@ -102,17 +86,15 @@ fn put<K: FieldName, V: FromRedisValue>(
     Ok(())
 }
 
-// Each pair is put into the map as soon as it is read. The map has room before the first is read, and grows only
-// where there are many.
+// Each pair is put into the map as soon as it is read.
 fn each_pair<K: FieldName, V: FromRedisValue>(
     alloc: Global,
     pairs: OwnedMapIter,
-    count: usize,
 ) -> Result<IndexMap<K, V>, ParsingError>
     ensures { Answers (λ m. each (λ e. (K.meaning e.0, V.meaning e.1)) m.entries)
         (fields_of K.convert V.convert K.same (owned_left pairs)) result }
 {
-    let mut map = IndexMap::with_capacity(alloc, count.min(ROOM))?;
+    let mut map = IndexMap::new(alloc);
     for pair in pairs {
         put(&mut map, convert_both::<K, V>(alloc, pair)?)?;
     }
@@ -136,12 +118,11 @@ fn convert_both<K: FromRedisValue, V: FromRedisValue>(
 fn each_pair_ref<K: FieldName, V: FromRedisValue>(
     alloc: Global,
     pairs: MapIter<'_>,
-    count: usize,
 ) -> Result<IndexMap<K, V>, ParsingError>
     ensures { Answers (λ m. each (λ e. (K.meaning e.0, V.meaning e.1)) m.entries)
         (fields_of K.convert V.convert K.same (pairs_left pairs.entry)) result }
 {
-    let mut map = IndexMap::with_capacity(alloc, count.min(ROOM))?;
+    let mut map = IndexMap::new(alloc);
     for pair in pairs {
         put(&mut map, convert_both_ref::<K, V>(alloc, pair)?)?;
     }

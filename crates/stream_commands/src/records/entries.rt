@@ -168,7 +168,7 @@ fn each_entry(alloc: Global, items: Vec<Value>) -> Result<Entries, ParsingError>
     ensures { Answers (λ e. entries_view e.ids.items)
         (option_map (flat_map (each without_times)) (traverse ids_with_fields (each view items.items))) result }
 {
-    let mut ids = Vec::with_capacity(alloc, items.len())?;
+    let mut ids = Vec::new(alloc);
     for item in items {
         read_entry(alloc, &mut ids, item)?;
     }

@@ -14,5 +14,5 @@ loop-item-preserved c = entries-next ids_with_fields _ (each view (into_iter_ite
 
 pub returns-in_err-read_entry : goal.returns-in_err-read_entry
 returns-in_err-read_entry c =
-    let refused = err_from_is_err_and c.from_residual-in_err-read_entry.result c.from_residual-in_err-read_entry.ensures.1 in
+    let refused = err_from_is_err_and c.from_residual.result c.from_residual.ensures.1 in
     rw (refused.1, refused.2) (entries-stopped {S = Entries} ids_with_fields (λ e. entries_view e.ids.items) _ (each view (into_iter_items c.loop-item.item-iterator)) (view c.in-Some.item) (each view (into_iter_items c.next.new.self)) (entries_view c.loop-item.ids.items) _ c.loop-item.invariant (ap (each view) c.in-Some.ensures.steps.0) c.in_err-read_entry.ensures)
