@@ -1,8 +1,8 @@
 -- one value, one fault, one bound, one read: what a reading is made of
-use Rattle.std.proofs.Common.{◌≡◌, ◌≤◌, ◌+◌, ℕ, Bool, ◌==◌, ◌&&◌, if◌then◌else◌, List, [], ◌∷◌, ◌++◌, length, take, Ok, sym, ap, subst, ◌∙◌, append-nil, refl, arith, inl, inr}
+use Rattle.std.proofs.Common.{◌≡◌, ◌≤◌, ◌+◌, ℕ, Bool, ◌==◌, ◌&&◌, if◌then◌else◌, List, [], ◌∷◌, ◌++◌, length, take, Option, Some, None, Ok, Err, sym, ap, subst, ◌∙◌, append-nil, refl, arith, inl, inr}
 use Rattle.std.proofs.lemmas.List.{length-take-le}
 use Rattle.std.proofs.lemmas.Bool.Decides.{eqb_tells}
-use Rattle.std.specs.Io.KnownBytes.{ReadConsumes}
+use Rattle.std.specs.Io.KnownBytes.{Consumes, Keeps, ReadConsumes}
 use Rattle.resp_core.specs.Trees.{Tree}
 use Rattle.resp_core.specs.Counts.{counted, CountsRead}
 use Rattle.resp_core.specs.Standing.{BeginsWith, BeginsFaulty, BeginsUnfinished}
@@ -107,4 +107,29 @@ Seeks-once a b buffer n u bytes counts joins some bound room allowed same = reco
     omega (arith, allowed),
     subst (λ (x : List ℕ). Awaits a.limit [] x) (sym (append-nil a.held)) (awaits_all a.limit a.held u),
   );
+}
+
+-- what was left stays
+kept : (old new : Option (List ℕ)) → Keeps old new → Consumes old new []
+kept None new k = tt
+kept (Some xs) None k = absurd k
+kept (Some xs) (Some ys) k = sym k
+
+-- one read was refused
+pub Stops-refused : {E : Type 0} (a b : Reading) (buffer : List ℕ) (e : E) → BeginsUnfinished a.limit a.held → ReadConsumes {E = E} a.left b.left (Err e) buffer
+    → CountsRead {E = E} a.counts b.counts (Err e) (length buffer) → b.held ≡ a.held → a.allowed ≡ b.allowed + 1 → b.limit ≡ a.limit → Stops a b []
+Stops-refused a b buffer e u bytes counts held allowed same = record {
+  takes = record {
+    got = [];
+    bytes = [];
+    consumed = kept a.left b.left bytes;
+    spells = refl;
+    joins = append-nil a.held ∙ sym held;
+    room = omega (arith, allowed);
+    reads = λ h. omega (arith, h, counts.reads, allowed);
+    promise = counts.promise;
+    same_limit = same;
+  };
+  unfinished = rw (same, held) u;
+  cause = inl (counts.refused, counts.kept);
 }

@@ -11,10 +11,11 @@ use crate::parser::stop::Stop;
 use crate::value::Value;
 
 impl Parser {
-    ghost use Rattle.std.specs.Prelude.{◌≡◌, ◌≤◌, ℕ, length};
+    ghost use Rattle.std.specs.Prelude.{◌≡◌, ◌≤◌, ℕ, length, true, false};
     ghost use Rattle.resp_core.specs.declared.parser.Head.TheVariants.{Fresh, Line, Bytes};
+    ghost use Rattle.resp_core.specs.Head.{falls_short};
     ghost use Rattle.resp_core.specs.Standing.{Looks, KeepsNoMore, waiting};
-    ghost use Rattle.resp_core.specs.Advancing.{Advances, Reaches, Keeps};
+    ghost use Rattle.resp_core.specs.Advancing.{Advances, Reaches, Keeps, Waits};
 
     /// Forgets what was handed out, once it is half of the buffer or more.
     #[tactic(auto, using(crate::proofs::Fronts::front_dropped))]
@@ -29,6 +30,29 @@ impl Parser {
             self.scanned -= self.front;
             self.front = 0;
         }
+    }
+
+    /// Whether counted bytes are missing. Those that are there are then taken up, as `next_value` does that finds them
+    /// missing.
+    pub(super) fn lacks_bytes(&mut self) -> bool
+        ensures tells { result ≡ falls_short self.old.head (length (waiting self.old)) }
+        ensures waits { result ≡ true → (levels : ℕ) → Waits levels self.old self.new }
+        ensures same { result ≡ false → self.new ≡ self.old }
+        ensures looks { Looks self.old self.new }
+        ensures condition { self.new.condition ≡ self.old.condition }
+        ensures no_more { KeepsNoMore self.old self.new }
+        ensures limit { self.new.limit ≡ self.old.limit }
+    {
+        let Head::Bytes(_, count) = self.head else {
+            return false;
+        };
+        let all = self.buffer.len();
+        if (all - self.front) as u64 >= count {
+            return false;
+        }
+        self.looked = seen(self.looked, all - self.scanned);
+        self.scanned = all;
+        true
     }
 
     /// The next value, which may nest so many levels deep.

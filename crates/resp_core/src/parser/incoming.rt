@@ -11,7 +11,7 @@ const ROOM: usize = 4096;
 const READS: u64 = 1 << 32;
 
 impl Parser {
-    ghost use Rattle.std.specs.Prelude.{◌≡◌, ◌+◌, ◌^◌, true, false, List, ℕ, [], ◌∷◌, ◌⊎◌, ◌↔◌, IfOk, IfErr, OnOk, OnErr, IsErrOf, ◌++◌};
+    ghost use Rattle.std.specs.Prelude.{◌≡◌, ◌<◌, ◌+◌, ◌^◌, length, true, false, List, ℕ, [], ◌∷◌, ◌⊎◌, ◌↔◌, IfOk, IfErr, OnOk, OnErr, IsErrOf, ◌++◌};
     ghost use Rattle.resp_core.specs.View.{view};
     ghost use Rattle.resp_core.specs.Errors.{by_cause};
     ghost use Rattle.resp_core.specs.Standing.{Stands, level_limit, has_fault, is_starved, waiting, is_resting, BeginsUnfinished};
@@ -106,7 +106,8 @@ impl Parser {
         }
     }
 
-    // One read, behind what is held.
+    // Reads behind what is held: once, and on into the same room while counted bytes are missing, since the
+    // value is unfinished until they are there.
     fn read_more<R: LinkRead>(
         &mut self,
         reader: &mut R,
@@ -114,6 +115,46 @@ impl Parser {
     ) -> Result<(), RedisError>
         requires whole { has_fault self.old ≡ false }
         requires fed { is_starved self.old ≡ false }
+        ensures more { OnOk result
+            ((held : List ℕ) → BeginsUnfinished (level_limit self.old) held → Stands self.old held
+            → (rest : List ℕ)
+            × Seeks (reading R.left R.counts reader.old (level_limit self.old) held allowed.old)
+            (reading R.left R.counts reader.new (level_limit self.new) rest allowed.new) []
+            × Stands self.new rest) }
+        ensures starves { IsErrOf result (by_cause Memory) → (held : List ℕ)
+            → BeginsUnfinished (level_limit self.old) held → Stands self.old held → (rest : List ℕ)
+            × Seeks (reading R.left R.counts reader.old (level_limit self.old) held allowed.old)
+            (reading R.left R.counts reader.new (level_limit self.new) rest allowed.new) [] }
+        ensures stops { IsErrOf result (by_cause Io) → (held : List ℕ)
+            → BeginsUnfinished (level_limit self.old) held → Stands self.old held → (rest : List ℕ)
+            × Stops (reading R.left R.counts reader.old (level_limit self.old) held allowed.old)
+            (reading R.left R.counts reader.new (level_limit self.new) rest allowed.new) []
+            × Stands self.new rest }
+        ensures fewer { OnOk result (allowed.new < allowed.old) }
+        ensures causes { IfErr result (λ e. (e ≡ by_cause Io) ⊎ (e ≡ by_cause Memory)) }
+        ensures has_fault { has_fault self.new ≡ false }
+        ensures limit { level_limit self.new ≡ level_limit self.old }
+        ensures is_starved { IsErrOf result (by_cause Memory) ↔ (is_starved self.new ≡ true) }
+    {
+        let mut room = [0u8; ROOM];
+        'reads: loop {
+            self.read_into(reader, allowed, &mut room)?;
+            if !self.lacks_bytes() {
+                return Ok(());
+            }
+        }
+    }
+
+    // One read, behind what is held.
+    fn read_into<R: LinkRead>(
+        &mut self,
+        reader: &mut R,
+        allowed: &mut u64,
+        room: &mut [u8],
+    ) -> Result<(), RedisError>
+        requires whole { has_fault self.old ≡ false }
+        requires fed { is_starved self.old ≡ false }
+        requires room { length room.old ≡ 4096 }
         ensures more { OnOk result
             ((held : List ℕ) → BeginsUnfinished (level_limit self.old) held → Stands self.old held
             → (rest : List ℕ)
@@ -134,15 +175,16 @@ impl Parser {
         ensures has_fault { has_fault self.new ≡ false }
         ensures limit { level_limit self.new ≡ level_limit self.old }
         ensures is_starved { IsErrOf result (by_cause Memory) ↔ (is_starved self.new ≡ true) }
+        ensures is_fed { OnOk result (is_starved self.new ≡ false) }
+        ensures same_room { length room.new ≡ 4096 }
     {
         if *allowed == 0 {
             return Err(RedisError::from(Cause::Io));
         }
         *allowed -= 1;
-        let mut buffer = [0u8; ROOM];
-        match reader.read_some(&mut buffer) {
+        match reader.read_some(room) {
             Ok(0) => Err(RedisError::from(Cause::Io)),
-            Ok(n) => self.feed_or_starve(&buffer[..n]),
+            Ok(n) => self.feed_or_starve(&room[..n]),
             Err(_) => Err(RedisError::from(Cause::Io)),
         }
     }

@@ -52,7 +52,7 @@ returns-in_err-read_more-clause-stops g c is held stands =
     let waits = none so_far.0 so_far.2 in
     let unfinished = subst (λ (k : ℕ). BeginsUnfinished k so_far.0) (sym c.take_value.ensures.limit) waits.0 in
     let stop = c.in_err-read_more.ensures.stops (cc (p.1, p.2, is)) so_far.0 unfinished waits.1 in
-    (so_far.0, Stops-on (Seeks-within _ c.take_value.ensures.limit so_far.1) stop.0, stop.1)
+    (stop.0, Stops-on (Seeks-within _ c.take_value.ensures.limit so_far.1) stop.1, stop.2)
 
 pub returns-in_err-read_more-clause-starves : goal.returns-in_err-read_more-clause-starves
 returns-in_err-read_more-clause-starves g c is held stands =
