@@ -1,10 +1,10 @@
 -- The parts of a split, gathered in one walk over its slots.
 use Rattle.std.specs.Prelude.{nat_eq, slice_index_or, slice_set}
-use Rattle.std.proofs.Common.{◌≡◌, ℕ, zero, suc, ◌+◌, Bool, true, false, not, ◌||◌, if◌then◌else◌, List, [], ◌∷◌, ◌++◌, length, map, filter, refl, sym, ap, ◌∙◌, append-nil, arith, Vec}
+use Rattle.std.proofs.Common.{◌≡◌, ◌≤◌, ◌<◌, ℕ, zero, suc, ◌+◌, nat_lt, Option, Some, None, Bool, true, false, not, ◌||◌, if◌then◌else◌, List, [], ◌∷◌, ◌++◌, length, map, filter, refl, sym, ap, ◌∙◌, append-nil, arith, Vec}
 use Rattle.std.specs.Global.{Global}
-use Rattle.std.specs.List.{position_or_len}
+use Rattle.std.specs.List.{position, position_or_len}
 use Rattle.indexmap.specs.IndexSet.{insert_key}
-use Rattle.std.proofs.lemmas.Bool.{eqb-true}
+use Rattle.std.proofs.lemmas.Bool.{eqb-true, ltb-false}
 use Rattle.std.proofs.lemmas.Bool.Decides.{nat_tests}
 use Rattle.std.proofs.lemmas.List.Elements.{filter-append}
 use Rattle.cluster_routing.specs.declared.route.Route.{Route}
@@ -77,6 +77,50 @@ among_behind (p ∷ ps) route v = by (nat_eq route.slot p.0.slot) (among_behind 
 pub put_added : (ps : List Part) (route : Route) (place i : ℕ) (v : Vec ℕ Global) (x : Part) (w : Vec ℕ Global) → i ≡ position_or_len (nat_eq route.slot) (slots ps) → among nat_eq route.slot (slots ps) ≡ false → v.items ≡ []
     → x ≡ slice_index_or (ps ++ (route, v) ∷ []) i x → w.items ≡ x.1.items ++ place ∷ [] → map shown_part (slice_set (ps ++ (route, v) ∷ []) i (x.0, w)) ≡ put_place route place (map shown_part ps)
 put_added ps route place i v x w e a empty k h = put_at (ps ++ (route, v) ∷ []) route place i x w (e ∙ place_behind ps route v a) (among_behind ps route v) k h ∙ put_behind ps route place v empty a
+
+-- where the part of a slot stands, by a look through the parts
+part_place : (ps : List Part) (slot : ℕ) → position_or_len (λ (p : Part). nat_eq slot p.0.slot) ps ≡ position_or_len (nat_eq slot) (slots ps)
+part_place [] slot = refl
+part_place (p ∷ ps) slot = ap (λ n. if not (nat_eq slot p.0.slot) then 1 + n else 0) (part_place ps slot)
+
+pub part_found : (ps : List Part) (slot i : ℕ) → position (λ (p : Part). nat_eq slot p.0.slot) ps ≡ Some i → i ≡ position_or_len (nat_eq slot) (slots ps)
+part_found ps slot i e = by (nat_lt (position_or_len (λ (p : Part). nat_eq slot p.0.slot) ps) (length ps)) e ∙ part_place ps slot
+  where
+    by : (b : Bool) → (if b then Some (position_or_len (λ (p : Part). nat_eq slot p.0.slot) ps) else None) ≡ Some i → i ≡ position_or_len (λ (p : Part). nat_eq slot p.0.slot) ps
+    by true z = cc
+    by false z = absurd cc
+
+pub part_within : (ps : List Part) (slot : ℕ) → position_or_len (nat_eq slot) (slots ps) ≤ length ps
+part_within [] slot = omega arith
+part_within (p ∷ ps) slot = by (nat_eq slot p.0.slot) (part_within ps slot)
+  where
+    by : (b : Bool) → position_or_len (nat_eq slot) (slots ps) ≤ length ps → (if not b then 1 + position_or_len (nat_eq slot) (slots ps) else 0) ≤ suc (length ps)
+    by true z = omega arith
+    by false z = omega (arith, z)
+
+pub part_missed : (ps : List Part) (slot : ℕ) → position (λ (p : Part). nat_eq slot p.0.slot) ps ≡ None → length ps ≡ position_or_len (nat_eq slot) (slots ps)
+part_missed ps slot e = by (nat_lt (position_or_len (λ (p : Part). nat_eq slot p.0.slot) ps) (length ps)) refl e ∙ part_place ps slot
+  where
+    by : (b : Bool) → nat_lt (position_or_len (λ (p : Part). nat_eq slot p.0.slot) ps) (length ps) ≡ b → (if b then Some (position_or_len (λ (p : Part). nat_eq slot p.0.slot) ps) else None) ≡ None → length ps ≡ position_or_len (λ (p : Part). nat_eq slot p.0.slot) ps
+    by true t z = absurd cc
+    by false t z = omega (arith, ltb-false _ _ t, part_place ps slot, part_within ps slot)
+
+-- a part stands there, or behind all
+pub among_within : (ps : List Part) (slot : ℕ) → position_or_len (nat_eq slot) (slots ps) ≡ length ps → among nat_eq slot (slots ps) ≡ false
+among_within [] slot e = refl
+among_within (p ∷ ps) slot e = by (nat_eq slot p.0.slot) e (among_within ps slot)
+  where
+    by : (b : Bool) → (if not b then 1 + position_or_len (nat_eq slot) (slots ps) else 0) ≡ suc (length ps) → (position_or_len (nat_eq slot) (slots ps) ≡ length ps → among nat_eq slot (slots ps) ≡ false) → (b || among nat_eq slot (slots ps)) ≡ false
+    by true z later = absurd (omega (arith, z))
+    by false z later = later (omega (arith, z))
+
+pub among_before : (ps : List Part) (slot : ℕ) → position_or_len (nat_eq slot) (slots ps) < length ps → among nat_eq slot (slots ps) ≡ true
+among_before [] slot h = absurd (omega (arith, h))
+among_before (p ∷ ps) slot h = by (nat_eq slot p.0.slot) h (among_before ps slot)
+  where
+    by : (b : Bool) → (if not b then 1 + position_or_len (nat_eq slot) (slots ps) else 0) < suc (length ps) → (position_or_len (nat_eq slot) (slots ps) < length ps → among nat_eq slot (slots ps) ≡ true) → (b || among nat_eq slot (slots ps)) ≡ true
+    by true z later = refl
+    by false z later = later (omega (arith, z))
 
 -- what a test that is turned tells
 pub told_true : (a b : Bool) → b ≡ not a → b ≡ false → a ≡ true

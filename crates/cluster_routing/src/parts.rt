@@ -1,6 +1,7 @@
 //! The parts of a split command.
 
-ghost use Rattle.std.specs.Prelude.{◌≡◌, ◌<◌, ◌≤◌, ◌+◌, ◌*◌, ◌^◌, ◌++◌, drop, length, map, take, option_map, IfOk};
+ghost use Rattle.std.specs.List.{position, position_or_len};
+ghost use Rattle.std.specs.Prelude.{◌≡◌, ◌<◌, ◌≤◌, ◌+◌, ◌*◌, ◌^◌, ◌++◌, drop, length, map, nat_eq, take, option_map, IfOk};
 ghost use Rattle.cluster_routing.specs.Info.{lent, shown_info, shown_part, shown_parts};
 ghost use Rattle.cluster_routing.specs.Parts.{argument_slots, groups, in_tuples, len_in_tuples, tuple_count, tuple_slot, tuples_from, tuples_of, width_of};
 ghost use Rattle.cluster_routing.specs.Routing.{part_slots, part_to, put_place, to_some_parts, to_split};
@@ -133,7 +134,7 @@ fn slots_of(
     requires { count * width ≤ length args.now }
     ensures { IfOk result (λ v. v.items ≡ argument_slots (tuples_from count width (lent args.now))) }
 {
-    let mut slots = Vec::new(alloc);
+    let mut slots = Vec::with_capacity(alloc, args.len())?;
     let mut start = 0;
     for passed in 0..count {
         let tuple = tuple_at(args, start, width);
@@ -170,6 +171,9 @@ fn slot_of(tuple: &[&[u8]]) -> u16
     }
 }
 
+/// So many arguments find their parts by a look through these as quickly as by a table.
+const FEW: usize = 32;
+
 /// The parts of a command whose arguments have these slots.
 pub(crate) fn parts_of(
     alloc: Global,
@@ -178,12 +182,90 @@ pub(crate) fn parts_of(
 ) -> Result<Vec<(Route, Vec<usize>)>, AllocError>
     ensures { IfOk result (λ v. map shown_part v.items ≡ map (part_to role) (groups slots.now)) }
 {
-    let mut seen = IndexSet::new(alloc);
+    if slots.len() <= FEW {
+        parts_of_few(alloc, slots, role)
+    } else {
+        parts_of_many(alloc, slots, role)
+    }
+}
+
+/// The same of few arguments.
+fn parts_of_few(
+    alloc: Global,
+    slots: &[u16],
+    role: SlotAddr,
+) -> Result<Vec<(Route, Vec<usize>)>, AllocError>
+    ensures { IfOk result (λ v. map shown_part v.items ≡ map (part_to role) (groups slots.now)) }
+{
     let mut parts = Vec::new(alloc);
     'slots: for (place, slot) in slots.iter().enumerate() {
-        put_place(&mut seen, &mut parts, Route::new(*slot, role), place)?;
+        put_among(&mut parts, Route::new(*slot, role), place)?;
     }
     Ok(parts)
+}
+
+/// Puts a place into the part of its route's slot, which is looked for among all.
+fn put_among(
+    parts: &mut Vec<(Route, Vec<usize>)>,
+    route: Route,
+    place: usize,
+) -> Result<(), AllocError>
+    ensures { IfOk result
+        (λ _. map shown_part parts.new.items ≡ put_place route place (map shown_part parts.old.items)) }
+{
+    let part = part_at(parts, route.slot());
+    put_into(parts, part, route, place)
+}
+
+/// The index of the first part of this slot.
+fn first_part(parts: &[(Route, Vec<usize>)], slot: u16) -> Option<usize>
+    ensures { result ≡ position (λ part. nat_eq slot part.0.slot) parts.now }
+{
+    parts.iter().position(|part| slot == part.0.slot())
+}
+
+/// The same, or how many parts there are where none is of this slot.
+fn part_at(parts: &[(Route, Vec<usize>)], slot: u16) -> usize
+    ensures { result ≡ position_or_len (nat_eq slot) (part_slots (map shown_part parts.now)) }
+{
+    match first_part(parts, slot) {
+        Some(part) => part,
+        None => parts.len(),
+    }
+}
+
+/// Puts a place into the part of its route's slot, which stands at this index, or is new.
+fn put_into(
+    parts: &mut Vec<(Route, Vec<usize>)>,
+    part: usize,
+    route: Route,
+    place: usize,
+) -> Result<(), AllocError>
+    requires { part ≡ position_or_len (nat_eq route.slot) (part_slots (map shown_part parts.old.items)) }
+    ensures { IfOk result
+        (λ _. map shown_part parts.new.items ≡ put_place route place (map shown_part parts.old.items)) }
+{
+    if part == parts.len() {
+        parts.push((route, Vec::new(*parts.allocator())))?;
+    }
+    parts[part].1.push(place)?;
+    Ok(())
+}
+
+/// The same of many arguments.
+fn parts_of_many(
+    alloc: Global,
+    slots: &[u16],
+    role: SlotAddr,
+) -> Result<Vec<(Route, Vec<usize>)>, AllocError>
+    ensures { IfOk result (λ v. map shown_part v.items ≡ map (part_to role) (groups slots.now)) }
+{
+    let mut seen = IndexSet::new(alloc);
+    let mut all = Vec::new(alloc);
+    'slots: for (place, slot) in slots.iter().enumerate() {
+        put_place(&mut seen, &mut all, Route::new(*slot, role), place)?;
+    }
+    Ok(all)
 }
 
 /// Puts a place into the part of its route's slot, which `seen` has at the index of that part.
@@ -198,11 +280,8 @@ fn put_place(
     ensures parts { IfOk result
         (λ _. map shown_part parts.new.items ≡ put_place route place (map shown_part parts.old.items)) }
 {
-    let (part, is_new) = seen.insert_full(route.slot())?;
-    if is_new {
-        parts.push((route, Vec::new(*parts.allocator())))?;
-    }
-    parts[part].1.push(place)?;
+    let (part, _) = seen.insert_full(route.slot())?;
+    put_into(parts, part, route, place)?;
     Ok(())
 }
 

@@ -86,7 +86,7 @@ fn lists_of(
     ensures { IfOk result
         (λ v. map (λ l. l.items) v.items ≡ map (λ p. tuple_places width p.1.items) order.now) }
 {
-    let mut lists = Vec::new(alloc);
+    let mut lists = Vec::with_capacity(alloc, order.len())?;
     'order: for part in order {
         lists.push(tuple_places(alloc, &part.1, width)?)?;
     }
@@ -97,7 +97,7 @@ fn tuple_places(alloc: Global, positions: &[usize], width: usize) -> Result<Vec<
     requires { 0 < width }
     ensures { IfOk result (λ v. v.items ≡ tuple_places width positions.now) }
 {
-    let mut places = Vec::new(alloc);
+    let mut places = Vec::with_capacity(alloc, positions.len() / width)?;
     let mut skip = 0;
     'positions: for position in positions {
         if skip == 0 {
@@ -192,7 +192,7 @@ fn by_place(alloc: Global, places: &[usize], items: Vec<Value>) -> Result<Vec<Va
 fn empty_table(alloc: Global, len: usize) -> Result<Vec<Option<Value>>, AllocError>
     ensures { IfOk result (λ v. map (option_map view) v.items ≡ map (λ _. None) (numbers_below len)) }
 {
-    let mut table = Vec::new(alloc);
+    let mut table = Vec::with_capacity(alloc, len)?;
     'places: for place in 0..len {
         table.push(None)?;
     }
@@ -227,7 +227,7 @@ fn put(table: &mut Vec<Option<Value>>, place: usize, item: Value)
 fn items_of_table(alloc: Global, table: Vec<Option<Value>>) -> Result<Vec<Value>, AllocError>
     ensures { IfOk result (λ v. map view v.items ≡ filter_map (option_map view) table.items) }
 {
-    let mut items = Vec::new(alloc);
+    let mut items = Vec::with_capacity(alloc, table.len())?;
     'table: for slot in table {
         if let Some(item) = slot {
             items.push(item)?;

@@ -2,7 +2,7 @@ use Rattle.cluster_routing.proofs.Tuples.{slotted_start, has_tuple, slotted_more
 use Rattle.cluster_routing.proofs.parts.slots_of.Goals as goal
 
 pub loop-passed-init : goal.loop-passed-init
-loop-passed-init c = slotted_start c.args.width c.args.count c.args.args.now _ c.requires c.new-slots.ensures.items
+loop-passed-init c = slotted_start c.args.width c.args.count c.args.args.now _ c.requires c.in_ok-slots.ensures.items
 
 pub tuple_at-tuple-requires : goal.tuple_at-tuple-requires
 tuple_at-tuple-requires c = has_tuple c.loop-passed.invariant c.loop-passed-test.true
