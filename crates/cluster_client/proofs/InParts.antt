@@ -1,7 +1,7 @@
 -- A pipeline in which split commands stand as their parts, from the run of these parts.
 use Rattle.std.specs.Prelude.{◌+◌, ◌≤◌, ◌||◌, cond, is_some, IfSome, MatchOption}
 use Rattle.std.specs.List.{list_any, AllByRecursion}
-use Rattle.std.proofs.Common.{◌≡◌, ◌≢◌, ℕ, zero, suc, Bool, true, false, List, [], ◌∷◌, ◌++◌, map, zip, take, drop, length, length-append, append-nil, append_assoc, Option, Some, None, option_map, Result, Ok, Err, refl, sym, ap, ◌∙◌, subst, arith}
+use Rattle.std.proofs.Common.{◌≡◌, ◌≢◌, ℕ, zero, suc, Bool, true, false, List, [], ◌∷◌, ◌++◌, map, take, drop, length, length-append, append-nil, append_assoc, Option, Some, None, option_map, Result, Ok, Err, refl, sym, ap, ◌∙◌, subst, arith}
 use Rattle.std.proofs.lemmas.List.{length-map}
 use Rattle.resp_core.specs.Trees.{Tree, nil}
 use Rattle.resp_core.specs.Trees as trees
@@ -13,7 +13,7 @@ use Rattle.cluster_routing.specs.Address.{Address, same_address}
 use Rattle.cluster_routing.specs.Choice.{Strategy}
 use Rattle.cluster_routing.specs.Command.{all_bytes}
 use Rattle.cluster_routing.specs.Routing.{Destination, to_any_node, to_any_primary, to_route, to_address, to_all_nodes, to_all_primaries, to_parts, route_to, role_of, name_of, destination}
-use Rattle.cluster_routing.specs.Split.{Split, PartsByPlace, split_of, split_by_place, parts_by_place, has_split_word, part_places, part_slots, sub_at, with_texts}
+use Rattle.cluster_routing.specs.Split.{Split, PartsByPlace, split_of, split_by_place, parts_by_place, has_split_word, part_places, part_slots, sub, sub_at, with_texts}
 use Rattle.cluster_routing.specs.declared.route.Route.{Route}
 use Rattle.cluster_routing.specs.declared.route.SlotAddr.{SlotAddr}
 use Rattle.cluster_routing.specs.declared.route.SlotAddr.TheVariants.{Master}
@@ -35,7 +35,7 @@ use Rattle.cluster_steps.specs.Joins.{AreOutcomesBy, HasRoom, IsJoinedBy, IsTold
 use Rattle.cluster_steps.specs.FirstPlaces.{part_of}
 use Rattle.cluster_steps.specs.declared.join.Join.{Join}
 use Rattle.cluster_steps.specs.declared.route.Part.{Part as CodePart}
-use Rattle.cluster_steps.specs.CodeParts.{part_at, part_targets}
+use Rattle.cluster_steps.specs.CodeParts.{part_targets, routed_part}
 use Rattle.cluster_steps.specs.WholeParts.{whole_by}
 use Rattle.cluster_client.specs.InParts.{AreInParts, AreReady, IsAdded, if_several_targets, places_of, shown_joins}
 use Rattle.cluster_client.specs.declared.pipeline.in_parts.InParts.{InParts}
@@ -45,7 +45,8 @@ use Rattle.cluster_calls.proofs.LogLaws.EachInParts.{entry_part, is_whole, part_
 use Rattle.cluster_calls.proofs.LogLaws.Fates.{pairwise_length, pipe_dispatches}
 use Rattle.cluster_calls.proofs.ServerLaws.Pipes.{IsEntryDispatch}
 use Rattle.cluster_steps.proofs.PartReplies.{cut_so}
-use Rattle.cluster_steps.proofs.SplitCommands.{all_of}
+use Rattle.cluster_steps.proofs.ReadStreams.{sent_plain}
+use Rattle.cluster_steps.proofs.SplitCommands.{all_of, routed_at}
 use Rattle.cluster_client.proofs.EachPiping.{WholesTold}
 
 abbrev Outcome : Type 0
@@ -314,11 +315,6 @@ goes_as e o b split part is = ap (λ q. is_some q || is_some (entry_part e)) (no
     same None = refl
     same (Some route) = refl
 
--- a command that goes whole is not split
-pub whole_unsplit : (e : Entry) (o : Option Route) → option_map (whole_by (sent e.command)) o ≡ entry_part e → is_some o ≡ true → None ≡ places_of (split_at e)
-whole_unsplit e None part is = cc
-whole_unsplit e (Some route) part is = ap places_of (sym (is_whole e (whole_by (sent e.command) route) (sym part)))
-
 -- the commands of a split command's parts
 
 gap_free : (command : Command) (s : Split) → if_several (parts_of [] command 0) (split_of (sent command)) ≡ Some s → all_bytes command.args ≡ Some (sent command)
@@ -345,51 +341,36 @@ gap_free command s is = by command.no_response (has_split_word command.args) (li
     by false true false g e = all_of _ command.args g
     by false false c g e = routed (destination command.args []) e
 
-abbrev unignored : Command → Entry
-unignored command = record { command = command; ignored = false }
-
-pub parts_stand : (e : Entry) (made : PartsByPlace) → Some made ≡ places_of (split_at e)
-    → (goes_to_slots e ≡ true) × (map unignored (map (λ (p : Route × List ℕ). with_texts new_command (sub_at e.command.args p.1)) made.routes) ≡ entries_by e (split_at e))
-parts_stand e made some = by (split_at e) refl some
+pub parts_go : (e : Entry) (made : PartsByPlace) → Some made ≡ places_of (split_at e) → goes_to_slots e ≡ true
+parts_go e made some = by (split_at e) refl some
   where
-    each : (s : Split) → split_at e ≡ Some s → (role : SlotAddr) (slots : List ℕ)
-        → map unignored (map (λ (p : Route × List ℕ). with_texts new_command (sub_at e.command.args p.1)) (map (λ slot. (route_to role slot, part_places slot s.tuples)) slots)) ≡ map (part_entry s) slots
-    each s is role [] = refl
-    each s is role (slot ∷ slots) =
-        ap (λ texts. unignored (with_texts new_command texts) ∷ map unignored (map (λ (p : Route × List ℕ). with_texts new_command (sub_at e.command.args p.1)) (map (λ slot. (route_to role slot, part_places slot s.tuples)) slots)))
-        (subs_are_at_their_places e.command.args (sent e.command) s slot (gap_free e.command s is) (split_is (parts_of [] e.command 0) (split_of (sent e.command)) s is))
-        ∙ ap (λ es. part_entry s slot ∷ es) (each s is role slots)
-
-    by : (o : Option Split) → split_at e ≡ o → Some made ≡ places_of o
-        → (goes_to_slots e ≡ true) × (map unignored (map (λ (p : Route × List ℕ). with_texts new_command (sub_at e.command.args p.1)) made.routes) ≡ entries_by e o)
+    by : (o : Option Split) → split_at e ≡ o → Some made ≡ places_of o → goes_to_slots e ≡ true
     by None is k = cc
-    by (Some s) is k =
-        let same : made ≡ split_by_place [] s = cc in
-        (ap (λ o. is_some o || is_some (entry_part e)) is, ap (λ (m : PartsByPlace). map unignored (map (λ (p : Route × List ℕ). with_texts new_command (sub_at e.command.args p.1)) m.routes)) same ∙ each s is (role_of s.word []) (part_slots s.tuples))
+    by (Some s) is k = ap (λ o. is_some o || is_some (entry_part e)) is
 
 abbrev routes_to : Split → List ℕ → List (Route × List ℕ)
 routes_to s slots = map (λ slot. (route_to Master slot, part_places slot s.tuples)) slots
 
 -- its parts are made of its routes
 pub parts_placed : (e : Entry) (made : PartsByPlace) → Some made ≡ places_of (split_at e) → (position : ℕ)
-    → pipeline_parts position (entries_by e (split_at e)) ≡ Ok (map part_at (zip made.routes (map (λ (p : Route × List ℕ). with_texts new_command (sub_at e.command.args p.1)) made.routes)))
+    → pipeline_parts position (entries_by e (split_at e)) ≡ Ok (map routed_part (map (routed_at e.command.args) made.routes))
 parts_placed e made some position = by (split_at e) refl some
   where
     each : (s : Split) → split_at e ≡ Some s → (slots : List ℕ)
-        → map part_at (zip (routes_to s slots) (map (λ (p : Route × List ℕ). with_texts new_command (sub_at e.command.args p.1)) (routes_to s slots))) ≡ map (part_to_slot s) slots
+        → map routed_part (map (routed_at e.command.args) (routes_to s slots)) ≡ map (part_to_slot s) slots
     each s is [] = refl
     each s is (slot ∷ slots) =
-        ap (λ texts. part_to (sent (with_texts new_command texts)) (at_slot (route_to Master slot)) ∷ map part_at (zip (routes_to s slots) (map (λ (p : Route × List ℕ). with_texts new_command (sub_at e.command.args p.1)) (routes_to s slots))))
-        (subs_are_at_their_places e.command.args (sent e.command) s slot (gap_free e.command s is) (split_is (parts_of [] e.command 0) (split_of (sent e.command)) s is))
+        ap (λ texts. part_to texts (at_slot (route_to Master slot)) ∷ map routed_part (map (routed_at e.command.args) (routes_to s slots)))
+        (subs_are_at_their_places e.command.args (sent e.command) s slot (gap_free e.command s is) (split_is (parts_of [] e.command 0) (split_of (sent e.command)) s is) ∙ sym (sent_plain (sub s slot)))
         ∙ ap (λ ps. part_to_slot s slot ∷ ps) (each s is slots)
 
     by : (o : Option Split) → split_at e ≡ o → Some made ≡ places_of o
-        → pipeline_parts position (entries_by e o) ≡ Ok (map part_at (zip made.routes (map (λ (p : Route × List ℕ). with_texts new_command (sub_at e.command.args p.1)) made.routes)))
+        → pipeline_parts position (entries_by e o) ≡ Ok (map routed_part (map (routed_at e.command.args) made.routes))
     by None is k = cc
     by (Some s) is k =
         let same : made ≡ split_by_place [] s = cc in
         split_parts_go e s is position ∙ ap (λ ps. Ok ps) (sym (each s is (part_slots s.tuples)))
-        ∙ ap (λ (m : PartsByPlace). Ok (map part_at (zip m.routes (map (λ (p : Route × List ℕ). with_texts new_command (sub_at e.command.args p.1)) m.routes)))) (sym same)
+        ∙ ap (λ (m : PartsByPlace). Ok (map routed_part (map (routed_at e.command.args) m.routes))) (sym same)
 
 -- the part of a command that goes whole
 pub whole_placed : (e : Entry) (part : Part) → entry_part e ≡ Some part → (position : ℕ) → pipeline_parts position (entries_by e (split_at e)) ≡ Ok (part ∷ [])

@@ -32,6 +32,10 @@ shown_part p = (p.0, p.1.items)
 abbrev pub shown_parts : List (Route × Vec ℕ Global) → List (Route × List ℕ)
 shown_parts parts = map shown_part parts
 
+-- routes, each with the arguments that a command is sent with
+abbrev pub shown_routed : List (Route × Vec (Vec ℕ Global) Global) → List (Route × List (List ℕ))
+shown_routed parts = map (λ (p : Route × Vec (Vec ℕ Global) Global). (p.0, texts p.1.items)) parts
+
 abbrev pub shown_splitting : MultiSlotArgPattern × ResponsePolicy → Splitting
 shown_splitting p = record { pattern = p.0; policy = p.1 }
 

@@ -1,11 +1,11 @@
 //! The parts of a split command, and the command of each.
 
-ghost use Rattle.std.specs.Prelude.{◌≡◌, map, flat_map, option_map, option_and_then, IfOk, Some};
+ghost use Rattle.std.specs.Prelude.{◌≡◌, ◌++◌, map, flat_map, option_map, option_and_then, IfOk, Some};
 ghost use Rattle.resp_args.specs.Command.{new_command};
 ghost use Rattle.cluster_routing.specs.Command.{all_bytes};
-ghost use Rattle.cluster_routing.specs.Info.{lent, lent_texts, shown_parts, shown_split, shown_splitting, texts};
+ghost use Rattle.cluster_routing.specs.Info.{lent, lent_texts, shown_parts, shown_routed, shown_split, shown_splitting, texts};
 ghost use Rattle.cluster_routing.specs.Routing.{role_of};
-ghost use Rattle.cluster_routing.specs.Split.{text_list, parts_by_role, parts_by_place, shared_text, parts_with_routes, splitting_of, sub_at, sub_of, text_at, with_texts};
+ghost use Rattle.cluster_routing.specs.Split.{text_list, parts_by_role, parts_by_place, shared_in, shared_text, parts_with_routes, splitting_of, sub_at, sub_of, text_at, with_texts};
 
 use crate::parts::{len_in_tuples, routes_of};
 use crate::policy::{MultiSlotArgPattern, ResponsePolicy};
@@ -65,6 +65,24 @@ impl SplitParts {
     {
         let args = original.each_argument(alloc)?;
         commands_at(alloc, &args, &self.routes)
+    }
+
+    /// The routes in their order, each with the arguments that the command of its part is sent with:
+    /// those of `commands`. It takes as long as the command and all these arguments are.
+    ///
+    /// # Errors
+    /// `AllocError` where memory is refused.
+    pub fn routed_args<R: Routable>(
+        &self,
+        alloc: Global,
+        original: &R,
+    ) -> Result<Vec<(Route, Vec<Vec<u8>>)>, AllocError>
+        ensures { IfOk result
+            (λ v. shown_routed v.items ≡ map (λ p. (p.0, sub_at (R.args original.now) p.1))
+            (shown_parts self.now.routes.items)) }
+    {
+        let args = original.each_argument(alloc)?;
+        routed_args_at(alloc, &args, &self.routes)
     }
 }
 
@@ -254,4 +272,101 @@ fn splitting_in(word: Option<&[u8]>) -> Option<(MultiSlotArgPattern, ResponsePol
         None => None,
         Some(word) => splitting_of(word),
     }
+}
+
+/// The routes, each with what the command of its part is sent with. What the parts share is looked up once for all
+/// of them.
+fn routed_args_at(
+    alloc: Global,
+    args: &[Option<&[u8]>],
+    routes: &[(Route, Vec<usize>)],
+) -> Result<Vec<(Route, Vec<Vec<u8>>)>, AllocError>
+    ensures { IfOk result
+        (λ v. shown_routed v.items ≡ map (λ p. (p.0, sub_of (lent_texts args.now) p.1))
+        (shown_parts routes.now)) }
+{
+    let shared = shared_in(args);
+    let mut routed = Vec::with_capacity(alloc, routes.len())?;
+    'routes: for part in routes {
+        routed.push((part.0, args_at(alloc, args, shared, &part.1)?))?;
+    }
+    Ok(routed)
+}
+
+/// The argument that all parts share, where they share one that is no gap.
+fn shared_in<'a>(args: &[Option<&'a [u8]>]) -> Option<&'a [u8]>
+    ensures { text_list (Some (option_map (λ a. a.now) result)) ≡ shared_in (lent_texts args.now) }
+{
+    let [word, behind @ ..] = args else {
+        return None;
+    };
+    shared_behind(*word, behind)
+}
+
+fn shared_behind<'a>(word: Option<&[u8]>, behind: &[Option<&'a [u8]>]) -> Option<&'a [u8]>
+    ensures { text_list (Some (option_map (λ a. a.now) result))
+        ≡ shared_text (option_and_then splitting_of (option_map (λ a. a.now) word.entry))
+        (lent_texts behind.now) }
+{
+    match splitting_in(word) {
+        None => None,
+        Some((pattern, _)) => arg_at(behind, len_in_tuples(pattern, behind.len())),
+    }
+}
+
+/// The argument at a place, if it is there and no gap.
+fn arg_at<'a>(args: &[Option<&'a [u8]>], place: usize) -> Option<&'a [u8]>
+    ensures { text_list (Some (option_map (λ a. a.now) result)) ≡ text_at (lent_texts args.now) place }
+{
+    match args.get(place) {
+        None => None,
+        Some(arg) => *arg,
+    }
+}
+
+/// What the command of the part at these places is sent with.
+fn args_at(
+    alloc: Global,
+    args: &[Option<&[u8]>],
+    shared: Option<&[u8]>,
+    places: &[usize],
+) -> Result<Vec<Vec<u8>>, AllocError>
+    requires { text_list (Some (option_map (λ a. a.now) shared)) ≡ shared_in (lent_texts args.now) }
+    ensures { IfOk result (λ v. texts v.items ≡ sub_of (lent_texts args.now) places.now) }
+{
+    let [word, behind @ ..] = args else {
+        return Ok(Vec::new(alloc));
+    };
+    let mut list = Vec::with_capacity(alloc, places.len() + 1 + usize::from(shared.is_some()))?;
+    push_arg(&mut list, *word)?;
+    push_args_at(&mut list, behind, places)?;
+    push_arg(&mut list, shared)?;
+    Ok(list)
+}
+
+/// Adds an argument, if it is no gap.
+fn push_arg(list: &mut Vec<Vec<u8>>, arg: Option<&[u8]>) -> Result<(), AllocError>
+    ensures { IfOk result
+        (λ _. texts list.new.items
+        ≡ texts list.old.items ++ text_list (Some (option_map (λ a. a.now) arg.entry))) }
+{
+    if let Some(bytes) = arg {
+        list.push(Vec::from_slice(*list.allocator(), bytes)?)?;
+    }
+    Ok(())
+}
+
+fn push_args_at(
+    list: &mut Vec<Vec<u8>>,
+    args: &[Option<&[u8]>],
+    places: &[usize],
+) -> Result<(), AllocError>
+    ensures { IfOk result
+        (λ _. texts list.new.items
+        ≡ texts list.old.items ++ flat_map (text_at (lent_texts args.now)) places.now) }
+{
+    'places: for place in places {
+        push_arg(list, arg_at(args, *place))?;
+    }
+    Ok(())
 }

@@ -1,9 +1,9 @@
 //! Where commands go.
 
-use crate::texts::{is_text, shows};
+use crate::texts::{is_text, shows, text};
 use cluster_routing::{
-    ResponsePolicy, Route, RoutingInfo, SingleNodeRoutingInfo, SlotAddr, SplitParts,
-    command_for_multi_slot_indices, role_of,
+    MultiSlotArgPattern, ResponsePolicy, Route, RoutingInfo, SingleNodeRoutingInfo, SlotAddr,
+    SplitParts, command_for_multi_slot_indices, role_of,
 };
 use resp_args::Cmd;
 use resp_core::parse_redis_value;
@@ -132,6 +132,106 @@ fn splits_a_reply_as_a_command(rt: HostRuntime) -> Result<(), Fail> {
         "SplitParts { routes: [(Route { slot: 15495, slot_addr: Master }, [0]), (Route { slot: 3300, slot_addr: Master }, [1])], pattern: KeysOnly, policy: CombineArrays } [[77, 103, 101, 116], [97]] [[77, 103, 101, 116], [98]] [[77, 103, 101, 116], [98]]";
     let found = parts_of_a_reply(rt.alloc(), items)?;
     assert_eq!(rt; found.as_str(), wanted);
+    Ok(())
+}
+
+// So many arguments behind the word; every other one is a gap, where there are gaps.
+fn made_command(alloc: Global, word: &str, count: usize, gaps: bool) -> Result<Cmd, AllocError> {
+    let mut cmd = Cmd::new(alloc);
+    cmd.arg(word)?;
+    for number in 0..count {
+        if gaps && number % 2 == 1 {
+            cmd.cursor_arg(7)?;
+        } else {
+            cmd.arg(number)?;
+        }
+    }
+    Ok(cmd)
+}
+
+// Places in any order, twice, behind the end, and none.
+fn made_parts(alloc: Global) -> Result<SplitParts, AllocError> {
+    let places: [&[usize]; 5] = [&[0], &[2, 1], &[], &[1, 1, 3], &[9, 0]];
+    let mut routes = Vec::new(alloc);
+    for part in places {
+        routes.push((
+            Route::new(7, SlotAddr::Master),
+            Vec::from_slice(alloc, part)?,
+        ))?;
+    }
+    Ok(SplitParts {
+        routes,
+        pattern: MultiSlotArgPattern::KeysOnly,
+        policy: ResponsePolicy::CombineArrays,
+    })
+}
+
+// Each route with the arguments that its part's command is sent with.
+fn command_args(
+    alloc: Global,
+    parts: &SplitParts,
+    cmd: &Cmd,
+) -> Result<Vec<(Route, Vec<Vec<u8>>)>, AllocError> {
+    let commands = parts.commands(alloc, cmd)?;
+    let mut args = Vec::new(alloc);
+    for (part, command) in parts.routes.iter().zip(commands.iter()) {
+        args.push((part.0, command.wire_args()?))?;
+    }
+    Ok(args)
+}
+
+fn routes_args_of_commands<R: Abort>(
+    rt: &R,
+    alloc: Global,
+    parts: &SplitParts,
+    cmd: &Cmd,
+) -> Result<(), Fail> {
+    let wanted = text(alloc, &command_args(alloc, parts, cmd)?)?;
+    shows(rt, alloc, &parts.routed_args(alloc, cmd)?, wanted.as_str());
+    Ok(())
+}
+
+#[test]
+fn routes_the_args_of_the_commands(rt: HostRuntime) -> Result<(), Fail> {
+    let alloc = rt.alloc();
+    let made = made_parts(alloc)?;
+    let words = [
+        "MGET",
+        "del",
+        "EXISTS",
+        "UNLINK",
+        "TOUCH",
+        "WATCH",
+        "MSET",
+        "JSON.MGET",
+        "JSON.MSET",
+        "GET",
+    ];
+    for word in words {
+        for count in 0..7 {
+            for gaps in [false, true] {
+                let cmd = made_command(alloc, word, count, gaps)?;
+                routes_args_of_commands(&rt, alloc, &made, &cmd)?;
+                if let Some(parts) = SplitParts::for_routable(alloc, &cmd, &[])? {
+                    routes_args_of_commands(&rt, alloc, &parts, &cmd)?;
+                }
+            }
+        }
+    }
+    routes_args_of_commands(&rt, alloc, &made, &Cmd::new(alloc))
+}
+
+#[test]
+fn routes_the_shared_arg_to_each_part(rt: HostRuntime) -> Result<(), Fail> {
+    let alloc = rt.alloc();
+    let cmd = cmd(alloc, &["JSON.MGET", "a", "b", "$"])?;
+    let wanted =
+        "Some([(Route { slot: 15495, slot_addr: Master }, [[74, 83, 79, 78, 46, 77, 71, 69, 84], [97], [36]]), (Route { slot: 3300, slot_addr: Master }, [[74, 83, 79, 78, 46, 77, 71, 69, 84], [98], [36]])])";
+    let found = match SplitParts::for_routable(alloc, &cmd, &[])? {
+        None => None,
+        Some(parts) => Some(parts.routed_args(alloc, &cmd)?),
+    };
+    shows(&rt, alloc, &found, wanted);
     Ok(())
 }
 

@@ -104,7 +104,7 @@ module _ (role : SlotAddr) (streams : List Stream) where
 
 -- ---- the command of a part
 
-sent_plain : (args : List (List ℕ)) → sent (plain_command args) ≡ args
+pub sent_plain : (args : List (List ℕ)) → sent (plain_command args) ≡ args
 sent_plain [] = refl
 sent_plain (a ∷ args) = ap (λ q. a ∷ q) (sent_plain args)
 

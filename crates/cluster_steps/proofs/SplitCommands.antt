@@ -1,21 +1,21 @@
 -- The parts of a command whose word is split by its keys, as the code finds them.
-use Rattle.std.specs.List.{list_any, zip}
+use Rattle.std.specs.List.{list_any}
 use Rattle.std.specs.Prelude.{is_some}
 use Rattle.std.proofs.Common.{◌≡◌, ℕ, true, false, List, [], ◌∷◌, map, Option, Some, None, option_map, option_and_then, refl, sym, ap, ◌∙◌, Ok, Err}
 use Rattle.resp_core.specs.Errors.{by_cause}
 use Rattle.resp_core.specs.declared.errors.redis_error.Cause.TheVariants.{BrokenTuples, CursorInSplit}
-use Rattle.resp_args.specs.Command.{Command, new_command}
+use Rattle.resp_args.specs.Command.{Command}
 use Rattle.resp_args.specs.Packed.{sent, wire}
 use Rattle.resp_args.specs.declared.cmd.Arg.TheVariants.{Simple, Cursor}
 use Rattle.cluster_routing.specs.Command.{Args, all_bytes}
 use Rattle.cluster_routing.specs.Routing.{name_of, role_of, route_to}
-use Rattle.cluster_routing.specs.Split.{Split, Splitting, PartsByPlace, splitting_of, with_tuples, shared_by, cut, split_of, has_split_word, part_slots, part_places, split_by_place, parts_by_place, sub_at, with_texts}
+use Rattle.cluster_routing.specs.Split.{Split, Splitting, PartsByPlace, splitting_of, with_tuples, shared_by, cut, split_of, has_split_word, part_slots, part_places, split_by_place, parts_by_place, sub_at}
 use Rattle.cluster_routing.specs.declared.route.Route.{Route}
 use Rattle.cluster_routing.specs.declared.route.SlotAddr.{SlotAddr}
 use Rattle.cluster_routing.proofs.SplitWords.{split_words_are_names}
 use Rattle.cluster_routing.proofs.PartPlaces.{subs_are_at_their_places}
 use Rattle.cluster_calls.specs.Calls.Parts.{Part, at_slot, is_gap, role_by, slot_part, split_parts, parts_of}
-use Rattle.cluster_steps.specs.CodeParts.{part_at, part_targets, route_target}
+use Rattle.cluster_steps.specs.CodeParts.{part_targets, route_target, routed_part}
 
 -- ---- arguments without a gap
 
@@ -39,14 +39,10 @@ unsplit read_only (Simple word ∷ args) e = by (all_bytes args)
     by None = refl
     by (Some rest) = at rest (splitting_of word) e
 
--- ---- the command at a route's places
+-- ---- the arguments at a route's places
 
-abbrev pub command_at : Args → Route × List ℕ → Command
-command_at args p = with_texts new_command (sub_at args p.1)
-
-texts_sent : (texts : List (List ℕ)) → sent (with_texts new_command texts) ≡ texts
-texts_sent [] = refl
-texts_sent (t ∷ texts) = ap (λ ts. t ∷ ts) (texts_sent texts)
+abbrev pub routed_at : Args → Route × List ℕ → Route × List (List ℕ)
+routed_at args p = (p.0, sub_at args p.1)
 
 -- ---- a command that is cut
 
@@ -60,17 +56,17 @@ module _ (read_only : List (List ℕ)) (command : Command) (g : list_any is_gap 
   abbrev route_at : ℕ → Route × List ℕ
   route_at slot = (route_to (role_of split.word read_only) slot, part_places slot split.tuples)
 
-  one : (slot : ℕ) → part_at (route_at slot, command_at command.args (route_at slot)) ≡ slot_part role split slot
-  one slot = rw (named, texts_sent (sub_at command.args (part_places slot split.tuples)), subs_are_at_their_places command.args (sent command) split slot (all_of _ command.args g) s) refl
+  one : (slot : ℕ) → routed_part (routed_at command.args (route_at slot)) ≡ slot_part role split slot
+  one slot = rw (named, subs_are_at_their_places command.args (sent command) split slot (all_of _ command.args g) s) refl
 
-  every : (slots : List ℕ) → map part_at (zip (map route_at slots) (map (command_at command.args) (map route_at slots))) ≡ map (slot_part role split) slots
+  every : (slots : List ℕ) → map routed_part (map (routed_at command.args) (map route_at slots)) ≡ map (slot_part role split) slots
   every [] = refl
   every (slot ∷ slots) = rw (one slot, every slots) refl
 
 -- where the parts of a command that is cut go
-targets_at : (command : Route × List ℕ → Command) (routes : List (Route × List ℕ)) → map (λ (part : Part). part.target) (map part_at (zip routes (map command routes))) ≡ map route_target routes
-targets_at command [] = refl
-targets_at command (r ∷ routes) = ap (λ ts. at_slot r.0 ∷ ts) (targets_at command routes)
+targets_at : (args : Args) (routes : List (Route × List ℕ)) → map (λ (part : Part). part.target) (map routed_part (map (routed_at args) routes)) ≡ map route_target routes
+targets_at args [] = refl
+targets_at args (r ∷ routes) = ap (λ ts. at_slot r.0 ∷ ts) (targets_at args routes)
 
 -- ---- a command of a split word
 
@@ -92,14 +88,14 @@ module _ (read_only : List (List ℕ)) (command : Command) (response : command.n
       by (Some split) s k = cc
 
   pub parted : list_any is_gap command.args ≡ false → (made : PartsByPlace) → Some made ≡ parts_by_place command.args read_only
-      → parts_of read_only command number ≡ Ok (map part_at (zip made.routes (map (command_at command.args) made.routes)))
+      → parts_of read_only command number ≡ Ok (map routed_part (map (routed_at command.args) made.routes))
   parted g made e = by (split_of (sent command)) refl (e ∙ cut_bytes read_only command g)
     where
-      by : (o : Option Split) → split_of (sent command) ≡ o → Some made ≡ option_map (split_by_place read_only) o → parts_of read_only command number ≡ Ok (map part_at (zip made.routes (map (command_at command.args) made.routes)))
+      by : (o : Option Split) → split_of (sent command) ≡ o → Some made ≡ option_map (split_by_place read_only) o → parts_of read_only command number ≡ Ok (map routed_part (map (routed_at command.args) made.routes))
       by None s k = cc
       by (Some split) s k =
           let same : made ≡ split_by_place read_only split = cc in
           rw same (cut_up g ∙ ap (split_parts (role_by (name_of command.args) read_only)) s ∙ ap (λ ps. Ok ps) (sym (every read_only command g split s (part_slots split.tuples))))
 
   pub targets_parted : list_any is_gap command.args ≡ false → (made : PartsByPlace) → Some made ≡ parts_by_place command.args read_only → part_targets (parts_of read_only command number) ≡ Ok (map route_target made.routes)
-  targets_parted g made e = ap part_targets (parted g made e) ∙ ap (λ ts. Ok ts) (targets_at (command_at command.args) made.routes)
+  targets_parted g made e = ap part_targets (parted g made e) ∙ ap (λ ts. Ok ts) (targets_at command.args made.routes)

@@ -3,7 +3,6 @@ use Rattle.std.specs.Prelude.{◌≡◌, ℕ, true, false, List, [], ◌∷◌, 
 use Rattle.std.specs.List.{list_any}
 use Rattle.resp_core.specs.Errors.{Refusal}
 use Rattle.resp_args.specs.Command.{Command}
-use Rattle.resp_args.specs.Packed.{sent}
 use Rattle.cluster_routing.specs.declared.route.Route.{Route}
 use Rattle.cluster_routing.specs.Info.{shown_parts, shown_split}
 use Rattle.cluster_routing.specs.Split.{has_split_word, parts_by_place}
@@ -39,9 +38,9 @@ abbrev pub targets_by : Result CodeTargets Refusal → Result (List Target) Refu
 targets_by (Ok made) = Ok (targets_in made)
 targets_by (Err refusal) = Err refusal
 
--- a command as the part that goes to a route's slot
-abbrev pub part_at : (Route × List ℕ) × Command → Part
-part_at p = part_to (sent p.1) (at_slot p.0.0)
+-- arguments as the part that goes to a route's slot
+abbrev pub routed_part : Route × List (List ℕ) → Part
+routed_part p = part_to p.1 (at_slot p.0)
 
 -- The part of a command that is not split is its only one; no part of a command whose word is split.
 abbrev pub IsWholePart : List (List ℕ) → Command → ℕ → Result (Option CodePart) Refusal → Type 0

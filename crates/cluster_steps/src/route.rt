@@ -1,14 +1,14 @@
 //! The parts of a command, and where each of them is to go.
-ghost use Rattle.std.specs.List.{list_any, zip};
-ghost use Rattle.std.specs.Prelude.{ℕ, ◌≡◌, ◌≢◌, Err, map, option_map, true, false, IfOk};
+ghost use Rattle.std.specs.List.{list_any};
+ghost use Rattle.std.specs.Prelude.{ℕ, ◌≡◌, ◌≢◌, ◌++◌, Err, map, option_map, true, false, IfOk};
 ghost use Rattle.resp_args.specs.Left.{shown};
 ghost use Rattle.resp_core.specs.Errors.{by_cause};
 ghost use Rattle.resp_core.specs.declared.errors.redis_error.Cause.TheVariants.{Memory};
 ghost use Rattle.resp_args.specs.Packed.{sent};
-ghost use Rattle.cluster_routing.specs.Info.{shown_parts, shown_split, texts};
+ghost use Rattle.cluster_routing.specs.Info.{shown_routed, shown_split, texts};
 ghost use Rattle.cluster_routing.specs.Split.{has_split_word, parts_by_place};
 ghost use Rattle.cluster_calls.specs.Calls.Parts.{is_gap, parts_of};
-ghost use Rattle.cluster_steps.specs.CodeParts.{IsSplitBy, IsWholePart, part_at, part_targets, parts_by, split_in, targets_by};
+ghost use Rattle.cluster_steps.specs.CodeParts.{IsSplitBy, IsWholePart, part_targets, parts_by, routed_part, split_in, targets_by};
 ghost use Rattle.cluster_steps.specs.FirstPlaces.{is_split, one_part, part_by, part_of, target_by, target_of};
 
 use cluster_routing::{Direction, Route, SplitParts};
@@ -187,40 +187,34 @@ fn split_parts(alloc: Global, cmd: &Cmd, read_only: &[Vec<u8>]) -> Result<Parts,
         Ok(split) => split,
         Err(e) => return Err(e),
     };
-    let commands = split.commands(alloc, cmd)?;
-    let list = parts_at(alloc, &split.routes, &commands)?;
+    let routed = split.routed_args(alloc, cmd)?;
+    let mut list = Vec::with_capacity(alloc, routed.len())?;
+    push_parts(&mut list, routed)?;
     Ok(Parts {
         list,
         split: Some(split),
     })
 }
 
-/// The part of each command, for the route that stands at its place; there are as many parts as there are both
-/// a route and a command for.
+/// Puts a part for each route, with its arguments, behind what there is.
 ///
 /// # Errors
-/// `AllocError` where memory is refused.
-pub fn parts_at(
-    alloc: Global,
-    routes: &[(Route, Vec<usize>)],
-    commands: &[Cmd],
-) -> Result<Vec<Part>, AllocError>
+/// `AllocError` where memory is refused; the parts before that one may then stand there.
+pub fn push_parts(
+    parts: &mut Vec<Part>,
+    routed: Vec<(Route, Vec<Vec<u8>>)>,
+) -> Result<(), AllocError>
     ensures { IfOk result
-        (λ v. map part_of v.items ≡ map part_at (zip (shown_parts routes.now) commands.now)) }
+        (λ _. map part_of parts.new.items
+        ≡ map part_of parts.old.items ++ map routed_part (shown_routed routed.items)) }
 {
-    let mut parts = Vec::new(alloc);
-    let mut left = routes;
-    'parts: for command in commands {
-        let [route, others @ ..] = left else {
-            return Ok(parts);
-        };
+    'routes: for (route, args) in routed {
         parts.push(Part {
-            target: Target::Slot(route.0),
-            args: command.wire_args()?,
+            target: Target::Slot(route),
+            args,
         })?;
-        left = others;
     }
-    Ok(parts)
+    Ok(())
 }
 
 /// The target of a command that goes to one node; `None` for every other.

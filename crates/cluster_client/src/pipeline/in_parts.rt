@@ -16,7 +16,7 @@ use crate::pipeline::parts::primary_route;
 use cluster_routing::{Route, SplitParts};
 use cluster_steps::join::Join;
 use cluster_steps::pipeline_reads::reads_several_slots;
-use cluster_steps::route::{Part, Target, Targets, parts_at, targets_of};
+use cluster_steps::route::{Part, Target, Targets, push_parts, targets_of};
 use resp_core::{Cause, ErrorKind, RedisError};
 use std::alloc::{AllocError, Global};
 
@@ -69,9 +69,8 @@ impl InParts {
         requires { Some (shown_split split) ≡ places_of (split_at command.now) }
         ensures { OnOk result (IsAdded command.now self.old self.new) }
     {
-        let commands = split.commands(alloc, &command.command)?;
-        let mut parts = parts_at(alloc, &split.routes, &commands)?;
-        self.parts.append(&mut parts)?;
+        let routed = split.routed_args(alloc, &command.command)?;
+        push_parts(&mut self.parts, routed)?;
         self.joins.push(Some(Join::new(alloc, split)?))?;
         Ok(())
     }
