@@ -55,7 +55,7 @@ module _ {A : Type 0} (eq : A → A → Bool) (turned : (a b : A) → eq a b ≡
 -- ---- a set of the keys seen
 
 module _ {A B X : Type 0} (eq : A → A → Bool) (text : B → A) (shown : X → A) where
-  any_of : (a : A) (ks : List B) → list_any (λ (k : B). eq a (text k)) ks ≡ list_any (eq a) (map text ks)
+  pub any_of : (a : A) (ks : List B) → list_any (λ (k : B). eq a (text k)) ks ≡ list_any (eq a) (map text ks)
   any_of a [] = refl
   any_of a (k ∷ ks) = ap (λ b. eq a (text k) || b) (any_of a ks)
 

@@ -62,7 +62,7 @@ one_more (k ∷ known) a d new =
     ap (λ b. b || has_repeats (known ++ a ∷ [])) unlike ∙ one_more known a parts.1 news.1
 
 -- with a new node behind the others
-distinct_behind : {L : Type 0} (seen : L → Seen) (links : List (NodeAddress × L)) (node : NodeAddress) (link : L) → are_repeated links ≡ false → place_at (nodes seen links) (address node) ≡ None
+pub distinct_behind : {L : Type 0} (seen : L → Seen) (links : List (NodeAddress × L)) (node : NodeAddress) (link : L) → are_repeated links ≡ false → place_at (nodes seen links) (address node) ≡ None
     → are_repeated (links ++ ((node, link) ∷ [])) ≡ false
 distinct_behind seen links node link d none =
     let known = map (λ l. address l.0) links in
@@ -70,12 +70,6 @@ distinct_behind seen links node link d none =
     ap (λ as'. list_any (λ k. same_address k (address node)) as') (sym (map_twice (λ pair. record { address = address pair.0; link = seen pair.1 }) (λ (n : Node). n.address) links))
     ∙ placed (nodes seen links) (address node) ∙ ap is_some none in
     ap has_repeats (map-append (λ l. address l.0) links ((node, link) ∷ [])) ∙ one_more known (address node) d new
-
--- or as they were, where that was refused
-pub distinct_either : {L : Type 0} (seen : L → Seen) (links : List (NodeAddress × L)) (node : NodeAddress) (link : L) (b : Bool) (new : List (NodeAddress × L)) → are_repeated links ≡ false → place_at (nodes seen links) (address node) ≡ None
-    → new ≡ cond b (links ++ ((node, link) ∷ [])) links → are_repeated new ≡ false
-distinct_either seen links node link true new d none is = ap are_repeated is ∙ distinct_behind seen links node link d none
-distinct_either seen links node link false new d none is = ap are_repeated is ∙ d
 
 -- with another link to a node
 pub distinct_there : {L : Type 0} (links : List (NodeAddress × L)) (which : ℕ) (pair : NodeAddress × L) (new : L) → are_repeated links ≡ false → pair ≡ get_or links which pair

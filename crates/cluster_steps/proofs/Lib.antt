@@ -19,3 +19,4 @@ pub mod JoinedReads
 pub mod PipelineReads
 pub mod AttemptReplies
 pub mod DistinctLinks
+pub mod KnownLinks

@@ -1,4 +1,5 @@
 pub mod Links
+pub mod LinkTable
 pub mod FirstPlaces
 pub mod CodeParts
 pub mod Dispatches

@@ -1,12 +1,14 @@
 //! The links, found by the addresses of their nodes.
 ghost use Rattle.std.specs.List.{list_any};
 ghost use Rattle.std.proofs.Props.{props};
-ghost use Rattle.std.specs.Prelude.{◌≡◌, ◌<◌, ◌++◌, ◌∷◌, [], None, Some, is_some, length, map, not, position, vec_len, IfOk, IfSome, MatchOption, MatchResult, OnErr, OnOk, false};
+ghost use Rattle.std.specs.Prelude.{◌≡◌, ◌<◌, ◌++◌, ◌∷◌, [], None, Some, is_some, length, map, not, position, vec_len, IfOk, IfSome, MatchOption, MatchResult, OnErr, OnOk, false, true};
 ghost use Rattle.resp_core.specs.View.{view};
 ghost use Rattle.cluster_routing.specs.Address.{same_address};
-ghost use Rattle.cluster_routing.specs.Seen.{address};
+ghost use Rattle.cluster_routing.specs.Seen.{address, addresses};
 ghost use Rattle.cluster_calls.specs.Links.World.{nodes, open_links, place_at, is_linked, has_repeats, addresses_of, Calls, Called, one_reply, tree_result, tree_results};
 ghost use Rattle.cluster_calls.specs.Links.Places.{IsOpenAt};
+ghost use Rattle.cluster_steps.specs.LinkTable.{knows_all};
+ghost use Rattle.indexmap.specs.IndexSet.{insert_key};
 
 use cluster_routing::NodeAddress;
 use indexmap::IndexSet;
@@ -23,9 +25,11 @@ const FEW: usize = 8;
 pub struct Links<L> {
     pub nodes: Vec<(NodeAddress, L)>,
 
-    // The addresses in the order of the nodes, where these are many. A hint: who asks it looks there.
+    // A table of the addresses, in the order of the nodes, where these are many. It has the address of each
+    // node; the place that it tells is a hint: who asks it looks there.
     places: Option<IndexSet<NodeAddress>>,
     ghost distinct: { has_repeats (map (λ link. address link.0) nodes.items) ≡ false } by { Prim.hlevel props },
+    ghost known: { knows_all places (map (λ link. address link.0) nodes.items) ≡ true } by { Prim.hlevel props },
 }
 
 impl<L: ConnectionLike + Drop> Links<L> {
@@ -57,8 +61,10 @@ impl<L: ConnectionLike + Drop> Links<L> {
         ensures put { OnOk result (self.new.nodes.items ≡ self.old.nodes.items ++ ((node, link) ∷ [])) }
         ensures stays { OnErr result (self.new.nodes.items ≡ self.old.nodes.items) }
     {
-        self.nodes.push((node, link))?;
-        self.learn_last();
+        self.nodes.reserve(1)?;
+        self.learn(&node);
+        self.nodes.push_reserved((node, link));
+        self.renew_table();
         Ok(())
     }
 }
@@ -73,14 +79,15 @@ impl<L: ConnectionLike> Links<L> {
         mem::replace(&mut self.nodes[which].1, link)
     }
 
-    /// The table learns of the last node, or is made anew.
-    fn learn_last(&mut self)
-        ensures { self.new.nodes ≡ self.old.nodes }
+    /// The table learns of a node that is to come behind the others. Where memory is refused, it is dropped.
+    fn learn(&mut self, node: &NodeAddress)
+        ensures stays { self.new.nodes ≡ self.old.nodes }
+        ensures known { knows_all self.new.places
+            (addresses_of (nodes L.seen self.old.nodes.items) ++ (address node.now ∷ [])) ≡ true }
     {
         if let Some(table) = self.places.take() {
-            self.places = with_last(table, &self.nodes).ok();
+            self.places = with_node(table, node).ok();
         }
-        self.renew_table();
     }
 
     /// Makes the table of many nodes that have none. Where memory is refused, they go without.
@@ -97,19 +104,22 @@ impl<L: ConnectionLike> Links<L> {
         ensures place { result ≡ place_at (nodes L.seen self.now.nodes.items) (address node.now) }
         ensures within { IfSome result (λ which. which < vec_len self.now.nodes) }
     {
-        match self.told_place(node) {
-            Some(which) => Some(which),
-            None => place_of(&self.nodes, node),
+        // The table has the address of each link, so a node that it lacks has no place, and none is looked for.
+        if let Some(table) = &self.places {
+            let told = table.get_index_of(node)?;
+            if let Some(which) = self.told_place(told, node) {
+                return Some(which);
+            }
         }
+        place_of(&self.nodes, node)
     }
 
-    /// The place of a node by the table, where the node does stand there.
-    fn told_place(&self, node: &NodeAddress) -> Option<usize>
+    /// The place that the table told, where the node does stand there.
+    fn told_place(&self, which: usize, node: &NodeAddress) -> Option<usize>
         ensures place { IfSome result
             (λ which. place_at (nodes L.seen self.now.nodes.items) (address node.now) ≡ Some which) }
         ensures within { IfSome result (λ which. which < vec_len self.now.nodes) }
     {
-        let which = self.places.as_ref()?.get_index_of(node)?;
         let link = self.nodes.get(which)?;
         if is_same(&link.0, node) {
             Some(which)
@@ -253,7 +263,10 @@ fn table_of<L: ConnectionLike>(
     alloc: Global,
     links: &[(NodeAddress, L)],
 ) -> Result<Option<IndexSet<NodeAddress>>, AllocError>
-    ensures { IfOk result (λ table. is_some table ≡ not (has_repeats (addresses_of (nodes L.seen links.now)))) }
+    ensures repeated { IfOk result
+        (λ table. is_some table ≡ not (has_repeats (addresses_of (nodes L.seen links.now)))) }
+    ensures keys { IfOk result
+        (λ table. IfSome table (λ seen. addresses seen.keys ≡ addresses_of (nodes L.seen links.now))) }
 {
     let mut seen = IndexSet::with_capacity(alloc, links.len())?;
     'links: for link in links {
@@ -264,14 +277,15 @@ fn table_of<L: ConnectionLike>(
     Ok(Some(seen))
 }
 
-/// The table with the address of the last link.
-fn with_last<L>(
+/// The table with one more address, behind the others where it is new.
+fn with_node(
     table: IndexSet<NodeAddress>,
-    links: &[(NodeAddress, L)],
-) -> Result<IndexSet<NodeAddress>, AllocError> {
+    node: &NodeAddress,
+) -> Result<IndexSet<NodeAddress>, AllocError>
+    ensures { IfOk result
+        (λ more. addresses more.keys ≡ insert_key same_address (addresses table.keys) (address node.now)) }
+{
     let mut table = table;
-    if let Some(last) = links.last() {
-        table.insert(last.0.clone()?)?;
-    }
+    table.insert(node.clone()?)?;
     Ok(table)
 }
