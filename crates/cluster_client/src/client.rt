@@ -33,9 +33,10 @@ mod relink;
 
 use cluster_routing::{ClusterTopology, NodeAddress, ReadRoutingStrategy, SlotMap};
 use cluster_steps::asked::{Asked, sent_again};
-use cluster_steps::dispatch::{Dispatch, Outset, Prepared, dispatches, one_dispatch};
+use cluster_steps::dispatch::{Dispatch, Outset, Prepared, dispatches, one_dispatch_in};
 use cluster_steps::exchange::exchange_one;
 use cluster_steps::links::Links;
+use cluster_steps::numbered_map::NumberedMap;
 use cluster_steps::order::{fits_order, prepared_in_order};
 use cluster_steps::ready::{Ready, make_all_ready, make_ready};
 use cluster_steps::reply::{needs_refresh, reply_of_parts};
@@ -69,7 +70,7 @@ pub struct ClusterClient<L> {
     pub(crate) links: Links<L>,
     pub(crate) read_only: Vec<Vec<u8>>,
     pub(crate) budget: u16,
-    pub(crate) slots: SlotMap,
+    pub(crate) slots: NumberedMap,
     pub(crate) needs_refresh: bool,
     pub(crate) asked: Vec<Asked>,
     pub(crate) picked: Vec<NodeAddress>,
@@ -104,7 +105,7 @@ impl<L: ConnectionLike + Drop> ClusterClient<L> {
             links,
             read_only,
             budget,
-            slots: SlotMap::new(alloc),
+            slots: NumberedMap::new(SlotMap::new(alloc)),
             needs_refresh: false,
             asked: Vec::new(alloc),
             picked: Vec::new(alloc),
@@ -130,7 +131,8 @@ impl<L: ConnectionLike + Drop> ClusterClient<L> {
         let dispatch = slots_dispatch(alloc, node, which)?;
         let request = make_ready(alloc, &mut self.asked, dispatch, 1)?;
         let reply = exchange_one(&mut self.links, alloc, &mut self.asked, request)?;
-        self.slots = slot_map_in(alloc, reply, node)?;
+        let slots = slot_map_in(alloc, reply, node)?;
+        self.slots.renew(slots);
         self.needs_refresh = false;
         self.links.renew_table();
         Ok(())
@@ -295,10 +297,10 @@ impl<L: ConnectionLike + Drop> ClusterClient<L> {
         if !fits_order(alloc, order, 1)? {
             return Err(RedisError::from(Cause::BadOrder));
         }
-        let dispatch = one_dispatch(
+        let dispatch = one_dispatch_in(
             &self.links,
             alloc,
-            &self.slots,
+            &mut self.slots,
             part,
             strategy,
             &mut self.picked,
@@ -337,7 +339,7 @@ impl<L: ConnectionLike + Drop> ClusterClient<L> {
         let dispatches = dispatches(
             &self.links,
             alloc,
-            &self.slots,
+            self.slots.map(),
             list,
             strategy,
             &mut self.picked,
@@ -408,7 +410,7 @@ impl<L: ConnectionLike + Drop> ClusterClient<L> {
     pub fn topology(&self, alloc: Global) -> Result<ClusterTopology, AllocError>
         ensures { IfOk result (λ t. t ≡ shards_of (whole L.seen self.now).entries) }
     {
-        self.slots.topology(alloc)
+        self.slots.map().topology(alloc)
     }
 
     /// Whether a request was answered by MOVED since the last accepted refresh; that a refresh itself was

@@ -302,7 +302,7 @@ impl<L: ConnectionLike + Drop> ClusterClient<L> {
         let NodeDispatches { list, policy } = node_dispatches(
             &self.links,
             alloc,
-            &self.slots,
+            self.slots.map(),
             &self.read_only,
             cmd,
         )?;

@@ -64,7 +64,14 @@ impl<L: ConnectionLike + Drop> ClusterClient<L> {
         };
         let target = Target::Slot(Route::new(slot, SlotAddr::Master));
         let mut picked = Vec::new(alloc);
-        let place = first_place(&self.links, alloc, &self.slots, &target, None, &mut picked)?;
+        let place = first_place(
+            &self.links,
+            alloc,
+            self.slots.map(),
+            &target,
+            None,
+            &mut picked,
+        )?;
         let attempt = make_attempt_ready(alloc, &mut self.asked, place, commands)?;
         Ok(Some(attempt))
     }

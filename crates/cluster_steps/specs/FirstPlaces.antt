@@ -59,6 +59,10 @@ node_with_link links None = Err (by_cause NoNode)
 node_with_link links (Some first) = if is_linked links first.node then Ok first.node
     else Err (by_cause NoLink)
 
+-- this node, where an open link leads to it
+abbrev pub if_linked : List Address → Address → Result Address Refusal
+if_linked links node = if is_linked links node then Ok node else Err (by_cause NoLink)
+
 abbrev pub node_by : {A : Type 0} → (A → Address) → Result A Refusal → Result Address Refusal
 node_by node (Ok a) = Ok (node a)
 node_by node (Err refusal) = Err refusal

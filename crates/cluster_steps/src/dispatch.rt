@@ -11,7 +11,8 @@ ghost use Rattle.cluster_steps.specs.Groups.{request_in};
 
 use crate::asked::Asked;
 use crate::links::Links;
-use crate::place::{Place, first_place};
+use crate::numbered_map::NumberedMap;
+use crate::place::{Place, first_place, first_place_in};
 use crate::route::Part;
 use cluster_routing::{NodeAddress, ReadRoutingStrategy, SlotMap, SplitParts};
 use resp_core::RedisError;
@@ -73,6 +74,33 @@ pub fn one_dispatch<L: ConnectionLike>(
     ensures placed { IfOk result (λ d. IsPlaced (nodes L.seen links.now.nodes.items) d) }
 {
     let place = first_place(links, alloc, slots, &part.target, strategy, picked)?;
+    Ok(Dispatch {
+        place,
+        args: part.args,
+    })
+}
+
+/// The same over a map that lists its nodes where one of them is chosen by a number.
+///
+/// # Errors
+/// Those of `one_dispatch`.
+pub fn one_dispatch_in<L: ConnectionLike>(
+    links: &Links<L>,
+    alloc: Global,
+    slots: &mut NumberedMap,
+    part: Part,
+    strategy: Option<&dyn ReadRoutingStrategy>,
+    picked: &mut Vec<NodeAddress>,
+) -> Result<Dispatch, RedisError>
+    requires { picked.old.items ≡ [] }
+    ensures stays { slots.new ≡ slots.old }
+    ensures dispatched { result ≢ Err (by_cause Memory) → (settings : Settings)
+        → AreDispatched (option_map (λ s. admits s.now) strategy.entry)
+        (client_with settings slots.old (nodes L.seen links.now.nodes.items)) (part_of part ∷ [])
+        (addresses picked.new.items) (one_dispatch result) }
+    ensures placed { IfOk result (λ d. IsPlaced (nodes L.seen links.now.nodes.items) d) }
+{
+    let place = first_place_in(links, alloc, slots, &part.target, strategy, picked)?;
     Ok(Dispatch {
         place,
         args: part.args,

@@ -12,6 +12,7 @@ pub mod exchange;
 pub mod grouped;
 pub mod join;
 pub mod links;
+pub mod numbered_map;
 pub mod order;
 pub mod pipeline_reads;
 pub mod place;

@@ -1,6 +1,6 @@
 //! Where a part goes first: the node that serves its slot, that a strategy picks or that a number
 //! chooses, and the place of its link.
-ghost use Rattle.std.specs.Prelude.{◌≡◌, ◌≢◌, ◌<◌, is_some, map, vec_len, IfOk, Err, option_map, false};
+ghost use Rattle.std.specs.Prelude.{◌≡◌, ◌≢◌, ◌<◌, is_some, vec_len, IfOk, Err, option_map, false};
 ghost use Rattle.resp_core.specs.Errors.{by_cause};
 ghost use Rattle.resp_core.specs.declared.errors.redis_error.Cause.TheVariants.{Memory};
 ghost use Rattle.cluster_routing.specs.AllNodes.{all_nodes};
@@ -8,11 +8,12 @@ ghost use Rattle.cluster_routing.specs.Seen.{address, addresses};
 ghost use Rattle.cluster_routing.specs.SlotMap.{nodes_at};
 ghost use Rattle.cluster_calls.specs.Links.World.{nodes, open_links};
 ghost use Rattle.cluster_calls.specs.Links.Places.{IsOpenAt};
-ghost use Rattle.cluster_steps.specs.FirstPlaces.{FindsFirst, IsPickOf, node_by, node_by_place, node_in, node_with_link, target_of};
+ghost use Rattle.cluster_steps.specs.FirstPlaces.{FindsFirst, IsPickOf, if_linked, node_by, node_by_place, node_in, node_with_link, target_of};
 ghost use Rattle.cluster_calls.specs.Calls.Parts.{at_slot};
 ghost use Rattle.cluster_calls.specs.Calls.Plan.{by_number, is_read, target_candidates};
 
 use crate::links::Links;
+use crate::numbered_map::NumberedMap;
 use crate::route::Target;
 use cluster_routing::{NodeAddress, ReadRoutingStrategy, Route, SlotAddr, SlotMap};
 use resp_core::{Cause, RedisError};
@@ -88,18 +89,18 @@ fn node_at_slot<'a>(
     }
 }
 
-/// The node with a number among these, modulo their count.
-fn node_among<'a>(all: &[&'a NodeAddress], number: u64) -> Option<&'a NodeAddress>
-    ensures { option_map (λ a. address a.now) result ≡ by_number number (map (λ a. address a.now) all.now) }
+/// The item with a number among these, modulo their count.
+pub(crate) fn item_among<T>(all: &[T], number: u64) -> Option<&T>
+    ensures { option_map (λ item. item.now) result ≡ by_number number all.now }
 {
     if all.is_empty() {
         return None;
     }
-    Some(all[(number % all.len() as u64) as usize])
+    Some(&all[(number % all.len() as u64) as usize])
 }
 
 /// The node with a number among all nodes, ascending.
-fn node_by_number<'a>(
+pub(crate) fn node_by_number<'a>(
     alloc: Global,
     slots: &'a SlotMap,
     number: u64,
@@ -108,9 +109,9 @@ fn node_by_number<'a>(
         → node_by (λ node. address node.now) result ≡ node_by_place (by_number number (all_nodes slots.now)) }
 {
     let all = slots.addresses_for_all_nodes(alloc)?;
-    match node_among(&all, number) {
+    match item_among(&all, number) {
         None => Err(RedisError::from(Cause::NoNode)),
-        Some(node) => Ok(node),
+        Some(node) => Ok(*node),
     }
 }
 
@@ -156,6 +157,51 @@ pub fn first_place<L: ConnectionLike>(
     ensures within { IfOk result (λ p. p.which < vec_len links.now.nodes) }
 {
     let node = first_node(alloc, slots, target, strategy, picked)?;
+    place_of(links, node)
+}
+
+/// The same over a map that lists its nodes where one of them is chosen by a number.
+///
+/// # Errors
+/// Those of `first_place`.
+pub fn first_place_in<L: ConnectionLike>(
+    links: &Links<L>,
+    alloc: Global,
+    slots: &mut NumberedMap,
+    target: &Target,
+    strategy: Option<&dyn ReadRoutingStrategy>,
+    picked: &mut Vec<NodeAddress>,
+) -> Result<Place, RedisError>
+    ensures stays { slots.new ≡ slots.old }
+    ensures found { result ≢ Err (by_cause Memory)
+        → FindsFirst (option_map (λ s. admits s.now) strategy.entry) slots.old (target_of target.now)
+        (addresses picked.old.items) (addresses picked.new.items)
+        (λ first. node_by (λ p. address p.node) result
+        ≡ node_with_link (open_links (nodes L.seen links.now.nodes.items)) first) }
+    ensures place { IfOk result
+        (λ p. IsOpenAt (nodes L.seen links.now.nodes.items) (address p.node) p.which) }
+    ensures direct { IfOk result (λ p. p.asking ≡ false) }
+    ensures within { IfOk result (λ p. p.which < vec_len links.now.nodes) }
+{
+    match target {
+        Target::Slot(_) => first_place(links, alloc, slots.map(), target, strategy, picked),
+        Target::Number(number) => {
+            slots.list_nodes(alloc);
+            place_of(links, slots.node_by_number(alloc, *number)?)
+        }
+    }
+}
+
+/// A node, and the place of its open link.
+fn place_of<L: ConnectionLike>(links: &Links<L>, node: &NodeAddress) -> Result<Place, RedisError>
+    ensures found { result ≢ Err (by_cause Memory)
+        → node_by (λ p. address p.node) result
+        ≡ if_linked (open_links (nodes L.seen links.now.nodes.items)) (address node.now) }
+    ensures place { IfOk result
+        (λ p. IsOpenAt (nodes L.seen links.now.nodes.items) (address p.node) p.which) }
+    ensures direct { IfOk result (λ p. p.asking ≡ false) }
+    ensures within { IfOk result (λ p. p.which < vec_len links.now.nodes) }
+{
     let Some(which) = links.open_place(node) else {
         return Err(RedisError::from(Cause::NoLink));
     };

@@ -103,7 +103,7 @@ impl<L: ConnectionLike + Drop> ClusterClient<L> {
         let dispatches = dispatches(
             &self.links,
             alloc,
-            &self.slots,
+            self.slots.map(),
             list,
             strategy,
             &mut self.picked,

@@ -53,7 +53,7 @@ impl<L: ConnectionLike + Drop> ClusterClient<L> {
     pub fn unlinked(&self, alloc: Global) -> Result<Vec<NodeAddress>, AllocError>
         ensures { IfOk result (λ v. addresses v.items ≡ unlinked_nodes (whole L.seen self.now)) }
     {
-        let all = self.slots.addresses_for_all_nodes(alloc)?;
+        let all = self.slots.map().addresses_for_all_nodes(alloc)?;
         let mut unlinked = Vec::new(alloc);
         'nodes: for node in all {
             if !has_open(&self.links, node) {

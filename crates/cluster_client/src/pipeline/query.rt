@@ -51,7 +51,14 @@ impl<L: ConnectionLike + Drop> ClusterClient<L> {
         self.asked = Vec::new(alloc);
         self.picked = Vec::new(alloc);
         let mut picked = Vec::new(alloc);
-        let all = dispatches(&self.links, alloc, &self.slots, parts, None, &mut picked)?;
+        let all = dispatches(
+            &self.links,
+            alloc,
+            self.slots.map(),
+            parts,
+            None,
+            &mut picked,
+        )?;
         self.asked.reserve(all.len())?;
         Ok(all)
     }

@@ -14,12 +14,12 @@ returns-in_err-list g c =
     let p = err_from_is_err_and c.from_residual.result c.from_residual.ensures.1 in
     let world = whole g.L.ConnectionLike.seen c.args.self.now in
     rw (p.1, p.2) (λ strategy. fan_not_sent strategy _ _ c.args.cmd.now _ (record { nodes = refl; log = c.new.ensures.items; entries = refl; settings = refl; flag = refl }) (ap addresses c.new-2.ensures.items)
-    (λ m. c.in_err-list.ensures.planned (λ k. m (cc k)) strategy (client_of world) refl refl (ap texts (sym c.deref.ensures.value))))
+    (λ m. c.in_err-list.ensures.planned (λ k. m (cc k)) strategy (client_of world) refl (sym c.map.ensures) (ap texts (sym c.deref.ensures.value))))
 
 pub ask_each-requires-clause-apart : goal.ask_each-requires-clause-apart
 ask_each-requires-clause-apart g c =
     let client = client_of (whole g.L.ConnectionLike.seen c.args.self.now) in
-    let planned = c.in_ok-list.ensures.planned (λ k. cc k) None client refl refl (ap texts (sym c.deref.ensures.value)) in
+    let planned = c.in_ok-list.ensures.planned (λ k. cc k) None client refl (sym c.map.ensures) (ap texts (sym c.deref.ensures.value)) in
     list_apart client c.args.cmd.now _ planned.planned
 
 pub returns-in_err-replies : goal.returns-in_err-replies
@@ -27,7 +27,7 @@ returns-in_err-replies g c =
     let p = err_from_is_err_and c.from_residual-in_err-replies.result c.from_residual-in_err-replies.ensures.1 in
     let world = whole g.L.ConnectionLike.seen c.args.self.now in
     rw (p.1, p.2) (λ strategy.
-    let planned = c.in_ok-list.ensures.planned (λ k. cc k) strategy (client_of world) refl refl (ap texts (sym c.deref.ensures.value)) in
+    let planned = c.in_ok-list.ensures.planned (λ k. cc k) strategy (client_of world) refl (sym c.map.ensures) (ap texts (sym c.deref.ensures.value)) in
     fan_made strategy world _ _ _ c.args.cmd.now _ _ _ c.new.ensures.items (ap addresses c.new-2.ensures.items) planned c.in_err-replies.ensures refl)
 
 pub returns-in_err-outcomes : goal.returns-in_err-outcomes
@@ -36,13 +36,13 @@ returns-in_err-outcomes g c =
     let memory : c.in_err-outcomes.field-0.0 ≡ by_cause Memory = c.in_err-outcomes.ensures.only in
     let world = whole g.L.ConnectionLike.seen c.args.self.now in
     rw (p.1, p.2, memory) (λ strategy.
-    let planned = c.in_ok-list.ensures.planned (λ k. cc k) strategy (client_of world) refl refl (ap texts (sym c.deref.ensures.value)) in
+    let planned = c.in_ok-list.ensures.planned (λ k. cc k) strategy (client_of world) refl (sym c.map.ensures) (ap texts (sym c.deref.ensures.value)) in
     fan_made strategy world _ _ _ c.args.cmd.now _ _ _ c.new.ensures.items (ap addresses c.new-2.ensures.items) planned c.in_ok-replies.ensures (λ had. absurd (had refl)))
 
 pub returns : goal.returns
 returns g c = λ strategy.
     let world = whole g.L.ConnectionLike.seen c.args.self.now in
-    let planned = c.in_ok-list.ensures.planned (λ k. cc k) strategy (client_of world) refl refl (ap texts (sym c.deref.ensures.value)) in
+    let planned = c.in_ok-list.ensures.planned (λ k. cc k) strategy (client_of world) refl (sym c.map.ensures) (ap texts (sym c.deref.ensures.value)) in
     let made = rw c.in_ok-outcomes.ensures.outcomes at c.reply_of_nodes.ensures in
     fan_made strategy world _ _ _ c.args.cmd.now _ _ _ c.new.ensures.items (ap addresses c.new-2.ensures.items) planned c.in_ok-replies.ensures
     (made_of c.args.cmd.now _ _ _ c.in_ok-list.ensures.policy made)

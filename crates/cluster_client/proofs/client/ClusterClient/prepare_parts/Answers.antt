@@ -30,7 +30,7 @@ returns-in_err-dispatches-clause-planned g c =
     let parts = rw c.deref.ensures.value at (c.in_ok-list.ensures.parts (λ k. cc k)) in
     let count : c.len.result ≡ length list.items = omega (arith, c.len.ensures, list.ok.0) in
     let fits : fits_order order (length list.items) ≡ true = ap (fits_order order) (sym count) ∙ sym c.in_ok-fits_order.ensures ∙ c.if-not-branch.false in
-    rw (p.1, p.2) (λ m. prepared_unplaced (client_of world) c.args.cmd.now order c.args.number list.items (sym parts) fits _ _ _ (c.in_err-dispatches.ensures.dispatched (λ k. m (cc k)) world.settings))
+    rw (p.1, p.2) (λ m. prepared_unplaced (client_of world) c.args.cmd.now order c.args.number list.items (sym parts) fits _ _ _ (rw c.map.ensures at (c.in_err-dispatches.ensures.dispatched (λ k. m (cc k)) world.settings)))
 
 pub prepared_in_order-requires-clause-dispatches : goal.prepared_in_order-requires-clause-dispatches
 prepared_in_order-requires-clause-dispatches g c =
@@ -40,7 +40,7 @@ prepared_in_order-requires-clause-dispatches g c =
     let parts = rw c.deref.ensures.value at (c.in_ok-list.ensures.parts (λ k. cc k)) in
     let count : c.len.result ≡ length list.items = omega (arith, c.len.ensures, list.ok.0) in
     let fits : fits_order order (length list.items) ≡ true = ap (fits_order order) (sym count) ∙ sym c.in_ok-fits_order.ensures ∙ c.if-not-branch.false in
-    prepared_dispatches (client_of world) c.args.cmd.now order c.args.number list.items (sym parts) fits _ _ c.in_ok-dispatches.dispatches.items (c.in_ok-dispatches.ensures.dispatched (λ k. cc k) world.settings)
+    prepared_dispatches (client_of world) c.args.cmd.now order c.args.number list.items (sym parts) fits _ _ c.in_ok-dispatches.dispatches.items (rw c.map.ensures at (c.in_ok-dispatches.ensures.dispatched (λ k. cc k) world.settings))
 
 pub prepared_in_order-requires-clause-routes : goal.prepared_in_order-requires-clause-routes
 prepared_in_order-requires-clause-routes g c =
@@ -60,7 +60,7 @@ returns-clause-planned g c m =
     let parts = rw c.deref.ensures.value at (c.in_ok-list.ensures.parts (λ k. cc k)) in
     let count : c.len.result ≡ length list.items = omega (arith, c.len.ensures, list.ok.0) in
     let fits : fits_order order (length list.items) ≡ true = ap (fits_order order) (sym count) ∙ sym c.in_ok-fits_order.ensures ∙ c.if-not-branch.false in
-    prepared_planned (client_of world) c.args.cmd.now order c.args.number list.items (sym parts) fits _ _ c.in_ok-dispatches.dispatches.items (c.in_ok-dispatches.ensures.dispatched (λ k. cc k) world.settings)
+    prepared_planned (client_of world) c.args.cmd.now order c.args.number list.items (sym parts) fits _ _ c.in_ok-dispatches.dispatches.items (rw c.map.ensures at (c.in_ok-dispatches.ensures.dispatched (λ k. cc k) world.settings))
     c.in_ok-prepared_in_order.field-0.dispatches.items c.in_ok-prepared_in_order.ensures.dispatches
 
 pub returns-clause-placed : goal.returns-clause-placed
