@@ -330,20 +330,20 @@ fn fields(rt: HostRuntime) {
     is_text(&rt, found, "(Ok(Some(\"v\")), true, 1, false)");
 }
 
-// Why a reply to XREAD is refused, by the owned form, and by the lent one where that is another.
-fn cause(alloc: Global, bytes: &[u8]) -> Result<String, RedisError> {
+// Why a reply is refused, by the owned form, and by the lent one where that is another.
+fn cause<T: FromRedisValue + Debug>(alloc: Global, bytes: &[u8]) -> Result<String, RedisError> {
     let value = parse_redis_value(alloc, bytes)?;
-    let lent = said(alloc, from_redis_value_ref(alloc, &value))?;
-    let owned = said(alloc, from_redis_value(alloc, value))?;
+    let lent = said(alloc, from_redis_value_ref::<T>(alloc, &value))?;
+    let owned = said(alloc, from_redis_value::<T>(alloc, value))?;
     if lent == owned {
         return Ok(owned);
     }
     Ok(format!(in alloc; "{owned} but lent {lent}")?)
 }
 
-fn said(
+fn said<T: Debug + Drop>(
     alloc: Global,
-    outcome: Result<StreamReadReply, ParsingError>,
+    outcome: Result<T, ParsingError>,
 ) -> Result<String, AllocError> {
     match outcome {
         Ok(record) => shown(alloc, record),
@@ -386,6 +386,55 @@ const REFUSED: &[(&[u8], &str)] = &[
 fn causes_of_refused_reads(rt: HostRuntime) {
     let alloc = rt.alloc();
     for (bytes, wanted) in REFUSED {
-        is_text(&rt, cause(alloc, bytes), wanted);
+        is_text(&rt, cause::<StreamReadReply>(alloc, bytes), wanted);
+    }
+}
+
+const NO_PAIRS: &str = "a map, or an even number of items, was wanted";
+
+// Refused replies to XRANGE: no list; an entry that is none, has one part, three parts, no id, an id that is no text, no fields, an odd
+// number of fields, and a value that is no text; then an entry of a map whose id is no text. Each stands behind an entry that can be read.
+const REFUSED_RANGES: &[(&[u8], &str)] = &[
+    (b":5\r\n", "a list was wanted"),
+    (b"*2\r\n*2\r\n$3\r\n1-0\r\n*0\r\n:5\r\n", NO_PAIRS),
+    (
+        b"*2\r\n*2\r\n$3\r\n1-0\r\n*0\r\n*1\r\n$3\r\n1-1\r\n",
+        NO_PAIRS,
+    ),
+    (
+        b"*2\r\n*2\r\n$3\r\n1-0\r\n*0\r\n*3\r\n$3\r\n1-1\r\n*0\r\n:1\r\n",
+        NO_PAIRS,
+    ),
+    (
+        b"*2\r\n*2\r\n$3\r\n1-0\r\n*0\r\n*2\r\n$-1\r\n*0\r\n",
+        "a text was wanted",
+    ),
+    (
+        b"*2\r\n*2\r\n$3\r\n1-0\r\n*0\r\n*2\r\n$1\r\n\xff\r\n*0\r\n",
+        "a text in UTF-8 was wanted",
+    ),
+    (
+        b"*2\r\n*2\r\n$3\r\n1-0\r\n*0\r\n*2\r\n$3\r\n1-1\r\n:1\r\n",
+        NO_PAIRS,
+    ),
+    (
+        b"*2\r\n*2\r\n$3\r\n1-0\r\n*0\r\n*2\r\n$3\r\n1-1\r\n*1\r\n$1\r\nf\r\n",
+        NO_PAIRS,
+    ),
+    (
+        b"*2\r\n*2\r\n$3\r\n1-0\r\n*0\r\n*2\r\n$3\r\n1-1\r\n*2\r\n$1\r\n\xff\r\n*0\r\n",
+        "a text in UTF-8 was wanted",
+    ),
+    (
+        b"*2\r\n*2\r\n$3\r\n1-0\r\n*0\r\n%1\r\n$1\r\n\xff\r\n*0\r\n",
+        "a text in UTF-8 was wanted",
+    ),
+];
+
+#[test]
+fn causes_of_refused_ranges(rt: HostRuntime) {
+    let alloc = rt.alloc();
+    for (bytes, wanted) in REFUSED_RANGES {
+        is_text(&rt, cause::<StreamRangeReply>(alloc, bytes), wanted);
     }
 }
