@@ -5,6 +5,8 @@ ghost use Rattle.resp_args.specs.Convert.{plain};
 
 use resp_core::Value;
 
+// Most values have no attributes, so the look at this one is made where it is called.
+#[inline(always)]
 pub(crate) fn into_plain(value: Value) -> Value
     ensures { view result ≡ plain (view value) }
 {
@@ -12,7 +14,19 @@ pub(crate) fn into_plain(value: Value) -> Value
         Value::Attribute {
             inner,
             attributes: _,
-        } => into_plain(Box::into_inner(inner)),
+        } => within(Box::into_inner(inner)),
+        value => value,
+    }
+}
+
+fn within(value: Value) -> Value
+    ensures { view result ≡ plain (view value) }
+{
+    match value {
+        Value::Attribute {
+            inner,
+            attributes: _,
+        } => within(Box::into_inner(inner)),
         value => value,
     }
 }
