@@ -12,6 +12,7 @@ pub mod Replies
 pub mod Choices
 pub mod AllNodes
 pub mod OnceAscending
+mod OnceSorted
 pub mod PlacedShards
 pub mod DistinctNodes
 pub mod ServingShards

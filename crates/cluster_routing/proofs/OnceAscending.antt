@@ -21,7 +21,7 @@ turned Equal Equal h = cc
 turned Equal Greater h = cc
 turned Greater q h = cc
 
-greater : (a b : Address) → address_cmp a b ≡ Greater → address_cmp b a ≡ Less
+pub greater : (a b : Address) → address_cmp a b ≡ Greater → address_cmp b a ≡ Less
 greater a b h =
     turned (slice_cmp nat_cmp b.host a.host) (nat_cmp b.port a.port)
     (sym (ap (λ p. match_ordering p Less (ordering_reverse (nat_cmp b.port a.port)) Greater) (nat_list_cmp_total.antisymm a.host b.host)) ∙ sym (ap (λ q. match_ordering (slice_cmp nat_cmp a.host b.host) Less q Greater) (nat_cmp_total.antisymm a.port b.port)) ∙ h)
@@ -105,7 +105,7 @@ only_equal Less h = cc
 only_equal Equal h = refl
 only_equal Greater h = cc
 
-equal_to_itself : (a : Address) → address_cmp a a ≡ Equal
+pub equal_to_itself : (a : Address) → address_cmp a a ≡ Equal
 equal_to_itself a =
     let host : slice_cmp nat_cmp a.host a.host ≡ Equal = only_equal (slice_cmp nat_cmp a.host a.host) (is_eq-slice_cmp a.host a.host ∙ (bytes_decides a.host a.host).1 refl) in
     let port : nat_cmp a.port a.port ≡ Equal = only_equal (nat_cmp a.port a.port) (unsigned_tied a.port a.port ∙ eq-eqb a.port a.port refl) in

@@ -94,6 +94,11 @@ impl<V> SlotRangeMap<V> {
         }
     }
 
+    /// How many ranges there are.
+    pub(crate) fn len(&self) -> usize {
+        self.entries.len()
+    }
+
     fn entry_from(&self, slot: u16) -> Option<&(u16, (u16, V))>
         ensures { option_copied result ≡ first_from slot self.now }
     {
