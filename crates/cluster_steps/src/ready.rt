@@ -6,7 +6,7 @@ ghost use Rattle.cluster_calls.specs.Links.Request.{asking_command, bytes_of, ou
 
 use crate::asked::Asked;
 use crate::dispatch::Dispatch;
-use resp_args::{command, pack_command_into};
+use resp_args::{command, pack_command, pack_command_into};
 use std::alloc::{AllocError, Global};
 
 /// A dispatch, and the bytes that go out for it.
@@ -63,11 +63,24 @@ pub(crate) fn bytes_of(alloc: Global, requests: &[Asked]) -> Result<Vec<u8>, All
     Ok(bytes)
 }
 
+/// The bytes of one request's arguments, behind those of ASKING where that is wanted. Without it they are packed
+/// into room of just their size.
+#[inline(never)]
+fn outgoing_for(alloc: Global, args: &[Vec<u8>], asking: bool) -> Result<Vec<u8>, AllocError>
+    ensures { IfOk result (λ v. v.items ≡ outgoing_for asking (texts args.now)) }
+{
+    if asking {
+        let mut bytes = Vec::new(alloc);
+        append_outgoing(&mut bytes, args, asking)?;
+        return Ok(bytes);
+    }
+    pack_command(alloc, args)
+}
+
 fn packed(alloc: Global, dispatch: Dispatch) -> Result<Ready, AllocError>
     ensures { IfOk result (λ r. r.dispatch ≡ dispatch) }
 {
-    let mut bytes = Vec::new(alloc);
-    append_outgoing(&mut bytes, &dispatch.args, dispatch.place.asking)?;
+    let bytes = outgoing_for(alloc, &dispatch.args, dispatch.place.asking)?;
     Ok(Ready { dispatch, bytes })
 }
 

@@ -17,8 +17,8 @@ const LINES: usize = 16;
 pub fn pack_command(alloc: Global, args: &[Vec<u8>]) -> Result<Vec<u8>, AllocError>
     ensures { IfOk result (λ v. v.items ≡ packed (map (λ a. a.items) args.now)) }
 {
-    let mut out = Vec::new(alloc);
-    pack_command_into(&mut out, args)?;
+    let mut out = Vec::with_capacity(alloc, packed_room(args.len(), bytes_in(args)))?;
+    pack_args(&mut out, args)?;
     Ok(out)
 }
 
@@ -32,6 +32,15 @@ pub fn pack_command_into(out: &mut Vec<u8>, args: &[Vec<u8>]) -> Result<(), Allo
         (λ _. (more : List ℕ) × (out.new.items ≡ out.old.items ++ more)) }
 {
     out.reserve(packed_room(args.len(), bytes_in(args)))?;
+    pack_args(out, args)
+}
+
+// The line of the arguments' count, and behind it the arguments.
+fn pack_args(out: &mut Vec<u8>, args: &[Vec<u8>]) -> Result<(), AllocError>
+    ensures { MatchResult result
+        (λ _. out.new.items ≡ out.old.items ++ packed (map (λ a. a.items) args.now))
+        (λ _. (more : List ℕ) × (out.new.items ≡ out.old.items ++ more)) }
+{
     write_count(out, b'*', args.len())?;
     pack_each(out, args)
 }
