@@ -1,8 +1,7 @@
 -- Links of which no two have the same address.
 use Rattle.std.specs.Prelude.{is_some, option_map, slice_get, ◌++◌, ◌||◌}
 use Rattle.std.specs.List.{list_any}
-use Rattle.std.proofs.Common.{◌≡◌, ℕ, suc, ◌+◌, Bool, true, false, cond, List, [], ◌∷◌, Some, None, map, set, get_or, refl, sym, ap, ◌∙◌, subst, arith, zero}
-use Rattle.std.proofs.Math.Seq.{map-set_same}
+use Rattle.std.proofs.Common.{◌≡◌, ℕ, suc, ◌+◌, Bool, true, false, cond, List, [], ◌∷◌, Some, None, map, refl, sym, ap, ◌∙◌, subst, arith, zero}
 use Rattle.std.proofs.lemmas.Bool.{false≢true, or_parts}
 use Rattle.std.proofs.lemmas.List.{map-append}
 use Rattle.std.proofs.lemmas.List.Folds.{list_any-append}
@@ -70,8 +69,3 @@ distinct_behind seen links node link d none =
     ap (λ as'. list_any (λ k. same_address k (address node)) as') (sym (map_twice (λ pair. record { address = address pair.0; link = seen pair.1 }) (λ (n : Node). n.address) links))
     ∙ placed (nodes seen links) (address node) ∙ ap is_some none in
     ap has_repeats (map-append (λ l. address l.0) links ((node, link) ∷ [])) ∙ one_more known (address node) d new
-
--- with another link to a node
-pub distinct_there : {L : Type 0} (links : List (NodeAddress × L)) (which : ℕ) (pair : NodeAddress × L) (new : L) → are_repeated links ≡ false → pair ≡ get_or links which pair
-    → are_repeated (set links which (pair.0, new)) ≡ false
-distinct_there links which pair new d is = ap has_repeats (map-set_same (λ l. address l.0) links which (pair.0, new) pair (ap (λ p. address p.0) is)) ∙ d

@@ -1,11 +1,12 @@
 -- A table that has each address of the links.
-use Rattle.std.specs.Prelude.{option_map, IfOk, IfSome, Result, Ok, Err, ◌&&◌, ◌||◌, ◌++◌}
+use Rattle.std.specs.Prelude.{option_map, slice_get, slice_set, IfOk, IfSome, Result, Ok, Err, Vec, ◌&&◌, ◌||◌, ◌++◌}
 use Rattle.std.specs.List.{list_all, list_any}
+use Rattle.std.specs.declared.alloc.Global.{Global}
+use Rattle.std.specs.Vec.{with_items}
 use Rattle.std.specs.Result.{result_ok, result_unwrap_or}
-use Rattle.std.proofs.Common.{◌≡◌, ℕ, ◌+◌, ◌<◌, Bool, true, false, cond, not, List, [], ◌∷◌, Option, Some, None, length, map, set, take, get_or, refl, sym, ap, ◌∙◌, subst}
-use Rattle.std.proofs.Math.Seq.{map-set_same}
+use Rattle.std.proofs.Common.{◌≡◌, ℕ, zero, suc, ◌+◌, ◌<◌, Bool, true, false, cond, not, List, [], ◌∷◌, Option, Some, None, length, map, take, get_or, refl, sym, ap, ◌∙◌, subst}
 use Rattle.std.proofs.lemmas.Bool.{false≢true, and_parts, and_from, not-true}
-use Rattle.std.proofs.lemmas.List.{append_assoc, map-append, take_more}
+use Rattle.std.proofs.lemmas.List.{append_assoc, length-map, map-append, take_more, with_items_is}
 use Rattle.std.proofs.lemmas.List.Folds.{list_all-append, list_any-append}
 use Rattle.indexmap.specs.IndexSet.{IndexSet, insert_key}
 use Rattle.resp_link.specs.Call.{Seen}
@@ -13,10 +14,11 @@ use Rattle.cluster_routing.specs.Address.{Address, same_address}
 use Rattle.cluster_routing.specs.Lists.{among}
 use Rattle.cluster_routing.specs.Seen.{address, addresses}
 use Rattle.cluster_routing.specs.declared.address.NodeAddress.{NodeAddress}
-use Rattle.cluster_calls.specs.Links.World.{Node, addresses_of, nodes, place_at}
+use Rattle.cluster_calls.specs.Links.World.{Calls, Node, addresses_of, has_repeats, nodes, place_at}
 use Rattle.cluster_calls.proofs.LinkLaws.Addresses.{same_true, same_refl}
-use Rattle.cluster_steps.specs.LinkTable.{knows_all}
+use Rattle.cluster_steps.specs.LinkTable.{knows_all, knows_links}
 use Rattle.cluster_steps.proofs.DistinctKeys.{any_of}
+use Rattle.cluster_steps.proofs.DistinctLinks.{are_repeated}
 use Rattle.cluster_steps.proofs.PipeGroups.{map_twice}
 
 abbrev pub of_links : {L : Type 0} → List (NodeAddress × L) → List Address
@@ -28,6 +30,35 @@ all_among keys as' = list_all (λ a. among same_address a keys) as'
 -- the same by what is seen of the links
 pub of_nodes : {L : Type 0} (seen : L → Seen) (links : List (NodeAddress × L)) → addresses_of (nodes seen links) ≡ of_links links
 of_nodes seen links = map_twice (λ pair. record { address = address pair.0; link = seen pair.1 }) (λ (n : Node). n.address) links
+
+-- ---- a link call leaves the addresses
+
+addresses_set : (ns : List Node) (which : ℕ) (before after : Node) → slice_get ns which ≡ Some before → after.address ≡ before.address → addresses_of (slice_set ns which after) ≡ addresses_of ns
+addresses_set [] which before after found same = refl
+addresses_set (n ∷ ns) zero before after found same =
+    let is : n ≡ before = cc in
+    ap (λ a. a ∷ addresses_of ns) (same ∙ ap (λ (m : Node). m.address) (sym is))
+addresses_set (n ∷ ns) (suc which) before after found same = ap (λ as'. n.address ∷ as') (addresses_set ns which before after found same)
+
+addresses_stay : {old new : List Node} {which : ℕ} {Call : Seen → Seen → Type 0} → Calls old new which Call → addresses_of new ≡ addresses_of old
+addresses_stay {old = old} {which = which} c = ap addresses_of c.others ∙ addresses_set old which c.before c.after c.found c.address
+
+as_many : {old new : List Node} {which : ℕ} {Call : Seen → Seen → Type 0} → Calls old new which Call → length new ≡ length old
+as_many c = sym (length-map _ _) ∙ ap length (addresses_stay c) ∙ length-map _ _
+
+-- the list with what a call made of its links, which were lent for it
+links_stay : {L : Type 0} (seen : L → Seen) (list : Vec (NodeAddress × L) Global) (old new : List (NodeAddress × L)) {which : ℕ} {Call : Seen → Seen → Type 0} → old ≡ list.items → Calls (nodes seen old) (nodes seen new) which Call
+    → of_links (with_items list new).items ≡ of_links list.items
+links_stay seen list old new lent c =
+    ap of_links (with_items_is list new (sym (length-map new _) ∙ as_many c ∙ length-map old _ ∙ ap length lent ∙ sym list.ok.0)) ∙ sym (of_nodes seen new) ∙ addresses_stay c ∙ of_nodes seen old ∙ ap of_links lent
+
+pub distinct_stay : {L : Type 0} (seen : L → Seen) (list : Vec (NodeAddress × L) Global) (old new : List (NodeAddress × L)) {which : ℕ} {Call : Seen → Seen → Type 0} → are_repeated list.items ≡ false → old ≡ list.items
+    → Calls (nodes seen old) (nodes seen new) which Call → are_repeated (with_items list new).items ≡ false
+distinct_stay seen list old new distinct lent c = ap has_repeats (links_stay seen list old new lent c) ∙ distinct
+
+pub known_stay : {L S : Type 0} (seen : L → Seen) (places : Option (IndexSet NodeAddress S)) (list : Vec (NodeAddress × L) Global) (old new : List (NodeAddress × L)) {which : ℕ} {Call : Seen → Seen → Type 0} → knows_links places list.items ≡ true → old ≡ list.items
+    → Calls (nodes seen old) (nodes seen new) which Call → knows_links places (with_items list new).items ≡ true
+known_stay seen places list old new known lent c = ap (knows_all places) (links_stay seen list old new lent c) ∙ known
 
 -- ---- a node that the table lacks has no place
 
@@ -42,7 +73,7 @@ lacked (n ∷ ns) keys a all lacks =
     let both = and_parts (among same_address n.address keys) (all_among keys (addresses_of ns)) all in
     lacked_by n ns keys a (same_address n.address a) refl both.0 lacks (lacked ns keys a both.1 lacks)
 
-pub not_in_table : {L S : Type 0} (seen : L → Seen) (links : List (NodeAddress × L)) (places : Option (IndexSet NodeAddress S)) (table : IndexSet NodeAddress S) (a : Address) → knows_all places (of_links links) ≡ true → places ≡ Some table
+pub not_in_table : {L S : Type 0} (seen : L → Seen) (links : List (NodeAddress × L)) (places : Option (IndexSet NodeAddress S)) (table : IndexSet NodeAddress S) (a : Address) → knows_links places links ≡ true → places ≡ Some table
     → list_any (λ (key : NodeAddress). same_address a (address key)) table.keys ≡ false → place_at (nodes seen links) a ≡ None
 not_in_table seen links places table a known is lacks =
     let all : all_among (addresses table.keys) (of_links links) ≡ true = ap (λ t. knows_all t (of_links links)) (sym is) ∙ known in
@@ -93,23 +124,11 @@ pub learned : {S E : Type 0} (places : Option (IndexSet NodeAddress S)) (table :
 learned places table made new as' k known is put ok =
     ap (λ t. knows_all t (as' ++ k ∷ [])) ok ∙ learned_by table made as' k put (ap (λ t. knows_all t as') (sym is) ∙ known)
 
--- without the last address
-pub front_known : {S : Type 0} (places : Option (IndexSet NodeAddress S)) (as' : List Address) (k : Address) → knows_all places (as' ++ k ∷ []) ≡ true → knows_all places as' ≡ true
-front_known None as' k all = refl
-front_known (Some table) as' k all =
-    let keys = addresses table.keys in
-    (and_parts (all_among keys as') (among same_address k keys && true) (sym (list_all-append (λ a. among same_address a keys) as' (k ∷ [])) ∙ all)).0
-
 -- with the new node behind the others
 pub behind_known : {L S : Type 0} (seen : L → Seen) (places : Option (IndexSet NodeAddress S)) (links : List (NodeAddress × L)) (node : NodeAddress) (link : L) → knows_all places (addresses_of (nodes seen links) ++ address node ∷ []) ≡ true
-    → knows_all places (of_links (links ++ (node, link) ∷ [])) ≡ true
+    → knows_links places (links ++ (node, link) ∷ []) ≡ true
 behind_known seen places links node link known =
     ap (knows_all places) (map-append (λ l. address l.0) links ((node, link) ∷ []) ∙ ap (λ as'. as' ++ address node ∷ []) (sym (of_nodes seen links))) ∙ known
-
--- with another link to a node
-pub known_there : {L S : Type 0} (places : Option (IndexSet NodeAddress S)) (links : List (NodeAddress × L)) (which : ℕ) (pair : NodeAddress × L) (new : L) → knows_all places (of_links links) ≡ true → pair ≡ get_or links which pair
-    → knows_all places (of_links (set links which (pair.0, new))) ≡ true
-known_there places links which pair new known is = ap (knows_all places) (map-set_same (λ l. address l.0) links which (pair.0, new) pair (ap (λ p. address p.0) is)) ∙ known
 
 -- ---- the table of the links
 
@@ -130,11 +149,11 @@ own_known None as' is = refl
 own_known (Some table) as' is = ap (λ keys. all_among keys as') is ∙ all_within [] as'
 
 -- a table of these very links
-pub table_known : {L S : Type 0} (seen : L → Seen) (table : Option (IndexSet NodeAddress S)) (links : List (NodeAddress × L)) → IfSome table (λ keys. addresses keys.keys ≡ addresses_of (nodes seen links)) → knows_all table (of_links links) ≡ true
+pub table_known : {L S : Type 0} (seen : L → Seen) (table : Option (IndexSet NodeAddress S)) (links : List (NodeAddress × L)) → IfSome table (λ keys. addresses keys.keys ≡ addresses_of (nodes seen links)) → knows_links table links ≡ true
 table_known seen table links is = ap (knows_all table) (sym (of_nodes seen links)) ∙ own_known table (addresses_of (nodes seen links)) is
 
 pub made_known : {L S E : Type 0} (seen : L → Seen) (made : Result (Option (IndexSet NodeAddress S)) E) (links : List (NodeAddress × L)) → IfOk made (λ table. IfSome table (λ keys. addresses keys.keys ≡ addresses_of (nodes seen links)))
-    → knows_all (result_unwrap_or made None) (of_links links) ≡ true
+    → knows_links (result_unwrap_or made None) links ≡ true
 made_known seen (Err e) links is = refl
 made_known seen (Ok table) links is = table_known seen table links is
 

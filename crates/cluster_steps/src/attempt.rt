@@ -1,6 +1,6 @@
 //! An attempt at a transaction, MULTI, the commands and EXEC: it is made ready, with room in the log, and
 //! exchanged.
-ghost use Rattle.std.specs.Prelude.{◌≡◌, ◌<◌, ◌≤◌, ◌+◌, ◌∷◌, [], vec_capacity, vec_len, IfOk};
+ghost use Rattle.std.specs.Prelude.{◌≡◌, ◌<◌, ◌≤◌, ◌+◌, ◌∷◌, [], length, vec_capacity, vec_len, IfOk};
 ghost use Rattle.resp_core.specs.View.{view};
 ghost use Rattle.cluster_routing.specs.Info.{texts};
 ghost use Rattle.cluster_routing.specs.Seen.{address};
@@ -13,6 +13,7 @@ ghost use Rattle.cluster_steps.specs.Turns.{hop_to};
 
 use crate::asked::Asked;
 use crate::links::Links;
+use crate::node_links::NodeLinks;
 use crate::place::Place;
 use crate::ready::bytes_of;
 use cluster_routing::NodeAddress;
@@ -104,6 +105,24 @@ pub fn exchange_attempt<L: ConnectionLike>(
     ensures len { vec_len links.new.nodes ≡ vec_len links.old.nodes }
     ensures exchange { Exchanges (nodes L.seen links.old.nodes.items)
         (nodes L.seen links.new.nodes.items) attempt.place.which log.old.items log.new.items
+        attempt.requests.items (skipped attempt.place.asking) (vec_len attempt.requests)
+        (tree_results view result) }
+{
+    exchange_attempt_over(links, alloc, log, attempt)
+}
+
+/// The same for any links.
+pub fn exchange_attempt_over<K: NodeLinks>(
+    links: &mut K,
+    alloc: Global,
+    log: &mut Vec<Asked>,
+    attempt: Attempt,
+) -> Result<Vec<Value>, RedisError>
+    requires within { attempt.place.which < length (K.nodes links.old) }
+    requires room { vec_len log.old + vec_len attempt.requests ≤ vec_capacity log.old }
+    ensures len { length (K.nodes links.new) ≡ length (K.nodes links.old) }
+    ensures exchange { Exchanges (K.nodes links.old)
+        (K.nodes links.new) attempt.place.which log.old.items log.new.items
         attempt.requests.items (skipped attempt.place.asking) (vec_len attempt.requests)
         (tree_results view result) }
 {

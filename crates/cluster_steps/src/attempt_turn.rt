@@ -12,6 +12,7 @@ ghost use Rattle.cluster_steps.specs.Attempts.{AttemptTurnsBy, heard, is_not_don
 ghost use Rattle.cluster_steps.specs.Turns.{LeadsOn, TurnsOn, goes_on, next_by, turns_on};
 
 use crate::links::Links;
+use crate::node_links::NodeLinks;
 use crate::turn::{Onward, Turn, next_place};
 use resp_core::{Cause, RedisError, ServerErrorKind, Value};
 use resp_link::ConnectionLike;
@@ -125,16 +126,16 @@ fn redirect_in(replies: &[Value]) -> Option<&Value>
 }
 
 /// Where the redirect among the replies leads, with so many redirects left.
-fn redirected<L: ConnectionLike>(
+fn redirected<K: NodeLinks>(
     alloc: Global,
-    links: &Links<L>,
+    links: &K,
     left: u16,
     replies: &[Value],
 ) -> Result<Onward, RedisError>
     ensures next { IfOk result
-        (λ o. next_by o ≡ next_of (open_links (nodes L.seen links.now.nodes.items)) left
+        (λ o. next_by o ≡ next_of (open_links (K.nodes links.now)) left
         (redirect_in (heard (map view replies.now)))) }
-    ensures on { IfOk result (λ o. LeadsOn (nodes L.seen links.now.nodes.items) o) }
+    ensures on { IfOk result (λ o. LeadsOn (K.nodes links.now) o) }
     ensures some { IfOk result (λ o. goes_on o ≡ true → left ≢ 0) }
     ensures only { IfErr result (λ e. e ≡ by_cause Memory) }
 {
@@ -145,16 +146,16 @@ fn redirected<L: ConnectionLike>(
 }
 
 /// Where the replies send the transaction on, with so many redirects left.
-fn next_attempt<L: ConnectionLike>(
+fn next_attempt<K: NodeLinks>(
     alloc: Global,
-    links: &Links<L>,
+    links: &K,
     left: u16,
     replies: &[Value],
 ) -> Result<Onward, RedisError>
     ensures next { IfOk result
-        (λ o. next_by o ≡ next_attempt (open_links (nodes L.seen links.now.nodes.items)) left
+        (λ o. next_by o ≡ next_attempt (open_links (K.nodes links.now)) left
         (heard (map view replies.now))) }
-    ensures on { IfOk result (λ o. LeadsOn (nodes L.seen links.now.nodes.items) o) }
+    ensures on { IfOk result (λ o. LeadsOn (K.nodes links.now) o) }
     ensures some { IfOk result (λ o. goes_on o ≡ true → left ≢ 0) }
     ensures only { IfErr result (λ e. e ≡ by_cause Memory) }
 {
@@ -254,6 +255,22 @@ pub fn attempt_turn<L: ConnectionLike>(
         → AttemptTurnsBy (next_attempt (open_links (nodes L.seen links.now.nodes.items)) left
         (heard (map view replies.items))) (heard (map view replies.items)) result }
     ensures on { IfOk result (λ turn. TurnsOn (nodes L.seen links.now.nodes.items) turn) }
+    ensures some { IfOk result (λ turn. turns_on turn ≡ true → left ≢ 0) }
+{
+    attempt_turn_over(alloc, links, left, replies)
+}
+
+/// The same for any links.
+pub fn attempt_turn_over<K: NodeLinks>(
+    alloc: Global,
+    links: &K,
+    left: u16,
+    replies: Vec<Value>,
+) -> Result<Turn, RedisError>
+    ensures turns { result ≢ Err (by_cause Memory)
+        → AttemptTurnsBy (next_attempt (open_links (K.nodes links.now)) left
+        (heard (map view replies.items))) (heard (map view replies.items)) result }
+    ensures on { IfOk result (λ turn. TurnsOn (K.nodes links.now) turn) }
     ensures some { IfOk result (λ turn. turns_on turn ≡ true → left ≢ 0) }
 {
     match next_attempt(alloc, links, left, &replies)? {

@@ -11,8 +11,9 @@ ghost use Rattle.cluster_steps.specs.Groups.{request_in};
 
 use crate::asked::Asked;
 use crate::links::Links;
+use crate::node_links::NodeLinks;
 use crate::numbered_map::NumberedMap;
-use crate::place::{Place, first_place, first_place_in};
+use crate::place::{Place, first_place, first_place_in, first_place_over};
 use crate::route::Part;
 use cluster_routing::{NodeAddress, ReadRoutingStrategy, SlotMap, SplitParts};
 use resp_core::RedisError;
@@ -84,8 +85,8 @@ pub fn one_dispatch<L: ConnectionLike>(
 ///
 /// # Errors
 /// Those of `one_dispatch`.
-pub fn one_dispatch_in<L: ConnectionLike>(
-    links: &Links<L>,
+pub fn one_dispatch_in<K: NodeLinks>(
+    links: &K,
     alloc: Global,
     slots: &mut NumberedMap,
     part: Part,
@@ -96,9 +97,9 @@ pub fn one_dispatch_in<L: ConnectionLike>(
     ensures stays { slots.new ≡ slots.old }
     ensures dispatched { result ≢ Err (by_cause Memory) → (settings : Settings)
         → AreDispatched (option_map (λ s. admits s.now) strategy.entry)
-        (client_with settings slots.old (nodes L.seen links.now.nodes.items)) (part_of part ∷ [])
+        (client_with settings slots.old (K.nodes links.now)) (part_of part ∷ [])
         (addresses picked.new.items) (one_dispatch result) }
-    ensures placed { IfOk result (λ d. IsPlaced (nodes L.seen links.now.nodes.items) d) }
+    ensures placed { IfOk result (λ d. IsPlaced (K.nodes links.now) d) }
 {
     let place = first_place_in(links, alloc, slots, &part.target, strategy, picked)?;
     Ok(Dispatch {
@@ -129,9 +130,32 @@ pub fn dispatches<L: ConnectionLike>(
     ensures placed { IfOk result
         (λ v. AllByRecursion (IsPlaced (nodes L.seen links.now.nodes.items)) v.items) }
 {
+    dispatches_over(links, alloc, slots, parts, strategy, picked)
+}
+
+/// The same for any links.
+///
+/// # Errors
+/// Those of `dispatches`.
+pub fn dispatches_over<K: NodeLinks>(
+    links: &K,
+    alloc: Global,
+    slots: &SlotMap,
+    parts: Vec<Part>,
+    strategy: Option<&dyn ReadRoutingStrategy>,
+    picked: &mut Vec<NodeAddress>,
+) -> Result<Vec<Dispatch>, RedisError>
+    requires { picked.old.items ≡ [] }
+    ensures dispatched { result ≢ Err (by_cause Memory) → (settings : Settings)
+        → AreDispatched (option_map (λ s. admits s.now) strategy.entry)
+        (client_with settings slots.now (K.nodes links.now)) (map part_of parts.items)
+        (addresses picked.new.items) (dispatches_of result) }
+    ensures placed { IfOk result
+        (λ v. AllByRecursion (IsPlaced (K.nodes links.now)) v.items) }
+{
     let mut all = Vec::with_capacity(alloc, parts.len())?;
     'parts: for part in parts {
-        let place = first_place(links, alloc, slots, &part.target, strategy, picked)?;
+        let place = first_place_over(links, alloc, slots, &part.target, strategy, picked)?;
         all.push(Dispatch {
             place,
             args: part.args,

@@ -1,6 +1,6 @@
 //! An exchange: requests are written to the log and sent over one link in one write, and their
 //! replies are taken.
-ghost use Rattle.std.specs.Prelude.{◌≡◌, ◌<◌, ◌≤◌, ◌+◌, ◌∷◌, [], vec_capacity, vec_len};
+ghost use Rattle.std.specs.Prelude.{◌≡◌, ◌<◌, ◌≤◌, ◌+◌, ◌∷◌, [], length, vec_capacity, vec_len};
 ghost use Rattle.resp_core.specs.View.{view};
 ghost use Rattle.cluster_calls.specs.Links.Request.{skipped};
 ghost use Rattle.cluster_calls.specs.Links.World.{Called, Calls, nodes, one_reply, tree_result, tree_results};
@@ -10,6 +10,7 @@ ghost use Rattle.cluster_steps.specs.Groups.{request_in};
 use crate::asked::Asked;
 use crate::dispatch::request_of;
 use crate::links::Links;
+use crate::node_links::NodeLinks;
 use crate::ready::{Group, Ready};
 use resp_core::{RedisError, Value};
 use resp_link::ConnectionLike;
@@ -32,6 +33,25 @@ pub fn exchange<L: ConnectionLike>(
     ensures log_capacity { vec_capacity log.old ≤ vec_capacity log.new }
     ensures exchange { Exchanges (nodes L.seen links.old.nodes.items)
         (nodes L.seen links.new.nodes.items) group.which log.old.items log.new.items
+        group.requests.items 0 (vec_len group.requests) (tree_results view result) }
+{
+    exchange_over(links, alloc, log, group)
+}
+
+/// The same for any links.
+pub fn exchange_over<K: NodeLinks>(
+    links: &mut K,
+    alloc: Global,
+    log: &mut Vec<Asked>,
+    group: Group,
+) -> Result<Vec<Value>, RedisError>
+    requires within { group.which < length (K.nodes links.old) }
+    requires room { vec_len log.old + vec_len group.requests ≤ vec_capacity log.old }
+    ensures len { length (K.nodes links.new) ≡ length (K.nodes links.old) }
+    ensures log_len { vec_len log.new ≡ vec_len log.old + vec_len group.requests }
+    ensures log_capacity { vec_capacity log.old ≤ vec_capacity log.new }
+    ensures exchange { Exchanges (K.nodes links.old)
+        (K.nodes links.new) group.which log.old.items log.new.items
         group.requests.items 0 (vec_len group.requests) (tree_results view result) }
 {
     let Group {
@@ -61,6 +81,26 @@ pub fn exchange_one<L: ConnectionLike>(
         (request_in ready.dispatch ∷ []) (skipped ready.dispatch.place.asking) 1
         (one_reply (tree_result view result)) }
 {
+    exchange_one_over(links, alloc, log, ready)
+}
+
+/// The same for any links.
+pub fn exchange_one_over<K: NodeLinks>(
+    links: &mut K,
+    alloc: Global,
+    log: &mut Vec<Asked>,
+    ready: Ready,
+) -> Result<Value, RedisError>
+    requires within { ready.dispatch.place.which < length (K.nodes links.old) }
+    requires room { vec_len log.old < vec_capacity log.old }
+    ensures len { length (K.nodes links.new) ≡ length (K.nodes links.old) }
+    ensures log_len { vec_len log.new ≡ vec_len log.old + 1 }
+    ensures log_capacity { vec_capacity log.old ≤ vec_capacity log.new }
+    ensures exchange { Exchanges (K.nodes links.old)
+        (K.nodes links.new) ready.dispatch.place.which log.old.items log.new.items
+        (request_in ready.dispatch ∷ []) (skipped ready.dispatch.place.asking) 1
+        (one_reply (tree_result view result)) }
+{
     let Ready { dispatch, bytes } = ready;
     let which = dispatch.place.which;
     let asking = dispatch.place.asking;
@@ -69,17 +109,17 @@ pub fn exchange_one<L: ConnectionLike>(
 }
 
 /// The reply to one request, which is the one behind that to ASKING where that was sent before it.
-fn reply_to_one<L: ConnectionLike>(
-    links: &mut Links<L>,
+fn reply_to_one<K: NodeLinks>(
+    links: &mut K,
     alloc: Global,
     which: usize,
     bytes: &[u8],
     asking: bool,
 ) -> Result<Value, RedisError>
-    requires { which < vec_len links.old.nodes }
-    ensures call { Calls (nodes L.seen links.old.nodes.items) (nodes L.seen links.new.nodes.items) which
+    requires { which < length (K.nodes links.old) }
+    ensures call { Calls (K.nodes links.old) (K.nodes links.new) which
         (λ before after. Called before after bytes.now (skipped asking) 1 (one_reply (tree_result view result))) }
-    ensures len { vec_len links.new.nodes ≡ vec_len links.old.nodes }
+    ensures len { length (K.nodes links.new) ≡ length (K.nodes links.old) }
 {
     if !asking {
         return links.call_one(alloc, which, bytes);

@@ -7,9 +7,11 @@ ghost use Rattle.cluster_routing.specs.Address.{same_address};
 ghost use Rattle.cluster_routing.specs.Seen.{address, addresses};
 ghost use Rattle.cluster_calls.specs.Links.World.{nodes, open_links, place_at, is_linked, has_repeats, addresses_of, Calls, Called, one_reply, tree_result, tree_results};
 ghost use Rattle.cluster_calls.specs.Links.Places.{IsOpenAt};
-ghost use Rattle.cluster_steps.specs.LinkTable.{knows_all};
+ghost use Rattle.cluster_steps.specs.LinkTable.{knows_all, knows_links};
+ghost use Rattle.cluster_steps.specs.declared.links.Told.TheVariants.{Absent};
 ghost use Rattle.indexmap.specs.IndexSet.{insert_key};
 
+use crate::node_links::NodeLinks;
 use cluster_routing::NodeAddress;
 use indexmap::IndexSet;
 use resp_core::{RedisError, Value};
@@ -25,11 +27,19 @@ const FEW: usize = 8;
 pub struct Links<L> {
     pub nodes: Vec<(NodeAddress, L)>,
 
-    // A table of the addresses, in the order of the nodes, where these are many. It has the address of each
-    // node; the place that it tells is a hint: who asks it looks there.
+    // The addresses in the order of the nodes, where these are many. A hint: who asks it looks there.
     places: Option<IndexSet<NodeAddress>>,
     ghost distinct: { has_repeats (map (λ link. address link.0) nodes.items) ≡ false } by { Prim.hlevel props },
-    ghost known: { knows_all places (map (λ link. address link.0) nodes.items) ≡ true } by { Prim.hlevel props },
+}
+
+/// What the table tells of a node.
+#[derive(Drop)]
+pub(crate) enum Told {
+    /// Nothing: there is no table.
+    Nothing,
+    /// The table lacks the node.
+    Absent,
+    At(usize),
 }
 
 impl<L: ConnectionLike + Drop> Links<L> {
@@ -38,6 +48,15 @@ impl<L: ConnectionLike + Drop> Links<L> {
     pub fn new(alloc: Global, links: Vec<(NodeAddress, L)>) -> Option<Links<L>>
         ensures repeated { is_some result ≡ not (has_repeats (addresses_of (nodes L.seen links.items))) }
         ensures kept { IfSome result (λ made. made.nodes ≡ links) }
+    {
+        Links::new_known(alloc, links)
+    }
+
+    /// The same; the table has the address of each link.
+    pub(crate) fn new_known(alloc: Global, links: Vec<(NodeAddress, L)>) -> Option<Links<L>>
+        ensures repeated { is_some result ≡ not (has_repeats (addresses_of (nodes L.seen links.items))) }
+        ensures kept { IfSome result (λ made. made.nodes ≡ links) }
+        ensures known { IfSome result (λ made. knows_links made.places made.nodes.items ≡ true) }
     {
         if links.len() <= FEW {
             return without_table(links);
@@ -61,10 +80,21 @@ impl<L: ConnectionLike + Drop> Links<L> {
         ensures put { OnOk result (self.new.nodes.items ≡ self.old.nodes.items ++ ((node, link) ∷ [])) }
         ensures stays { OnErr result (self.new.nodes.items ≡ self.old.nodes.items) }
     {
+        self.push_known(node, link)
+    }
+
+    /// The same; where the table has the address of each link, it does so again.
+    pub(crate) fn push_known(&mut self, node: NodeAddress, link: L) -> Result<(), AllocError>
+        requires { place_at (nodes L.seen self.old.nodes.items) (address node) ≡ None }
+        ensures put { OnOk result (self.new.nodes.items ≡ self.old.nodes.items ++ ((node, link) ∷ [])) }
+        ensures stays { OnErr result (self.new.nodes.items ≡ self.old.nodes.items) }
+        ensures known { knows_links self.old.places self.old.nodes.items ≡ true
+            → knows_links self.new.places self.new.nodes.items ≡ true }
+    {
         self.nodes.reserve(1)?;
         self.learn(&node);
         self.nodes.push_reserved((node, link));
-        self.renew_table();
+        self.renew_known();
         Ok(())
     }
 }
@@ -76,13 +106,14 @@ impl<L: ConnectionLike> Links<L> {
         ensures { Calls (nodes L.seen self.old.nodes.items) (nodes L.seen self.new.nodes.items) which
             (λ before after. (before ≡ L.seen result) × (after ≡ L.seen link)) }
     {
-        mem::replace(&mut self.nodes[which].1, link)
+        replaced(&mut self.nodes, which, link)
     }
 
     /// The table learns of a node that is to come behind the others. Where memory is refused, it is dropped.
     fn learn(&mut self, node: &NodeAddress)
         ensures stays { self.new.nodes ≡ self.old.nodes }
-        ensures known { knows_all self.new.places
+        ensures known { knows_links self.old.places self.old.nodes.items ≡ true
+            → knows_all self.new.places
             (addresses_of (nodes L.seen self.old.nodes.items) ++ (address node.now ∷ [])) ≡ true }
     {
         if let Some(table) = self.places.take() {
@@ -94,6 +125,15 @@ impl<L: ConnectionLike> Links<L> {
     pub fn renew_table(&mut self)
         ensures { self.new.nodes ≡ self.old.nodes }
     {
+        self.renew_known();
+    }
+
+    /// The same; where the table has the address of each link, it does so again.
+    pub(crate) fn renew_known(&mut self)
+        ensures stays { self.new.nodes ≡ self.old.nodes }
+        ensures known { knows_links self.old.places self.old.nodes.items ≡ true
+            → knows_links self.new.places self.new.nodes.items ≡ true }
+    {
         if self.places.is_none() && self.nodes.len() > FEW {
             self.places = table_of(*self.nodes.allocator(), &self.nodes).unwrap_or(None);
         }
@@ -104,10 +144,31 @@ impl<L: ConnectionLike> Links<L> {
         ensures place { result ≡ place_at (nodes L.seen self.now.nodes.items) (address node.now) }
         ensures within { IfSome result (λ which. which < vec_len self.now.nodes) }
     {
-        // The table has the address of each link, so a node that it lacks has no place, and none is looked for.
-        if let Some(table) = &self.places {
-            let told = table.get_index_of(node)?;
-            if let Some(which) = self.told_place(told, node) {
+        self.place_by(self.told(node), node)
+    }
+
+    /// What the table tells of a node. A node that it lacks has no place, where it has the address of each
+    /// link.
+    pub(crate) fn told(&self, node: &NodeAddress) -> Told
+        ensures { result ≡ Absent → knows_links self.now.places self.now.nodes.items ≡ true
+            → place_at (nodes L.seen self.now.nodes.items) (address node.now) ≡ None }
+    {
+        match &self.places {
+            None => Told::Nothing,
+            Some(table) => match table.get_index_of(node) {
+                None => Told::Absent,
+                Some(which) => Told::At(which),
+            },
+        }
+    }
+
+    /// The place of a node, by what the table told, or else looked for.
+    pub(crate) fn place_by(&self, told: Told, node: &NodeAddress) -> Option<usize>
+        ensures place { result ≡ place_at (nodes L.seen self.now.nodes.items) (address node.now) }
+        ensures within { IfSome result (λ which. which < vec_len self.now.nodes) }
+    {
+        if let Told::At(which) = told {
+            if let Some(which) = self.told_place(which, node) {
                 return Some(which);
             }
         }
@@ -135,14 +196,7 @@ impl<L: ConnectionLike> Links<L> {
             (λ which. IsOpenAt (nodes L.seen self.now.nodes.items) (address node.now) which) }
         ensures within { IfSome result (λ which. which < vec_len self.now.nodes) }
     {
-        let Some(which) = self.place_of(node) else {
-            return None;
-        };
-        if self.nodes[which].1.is_open() {
-            Some(which)
-        } else {
-            None
-        }
+        NodeLinks::open_place(self, node)
     }
 
     /// One link call of the node at this place: it sends the bytes, drops `offset` replies, and
@@ -160,8 +214,7 @@ impl<L: ConnectionLike> Links<L> {
             (λ before after. Called before after bytes.now offset count (tree_results view result)) }
         ensures len { vec_len self.new.nodes ≡ vec_len self.old.nodes }
     {
-        let link = &mut self.nodes[which].1;
-        called(link, alloc, bytes, offset, count)
+        called(&mut self.nodes, alloc, which, bytes, offset, count)
     }
 
     /// One link call of the node at this place for one reply: it sends the bytes, and answers their reply.
@@ -176,12 +229,70 @@ impl<L: ConnectionLike> Links<L> {
             (λ before after. Called before after bytes.now 0 1 (one_reply (tree_result view result))) }
         ensures len { vec_len self.new.nodes ≡ vec_len self.old.nodes }
     {
-        let link = &mut self.nodes[which].1;
-        called_one(link, alloc, bytes)
+        called_one(&mut self.nodes, alloc, which, bytes)
     }
 }
 
-fn called<L: ConnectionLike>(
+impl<L: ConnectionLike> NodeLinks for Links<L> {
+    ghost use Rattle.cluster_calls.specs.Links.World.{nodes as seen_nodes};
+
+    ghost nodes = { λ links. seen_nodes L.seen links.nodes.items };
+
+    fn place_of(&self, node: &NodeAddress) -> Option<usize> {
+        Links::place_of(self, node)
+    }
+
+    fn is_open_at(&self, which: usize) -> bool {
+        self.nodes[which].1.is_open()
+    }
+
+    fn call(
+        &mut self,
+        alloc: Global,
+        which: usize,
+        bytes: &[u8],
+        offset: usize,
+        count: usize,
+    ) -> Result<Vec<Value>, RedisError> {
+        Links::call(self, alloc, which, bytes, offset, count)
+    }
+
+    fn call_one(&mut self, alloc: Global, which: usize, bytes: &[u8]) -> Result<Value, RedisError> {
+        Links::call_one(self, alloc, which, bytes)
+    }
+}
+
+/// Puts a link in the place of the one that stands there, which is handed back.
+pub(crate) fn replaced<L: ConnectionLike>(
+    links: &mut [(NodeAddress, L)],
+    which: usize,
+    link: L,
+) -> L
+    requires { which < length links.old }
+    ensures { Calls (nodes L.seen links.old) (nodes L.seen links.new) which
+        (λ before after. (before ≡ L.seen result) × (after ≡ L.seen link)) }
+{
+    mem::replace(&mut links[which].1, link)
+}
+
+/// One link call of the node at this place.
+pub(crate) fn called<L: ConnectionLike>(
+    links: &mut [(NodeAddress, L)],
+    alloc: Global,
+    which: usize,
+    bytes: &[u8],
+    offset: usize,
+    count: usize,
+) -> Result<Vec<Value>, RedisError>
+    requires { which < length links.old }
+    ensures { Calls (nodes L.seen links.old) (nodes L.seen links.new) which
+        (λ before after. Called before after bytes.now offset count (tree_results view result)) }
+{
+    let link = &mut links[which].1;
+    call(link, alloc, bytes, offset, count)
+}
+
+fn call<L: ConnectionLike>(
     link: &mut L,
     alloc: Global,
     bytes: &[u8],
@@ -193,7 +304,22 @@ fn called<L: ConnectionLike>(
     link.req_packed_commands(alloc, bytes, offset, count)
 }
 
-fn called_one<L: ConnectionLike>(
+/// One link call of the node at this place for one reply.
+pub(crate) fn called_one<L: ConnectionLike>(
+    links: &mut [(NodeAddress, L)],
+    alloc: Global,
+    which: usize,
+    bytes: &[u8],
+) -> Result<Value, RedisError>
+    requires { which < length links.old }
+    ensures { Calls (nodes L.seen links.old) (nodes L.seen links.new) which
+        (λ before after. Called before after bytes.now 0 1 (one_reply (tree_result view result))) }
+{
+    let link = &mut links[which].1;
+    call_one(link, alloc, bytes)
+}
+
+fn call_one<L: ConnectionLike>(
     link: &mut L,
     alloc: Global,
     bytes: &[u8],
@@ -248,6 +374,7 @@ fn repeats_behind<L: ConnectionLike>(links: &[(NodeAddress, L)]) -> bool
 fn without_table<L: ConnectionLike + Drop>(links: Vec<(NodeAddress, L)>) -> Option<Links<L>>
     ensures repeated { is_some result ≡ not (has_repeats (addresses_of (nodes L.seen links.items))) }
     ensures kept { IfSome result (λ made. made.nodes ≡ links) }
+    ensures known { IfSome result (λ made. knows_links made.places made.nodes.items ≡ true) }
 {
     if repeats_behind(&links) {
         return None;

@@ -1,6 +1,6 @@
 //! Where a part goes first: the node that serves its slot, that a strategy picks or that a number
 //! chooses, and the place of its link.
-ghost use Rattle.std.specs.Prelude.{◌≡◌, ◌≢◌, ◌<◌, is_some, vec_len, IfOk, Err, option_map, false};
+ghost use Rattle.std.specs.Prelude.{◌≡◌, ◌≢◌, ◌<◌, is_some, length, vec_len, IfOk, Err, option_map, false};
 ghost use Rattle.resp_core.specs.Errors.{by_cause};
 ghost use Rattle.resp_core.specs.declared.errors.redis_error.Cause.TheVariants.{Memory};
 ghost use Rattle.cluster_routing.specs.AllNodes.{all_nodes};
@@ -13,6 +13,7 @@ ghost use Rattle.cluster_calls.specs.Calls.Parts.{at_slot};
 ghost use Rattle.cluster_calls.specs.Calls.Plan.{by_number, is_read, target_candidates};
 
 use crate::links::Links;
+use crate::node_links::NodeLinks;
 use crate::numbered_map::NumberedMap;
 use crate::route::Target;
 use cluster_routing::{NodeAddress, ReadRoutingStrategy, Route, SlotAddr, SlotMap};
@@ -156,6 +157,31 @@ pub fn first_place<L: ConnectionLike>(
     ensures direct { IfOk result (λ p. p.asking ≡ false) }
     ensures within { IfOk result (λ p. p.which < vec_len links.now.nodes) }
 {
+    first_place_over(links, alloc, slots, target, strategy, picked)
+}
+
+/// The same for any links.
+///
+/// # Errors
+/// Those of `first_place`.
+pub fn first_place_over<K: NodeLinks>(
+    links: &K,
+    alloc: Global,
+    slots: &SlotMap,
+    target: &Target,
+    strategy: Option<&dyn ReadRoutingStrategy>,
+    picked: &mut Vec<NodeAddress>,
+) -> Result<Place, RedisError>
+    ensures found { result ≢ Err (by_cause Memory)
+        → FindsFirst (option_map (λ s. admits s.now) strategy.entry) slots.now (target_of target.now)
+        (addresses picked.old.items) (addresses picked.new.items)
+        (λ first. node_by (λ p. address p.node) result
+        ≡ node_with_link (open_links (K.nodes links.now)) first) }
+    ensures place { IfOk result
+        (λ p. IsOpenAt (K.nodes links.now) (address p.node) p.which) }
+    ensures direct { IfOk result (λ p. p.asking ≡ false) }
+    ensures within { IfOk result (λ p. p.which < length (K.nodes links.now)) }
+{
     let node = first_node(alloc, slots, target, strategy, picked)?;
     place_of(links, node)
 }
@@ -164,8 +190,8 @@ pub fn first_place<L: ConnectionLike>(
 ///
 /// # Errors
 /// Those of `first_place`.
-pub fn first_place_in<L: ConnectionLike>(
-    links: &Links<L>,
+pub fn first_place_in<K: NodeLinks>(
+    links: &K,
     alloc: Global,
     slots: &mut NumberedMap,
     target: &Target,
@@ -177,14 +203,14 @@ pub fn first_place_in<L: ConnectionLike>(
         → FindsFirst (option_map (λ s. admits s.now) strategy.entry) slots.old (target_of target.now)
         (addresses picked.old.items) (addresses picked.new.items)
         (λ first. node_by (λ p. address p.node) result
-        ≡ node_with_link (open_links (nodes L.seen links.now.nodes.items)) first) }
+        ≡ node_with_link (open_links (K.nodes links.now)) first) }
     ensures place { IfOk result
-        (λ p. IsOpenAt (nodes L.seen links.now.nodes.items) (address p.node) p.which) }
+        (λ p. IsOpenAt (K.nodes links.now) (address p.node) p.which) }
     ensures direct { IfOk result (λ p. p.asking ≡ false) }
-    ensures within { IfOk result (λ p. p.which < vec_len links.now.nodes) }
+    ensures within { IfOk result (λ p. p.which < length (K.nodes links.now)) }
 {
     match target {
-        Target::Slot(_) => first_place(links, alloc, slots.map(), target, strategy, picked),
+        Target::Slot(_) => first_place_over(links, alloc, slots.map(), target, strategy, picked),
         Target::Number(number) => {
             slots.list_nodes(alloc);
             place_of(links, slots.node_by_number(alloc, *number)?)
@@ -193,14 +219,14 @@ pub fn first_place_in<L: ConnectionLike>(
 }
 
 /// A node, and the place of its open link.
-fn place_of<L: ConnectionLike>(links: &Links<L>, node: &NodeAddress) -> Result<Place, RedisError>
+fn place_of<K: NodeLinks>(links: &K, node: &NodeAddress) -> Result<Place, RedisError>
     ensures found { result ≢ Err (by_cause Memory)
         → node_by (λ p. address p.node) result
-        ≡ if_linked (open_links (nodes L.seen links.now.nodes.items)) (address node.now) }
+        ≡ if_linked (open_links (K.nodes links.now)) (address node.now) }
     ensures place { IfOk result
-        (λ p. IsOpenAt (nodes L.seen links.now.nodes.items) (address p.node) p.which) }
+        (λ p. IsOpenAt (K.nodes links.now) (address p.node) p.which) }
     ensures direct { IfOk result (λ p. p.asking ≡ false) }
-    ensures within { IfOk result (λ p. p.which < vec_len links.now.nodes) }
+    ensures within { IfOk result (λ p. p.which < length (K.nodes links.now)) }
 {
     let Some(which) = links.open_place(node) else {
         return Err(RedisError::from(Cause::NoLink));

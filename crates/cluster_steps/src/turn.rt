@@ -11,6 +11,7 @@ ghost use Rattle.cluster_steps.specs.Turns.{next_by, goes_on, LeadsOn, TurnsBy, 
 ghost use Rattle.cluster_calls.specs.Calls.Redirects.{Stays, hop_by_link, next_of, sort_next};
 
 use crate::links::Links;
+use crate::node_links::NodeLinks;
 use crate::place::Place;
 use cluster_routing::NodeAddress;
 use resp_core::{Cause, ErrorKind, RedisError, ServerError, ServerErrorKind, Value};
@@ -61,10 +62,10 @@ fn redirect_target(alloc: Global, error: &ServerError) -> Result<Option<NodeAddr
     }
 }
 
-fn to_link<L: ConnectionLike>(links: &Links<L>, node: NodeAddress, asking: bool) -> Onward
+fn to_link<K: NodeLinks>(links: &K, node: NodeAddress, asking: bool) -> Onward
     ensures next { next_by result
-        ≡ hop_by_link (open_links (nodes L.seen links.now.nodes.items)) asking (Some (address node)) }
-    ensures on { LeadsOn (nodes L.seen links.now.nodes.items) result }
+        ≡ hop_by_link (open_links (K.nodes links.now)) asking (Some (address node)) }
+    ensures on { LeadsOn (K.nodes links.now) result }
 {
     match links.open_place(&node) {
         None => Onward::Lost,
@@ -76,16 +77,16 @@ fn to_link<L: ConnectionLike>(links: &Links<L>, node: NodeAddress, asking: bool)
     }
 }
 
-fn to_target<L: ConnectionLike>(
+fn to_target<K: NodeLinks>(
     alloc: Global,
-    links: &Links<L>,
+    links: &K,
     error: &ServerError,
     asking: bool,
 ) -> Result<Onward, RedisError>
     ensures next { IfOk result
-        (λ o. next_by o ≡ hop_by_link (open_links (nodes L.seen links.now.nodes.items)) asking
+        (λ o. next_by o ≡ hop_by_link (open_links (K.nodes links.now)) asking
         (redirect_target (error_text error.now))) }
-    ensures on { IfOk result (λ o. LeadsOn (nodes L.seen links.now.nodes.items) o) }
+    ensures on { IfOk result (λ o. LeadsOn (K.nodes links.now) o) }
     ensures only { IfErr result (λ e. e ≡ by_cause Memory) }
 {
     match redirect_target(alloc, error)? {
@@ -95,15 +96,15 @@ fn to_target<L: ConnectionLike>(
 }
 
 /// Where an error sends the request on.
-fn behind_error<L: ConnectionLike>(
+fn behind_error<K: NodeLinks>(
     alloc: Global,
-    links: &Links<L>,
+    links: &K,
     error: &ServerError,
 ) -> Result<Onward, RedisError>
     ensures next { IfOk result
-        (λ o. next_by o ≡ sort_next (open_links (nodes L.seen links.now.nodes.items))
+        (λ o. next_by o ≡ sort_next (open_links (K.nodes links.now))
         (error_sort (error_text error.now) (server_kind (error_text error.now).code))) }
-    ensures on { IfOk result (λ o. LeadsOn (nodes L.seen links.now.nodes.items) o) }
+    ensures on { IfOk result (λ o. LeadsOn (K.nodes links.now) o) }
     ensures only { IfErr result (λ e. e ≡ by_cause Memory) }
 {
     match error.kind() {
@@ -114,16 +115,16 @@ fn behind_error<L: ConnectionLike>(
 }
 
 /// Where a reply sends the request on, with so many redirects left.
-pub(crate) fn next_place<L: ConnectionLike>(
+pub(crate) fn next_place<K: NodeLinks>(
     alloc: Global,
-    links: &Links<L>,
+    links: &K,
     left: u16,
     reply: &Value,
 ) -> Result<Onward, RedisError>
     ensures next { IfOk result
-        (λ o. next_by o ≡ next_of (open_links (nodes L.seen links.now.nodes.items)) left
+        (λ o. next_by o ≡ next_of (open_links (K.nodes links.now)) left
         (Some (view reply.now))) }
-    ensures on { IfOk result (λ o. LeadsOn (nodes L.seen links.now.nodes.items) o) }
+    ensures on { IfOk result (λ o. LeadsOn (K.nodes links.now) o) }
     ensures some { IfOk result (λ o. goes_on o ≡ true → left ≢ 0) }
     ensures only { IfErr result (λ e. e ≡ by_cause Memory) }
 {
@@ -147,6 +148,22 @@ pub fn turn_by<L: ConnectionLike>(
         → TurnsBy (next_of (open_links (nodes L.seen links.now.nodes.items)) left (Some (view reply)))
         (view reply) result }
     ensures on { IfOk result (λ turn. TurnsOn (nodes L.seen links.now.nodes.items) turn) }
+    ensures some { IfOk result (λ turn. turns_on turn ≡ true → left ≢ 0) }
+{
+    turn_over(alloc, links, left, reply)
+}
+
+/// The same for any links.
+pub fn turn_over<K: NodeLinks>(
+    alloc: Global,
+    links: &K,
+    left: u16,
+    reply: Value,
+) -> Result<Turn, RedisError>
+    ensures turns { result ≢ Err (by_cause Memory)
+        → TurnsBy (next_of (open_links (K.nodes links.now)) left (Some (view reply)))
+        (view reply) result }
+    ensures on { IfOk result (λ turn. TurnsOn (K.nodes links.now) turn) }
     ensures some { IfOk result (λ turn. turns_on turn ≡ true → left ≢ 0) }
 {
     match next_place(alloc, links, left, &reply)? {

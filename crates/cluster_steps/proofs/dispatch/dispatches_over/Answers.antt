@@ -1,10 +1,10 @@
 use Rattle.std.proofs.Common.{◌∙◌, ◌++◌, ◌∷◌, [], map, refl, sym, ap, append-nil, append_assoc}
-use Rattle.std.proofs.lemmas.List.{length-map, map-append, nil_from_length}
+use Rattle.std.proofs.lemmas.List.{map-append, nil_from_length}
 use Rattle.std.proofs.lemmas.Result.{err_from_is_err_and}
 use Rattle.cluster_steps.specs.Dispatches.{dispatch_of}
 use Rattle.cluster_steps.specs.FirstPlaces.{part_of}
 use Rattle.cluster_steps.proofs.Dispatching.{all_more, dispatched_as, loop_as, loop_done, loop_more, loop_refused}
-use Rattle.cluster_steps.proofs.dispatch.dispatches.Goals as goal
+use Rattle.cluster_steps.proofs.dispatch.dispatches_over.Goals as goal
 
 pub returns-in_err-place-clause-dispatched : goal.returns-in_err-place-clause-dispatched
 returns-in_err-place-clause-dispatched g c =
@@ -21,9 +21,7 @@ parts-preserved g c = record {
       (loop_more _ _ _ (part_of c.in-Some.part) _ _ _ _ (c.parts.invariant.loop settings) (c.in_ok-place.ensures.found (λ k. cc k)))
       (sym (map-append part_of c.parts.yielded (c.in-Some.part ∷ [])))
       (sym (map-append dispatch_of c.parts.all.items _) ∙ ap (map dispatch_of) (sym c.in_ok-push.ensures.items));
-  placed =
-      let within = rw c.args.links.now.nodes.ok.0 at c.in_ok-place.ensures.within in
-      rw c.in_ok-push.ensures.items (all_more _ _ _ c.parts.invariant.placed (record { place = c.in_ok-place.ensures.place; within = rw length-map within; direct = c.in_ok-place.ensures.direct }));
+  placed = rw c.in_ok-push.ensures.items (all_more _ _ _ c.parts.invariant.placed (record { place = c.in_ok-place.ensures.place; within = c.in_ok-place.ensures.within; direct = c.in_ok-place.ensures.direct }));
 }
 
 pub returns-clause-dispatched : goal.returns-clause-dispatched

@@ -3,14 +3,14 @@ use Rattle.std.proofs.Common.{◌≡◌, ◌++◌, map, option_map}
 use Rattle.cluster_routing.specs.Seen.{addresses}
 use Rattle.cluster_steps.specs.Dispatches.{IsPlaced, client_with, dispatch_of}
 use Rattle.cluster_steps.specs.FirstPlaces.{part_of}
-use Rattle.cluster_calls.specs.Links.World.{Settings, nodes}
+use Rattle.cluster_calls.specs.Links.World.{Settings}
 use Rattle.cluster_steps.proofs.Dispatching.{Loop}
-use Rattle.cluster_steps.proofs.dispatch.dispatches.Given as goal
+use Rattle.cluster_steps.proofs.dispatch.dispatches_over.Given as goal
 
 abbrev pub invariant-parts : goal.invariant-parts
 invariant-parts g l = record {
   split : l.fn.parts.items ≡ l.yielded ++ l.part-iterator.rest.items;
-  loop : (settings : Settings) → Loop (option_map (λ s. (goal.ReadRoutingStrategy-dyn g s.now).admits s.now.1) l.strategy) (client_with settings l.slots (nodes g.L.ConnectionLike.seen l.links.nodes.items))
+  loop : (settings : Settings) → Loop (option_map (λ s. (goal.ReadRoutingStrategy-dyn g s.now).admits s.now.1) l.strategy) (client_with settings l.slots (g.K.NodeLinks.nodes l.links))
       (map part_of l.yielded) (addresses l.picked.items) (map dispatch_of l.all.items);
-  placed : AllByRecursion (IsPlaced (nodes g.L.ConnectionLike.seen l.links.nodes.items)) l.all.items;
+  placed : AllByRecursion (IsPlaced (g.K.NodeLinks.nodes l.links)) l.all.items;
 }

@@ -1,7 +1,7 @@
 use Rattle.std.proofs.Common.{map, subst}
 use Rattle.resp_core.specs.View.{view}
 use Rattle.cluster_steps.specs.Attempts.{AttemptTurnsBy, heard}
-use Rattle.cluster_steps.proofs.attempt_turn.attempt_turn.Goals as goal
+use Rattle.cluster_steps.proofs.attempt_turn.attempt_turn_over.Goals as goal
 
 pub returns-in-Stay-clause-turns : goal.returns-in-Stay-clause-turns
 returns-in-Stay-clause-turns g c m =

@@ -1,0 +1,135 @@
+//! Links whose table, where there is one, has the address of each of them.
+ghost use Rattle.std.specs.Prelude.{◌≡◌, ◌<◌, ◌++◌, ◌∷◌, [], None, Some, is_some, not, vec_len, IfSome, OnErr, OnOk};
+ghost use Rattle.resp_core.specs.View.{view};
+ghost use Rattle.cluster_routing.specs.Seen.{address};
+ghost use Rattle.cluster_calls.specs.Links.World.{nodes, place_at, has_repeats, addresses_of, Calls, Called, one_reply, tree_result, tree_results};
+
+use crate::links::{Links, Told, called, called_one, replaced};
+use crate::node_links::NodeLinks;
+use cluster_routing::NodeAddress;
+use resp_core::{RedisError, Value};
+use resp_link::ConnectionLike;
+use std::alloc::{AllocError, Global};
+use std::marker::Model;
+
+/// The links of a client, one for each node. A node that their table lacks is not looked for.
+///
+/// A contract sees them as the links.
+#[derive(Drop)]
+pub struct KnownLinks<L> {
+    links: Links<L>,
+}
+
+impl<L> Model for KnownLinks<L> {
+    ghost use Rattle.std.specs.Prelude.{◌≡◌, true};
+    ghost use Rattle.cluster_steps.specs.declared.links.Links.{Links};
+    ghost use Rattle.cluster_steps.specs.LinkTable.{knows_links};
+
+    ghost Value = { Links L };
+
+    ghost use Rattle.std.specs.Coded.{codes};
+    ghost use Rattle.indexmap.specs.Layout.{hash_set_code};
+
+    ghost coded = { Prim.hlevel (codes, hash_set_code) };
+
+    ghost view = { λ k. k.links };
+
+    ghost invariant = { λ k. knows_links k.links.places k.links.nodes.items ≡ true };
+}
+
+impl<L: ConnectionLike + Drop> KnownLinks<L> {
+    /// These links, unless an address is given twice. Where memory is refused it takes the square of the
+    /// time.
+    pub fn new(alloc: Global, links: Vec<(NodeAddress, L)>) -> Option<KnownLinks<L>>
+        ensures repeated { is_some result ≡ not (has_repeats (addresses_of (nodes L.seen links.items))) }
+        ensures kept { IfSome result (λ made. made.nodes ≡ links) }
+    {
+        Some(KnownLinks {
+            links: Links::new_known(alloc, links)?,
+        })
+    }
+
+    /// Puts a node that is new, and its link, behind the others.
+    ///
+    /// # Errors
+    /// `AllocError` where memory is refused for the links; what is refused for the table only makes it slow.
+    pub fn push(&mut self, node: NodeAddress, link: L) -> Result<(), AllocError>
+        requires { place_at (nodes L.seen self.old.nodes.items) (address node) ≡ None }
+        ensures put { OnOk result (self.new.nodes.items ≡ self.old.nodes.items ++ ((node, link) ∷ [])) }
+        ensures stays { OnErr result (self.new.nodes.items ≡ self.old.nodes.items) }
+    {
+        self.links.push_known(node, link)
+    }
+
+    /// Every node and its link.
+    pub fn into_nodes(self) -> Vec<(NodeAddress, L)>
+        ensures { result ≡ self.nodes }
+    {
+        self.links.nodes
+    }
+}
+
+impl<L: ConnectionLike> KnownLinks<L> {
+    /// How many links there are.
+    pub fn len(&self) -> usize
+        ensures { result ≡ vec_len self.now.nodes }
+    {
+        self.links.nodes.len()
+    }
+
+    /// Every node and its link.
+    pub fn as_slice(&self) -> &[(NodeAddress, L)]
+        ensures { result.now ≡ self.now.nodes.items }
+    {
+        self.links.nodes.as_slice()
+    }
+
+    /// Puts a link in the place of the one that stands there, which is handed back.
+    pub fn replace(&mut self, which: usize, link: L) -> L
+        requires { which < vec_len self.old.nodes }
+        ensures { Calls (nodes L.seen self.old.nodes.items) (nodes L.seen self.new.nodes.items) which
+            (λ before after. (before ≡ L.seen result) × (after ≡ L.seen link)) }
+    {
+        replaced(&mut self.links.nodes, which, link)
+    }
+
+    /// Makes the table of many nodes that have none. Where memory is refused, they go without.
+    pub fn renew_table(&mut self)
+        ensures { self.new.nodes ≡ self.old.nodes }
+    {
+        self.links.renew_known();
+    }
+}
+
+impl<L: ConnectionLike> NodeLinks for KnownLinks<L> {
+    ghost use Rattle.cluster_calls.specs.Links.World.{nodes as seen_nodes};
+
+    ghost nodes = { λ links. seen_nodes L.seen links.nodes.items };
+
+    fn place_of(&self, node: &NodeAddress) -> Option<usize> {
+        match self.links.told(node) {
+            // The table has the address of each link: none leads to a node that it lacks.
+            Told::Absent => None,
+            told => self.links.place_by(told, node),
+        }
+    }
+
+    fn is_open_at(&self, which: usize) -> bool {
+        self.links.is_open_at(which)
+    }
+
+    fn call(
+        &mut self,
+        alloc: Global,
+        which: usize,
+        bytes: &[u8],
+        offset: usize,
+        count: usize,
+    ) -> Result<Vec<Value>, RedisError> {
+        called(&mut self.links.nodes, alloc, which, bytes, offset, count)
+    }
+
+    fn call_one(&mut self, alloc: Global, which: usize, bytes: &[u8]) -> Result<Value, RedisError> {
+        called_one(&mut self.links.nodes, alloc, which, bytes)
+    }
+}
