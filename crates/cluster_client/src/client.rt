@@ -33,16 +33,17 @@ mod relink;
 
 use cluster_routing::{ClusterTopology, NodeAddress, ReadRoutingStrategy, SlotMap};
 use cluster_steps::asked::{Asked, sent_again};
-use cluster_steps::dispatch::{Dispatch, Outset, Prepared, dispatches, one_dispatch_in};
-use cluster_steps::exchange::exchange_one;
-use cluster_steps::links::Links;
+use cluster_steps::dispatch::{Dispatch, Outset, Prepared, dispatches_over, one_dispatch_in};
+use cluster_steps::exchange::exchange_one_over;
+use cluster_steps::known_links::KnownLinks;
+use cluster_steps::node_links::NodeLinks;
 use cluster_steps::numbered_map::NumberedMap;
 use cluster_steps::order::{fits_order, prepared_in_order};
 use cluster_steps::ready::{Ready, make_all_ready, make_ready};
 use cluster_steps::reply::{needs_refresh, reply_of_parts};
 use cluster_steps::route::{Parts, parts_of, whole_part};
 use cluster_steps::slots::{slot_map_in, slots_dispatch};
-use cluster_steps::turn::{Turn, turn_by};
+use cluster_steps::turn::{Turn, turn_over};
 use resp_args::{Cmd, FromRedisValue, from_redis_value};
 use resp_core::{Cause, ErrorKind, PushInfo, RedisError, Value};
 use resp_link::ConnectionLike;
@@ -67,7 +68,7 @@ fn lacks_memory<T>(reply: &Result<T, RedisError>) -> bool
 /// time, and each tells what it sent by `asked`.
 #[derive(Drop)]
 pub struct ClusterClient<L> {
-    pub(crate) links: Links<L>,
+    pub(crate) links: KnownLinks<L>,
     pub(crate) read_only: Vec<Vec<u8>>,
     pub(crate) budget: u16,
     pub(crate) slots: NumberedMap,
@@ -98,7 +99,7 @@ impl<L: ConnectionLike + Drop> ClusterClient<L> {
             ↔ (has_repeats (addresses_of (nodes L.seen links.items)) ≡ true) }
         ensures only { IfErr result (λ e. e ≡ by_cause RepeatedAddress) }
     {
-        let Some(links) = Links::new(alloc, links) else {
+        let Some(links) = KnownLinks::new(alloc, links) else {
             return Err(RedisError::from(Cause::RepeatedAddress));
         };
         Ok(ClusterClient {
@@ -130,7 +131,7 @@ impl<L: ConnectionLike + Drop> ClusterClient<L> {
         };
         let dispatch = slots_dispatch(alloc, node, which)?;
         let request = make_ready(alloc, &mut self.asked, dispatch, 1)?;
-        let reply = exchange_one(&mut self.links, alloc, &mut self.asked, request)?;
+        let reply = exchange_one_over(&mut self.links, alloc, &mut self.asked, request)?;
         let slots = slot_map_in(alloc, reply, node)?;
         self.slots.renew(slots);
         self.needs_refresh = false;
@@ -336,7 +337,7 @@ impl<L: ConnectionLike + Drop> ClusterClient<L> {
         if !fits_order(alloc, order, list.len())? {
             return Err(RedisError::from(Cause::BadOrder));
         }
-        let dispatches = dispatches(
+        let dispatches = dispatches_over(
             &self.links,
             alloc,
             self.slots.map(),
@@ -390,9 +391,9 @@ impl<L: ConnectionLike + Drop> ClusterClient<L> {
         let mut request = first;
         let mut left = self.budget;
         'requests: loop {
-            let reply = exchange_one(&mut self.links, alloc, &mut self.asked, request)?;
+            let reply = exchange_one_over(&mut self.links, alloc, &mut self.asked, request)?;
             self.needs_refresh = needs_refresh(self.needs_refresh, &reply);
-            match turn_by(alloc, &self.links, left, reply)? {
+            match turn_over(alloc, &self.links, left, reply)? {
                 Turn::Answered(value) => return Ok(value),
                 Turn::On(next) => {
                     left -= 1;
@@ -441,7 +442,7 @@ impl<L: ConnectionLike + Drop> ClusterClient<L> {
     pub fn links(&self) -> &[(NodeAddress, L)]
         ensures { nodes L.seen result.now ≡ (whole L.seen self.now).nodes }
     {
-        self.links.nodes.as_slice()
+        self.links.as_slice()
     }
 
     /// The link to a node.
@@ -450,7 +451,7 @@ impl<L: ConnectionLike + Drop> ClusterClient<L> {
             ≡ link_at (whole L.seen self.now).nodes (address node.now) }
     {
         match self.links.place_of(node) {
-            Some(which) => Some(&self.links.nodes[which].1),
+            Some(which) => Some(&self.links.as_slice()[which].1),
             None => None,
         }
     }

@@ -32,8 +32,9 @@ use cluster_routing::{
     MultipleNodeRoutingInfo, NodeAddress, ResponsePolicy, RoutingInfo, SlotMap, combine_nodes,
 };
 use cluster_steps::dispatch::Dispatch;
-use cluster_steps::exchange::exchange_one;
-use cluster_steps::links::Links;
+use cluster_steps::exchange::exchange_one_over;
+use cluster_steps::known_links::KnownLinks;
+use cluster_steps::node_links::NodeLinks;
 use cluster_steps::place::Place;
 use cluster_steps::ready::{Ready, make_all_ready};
 use cluster_steps::reply::needs_refresh;
@@ -79,7 +80,7 @@ fn policy_in(info: Option<RoutingInfo>) -> Option<ResponsePolicy>
 /// # Errors
 /// `NoLink` where no usable link leads to the node; `Memory`.
 pub(crate) fn dispatch_to<L: ConnectionLike>(
-    links: &Links<L>,
+    links: &KnownLinks<L>,
     node: &NodeAddress,
     cmd: &Cmd,
 ) -> Result<Dispatch, RedisError>
@@ -109,7 +110,7 @@ pub(crate) fn dispatch_to<L: ConnectionLike>(
 /// # Errors
 /// `NoLink` where no usable link leads to one of them; `Memory`.
 fn dispatches_to<L: ConnectionLike>(
-    links: &Links<L>,
+    links: &KnownLinks<L>,
     alloc: Global,
     addresses: Vec<&NodeAddress>,
     cmd: &Cmd,
@@ -145,7 +146,7 @@ struct NodeDispatches {
 /// nodes; `NoNode` where the slot map has no node; `NoLink` where no usable link leads to one of
 /// them; `Memory`.
 fn node_dispatches<L: ConnectionLike>(
-    links: &Links<L>,
+    links: &KnownLinks<L>,
     alloc: Global,
     slots: &SlotMap,
     read_only: &[Vec<u8>],
@@ -347,7 +348,7 @@ impl<L: ConnectionLike + Drop> ClusterClient<L> {
         ensures log_capacity { vec_capacity self.old.asked ≤ vec_capacity self.new.asked }
     {
         let Question { node, request } = question;
-        let reply = exchange_one(&mut self.links, alloc, &mut self.asked, request);
+        let reply = exchange_one_over(&mut self.links, alloc, &mut self.asked, request);
         self.needs_refresh = needs_refresh_by(self.needs_refresh, &reply);
         let reply = unless_memory(reply)?;
         Ok((node, reply))

@@ -23,9 +23,9 @@ use crate::client::ClusterClient;
 use crate::pipeline::reply::refresh_needed;
 use crate::transaction::slot::common_slot;
 use cluster_routing::{Route, SlotAddr};
-use cluster_steps::attempt::{Attempt, exchange_attempt, make_attempt_ready};
-use cluster_steps::attempt_turn::attempt_turn;
-use cluster_steps::place::first_place;
+use cluster_steps::attempt::{Attempt, exchange_attempt_over, make_attempt_ready};
+use cluster_steps::attempt_turn::attempt_turn_over;
+use cluster_steps::place::first_place_over;
 use cluster_steps::route::Target;
 use cluster_steps::turn::Turn;
 use resp_args::{Cmd, FromRedisValue, from_redis_value};
@@ -64,7 +64,7 @@ impl<L: ConnectionLike + Drop> ClusterClient<L> {
         };
         let target = Target::Slot(Route::new(slot, SlotAddr::Master));
         let mut picked = Vec::new(alloc);
-        let place = first_place(
+        let place = first_place_over(
             &self.links,
             alloc,
             self.slots.map(),
@@ -89,7 +89,7 @@ impl<L: ConnectionLike + Drop> ClusterClient<L> {
             attempt.place.which attempt.requests.items (skipped attempt.place.asking)
             (tree_results view result) }
     {
-        let replies = exchange_attempt(&mut self.links, alloc, &mut self.asked, attempt)?;
+        let replies = exchange_attempt_over(&mut self.links, alloc, &mut self.asked, attempt)?;
         self.needs_refresh = refresh_needed(self.needs_refresh, &replies);
         Ok(replies)
     }
@@ -110,7 +110,7 @@ impl<L: ConnectionLike + Drop> ClusterClient<L> {
         let mut left = self.budget;
         'attempts: loop {
             let replies = self.exchange_attempt(alloc, attempt)?;
-            match attempt_turn(alloc, &self.links, left, replies)? {
+            match attempt_turn_over(alloc, &self.links, left, replies)? {
                 Turn::Answered(value) => return Ok(value),
                 Turn::On(place) => {
                     left -= 1;

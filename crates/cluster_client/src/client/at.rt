@@ -13,7 +13,7 @@ ghost use Rattle.cluster_client.specs.Whole.{whole};
 use super::ClusterClient;
 use crate::fan_out::{dispatch_to, needs_refresh_by, outcome_in};
 use cluster_routing::NodeAddress;
-use cluster_steps::exchange::exchange_one;
+use cluster_steps::exchange::exchange_one_over;
 use cluster_steps::ready::make_ready;
 use resp_args::{Cmd, FromRedisValue, from_redis_value};
 use resp_core::{Cause, RedisError, Value};
@@ -74,7 +74,7 @@ impl<L: ConnectionLike + Drop> ClusterClient<L> {
         }
         let dispatch = dispatch_to(&self.links, node, cmd)?;
         let request = make_ready(alloc, &mut self.asked, dispatch, 1)?;
-        let reply = exchange_one(&mut self.links, alloc, &mut self.asked, request);
+        let reply = exchange_one_over(&mut self.links, alloc, &mut self.asked, request);
         self.needs_refresh = needs_refresh_by(self.needs_refresh, &reply);
         outcome_in(reply)?
     }

@@ -21,7 +21,7 @@ ghost use Rattle.cluster_client.specs.Whole.{whole};
 
 use super::ClusterClient;
 use cluster_routing::ReadRoutingStrategy;
-use cluster_steps::dispatch::{Dispatch, dispatches};
+use cluster_steps::dispatch::{Dispatch, dispatches_over};
 use cluster_steps::read_parts::{ReadParts, Stream, read_parts};
 use cluster_steps::read_reply::record_of_parts;
 use resp_core::RedisError;
@@ -100,7 +100,7 @@ impl<L: ConnectionLike + Drop> ClusterClient<L> {
         self.asked = Vec::new(alloc);
         self.picked = Vec::new(alloc);
         let ReadParts { list, places } = read_parts(alloc, streams, options, &self.read_only)?;
-        let dispatches = dispatches(
+        let dispatches = dispatches_over(
             &self.links,
             alloc,
             self.slots.map(),

@@ -7,7 +7,8 @@ ghost use Rattle.cluster_client.specs.Whole.{whole};
 
 use crate::client::ClusterClient;
 use cluster_routing::NodeAddress;
-use cluster_steps::links::Links;
+use cluster_steps::known_links::KnownLinks;
+use cluster_steps::node_links::NodeLinks;
 use resp_link::ConnectionLike;
 use std::alloc::{AllocError, Global};
 
@@ -17,7 +18,7 @@ impl<L: ConnectionLike + Drop> ClusterClient<L> {
     pub fn into_links(self) -> Vec<(NodeAddress, L)>
         ensures { nodes L.seen result.items ≡ (whole L.seen self).nodes }
     {
-        self.links.nodes
+        self.links.into_nodes()
     }
 
     /// Puts a link to a node in the place of the old one, which is handed back, open or not. Where
@@ -65,7 +66,7 @@ impl<L: ConnectionLike + Drop> ClusterClient<L> {
 }
 
 /// Whether an open link leads to a node.
-fn has_open<L: ConnectionLike>(links: &Links<L>, node: &NodeAddress) -> bool
+fn has_open<L: ConnectionLike>(links: &KnownLinks<L>, node: &NodeAddress) -> bool
     ensures { result ≡ is_linked (open_links (nodes L.seen links.now.nodes.items)) (address node.now) }
 {
     links.open_place(node).is_some()

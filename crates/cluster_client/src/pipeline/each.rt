@@ -79,7 +79,7 @@ impl<L: ConnectionLike + Drop> ClusterClient<L> {
             (λ each outcomes. outcomes ≡ each) (outcomes_of result) }
     {
         let dispatches = self.dispatches_of_parts(alloc, parts)?;
-        let count = self.links.nodes.len();
+        let count = self.links.len();
         let places = places_of(alloc, &dispatches)?;
         let groups = grouped(alloc, count, dispatches)?;
         let mut queues = empty_queues(alloc, count)?;

@@ -21,9 +21,9 @@ use crate::client::ClusterClient;
 use crate::pipeline::parts::pipeline_parts;
 use crate::pipeline::reply::{refresh_needed, reply_of_pipeline};
 use crate::pipeline::{ClusterPipeline, PipelineCommand};
-use cluster_steps::dispatch::{Dispatch, dispatches};
+use cluster_steps::dispatch::{Dispatch, dispatches_over};
 use cluster_steps::drawn::{Answered, drawn};
-use cluster_steps::exchange::exchange;
+use cluster_steps::exchange::exchange_over;
 use cluster_steps::grouped::{grouped, places_of};
 use cluster_steps::ready::Group;
 use cluster_steps::route::Part;
@@ -51,7 +51,7 @@ impl<L: ConnectionLike + Drop> ClusterClient<L> {
         self.asked = Vec::new(alloc);
         self.picked = Vec::new(alloc);
         let mut picked = Vec::new(alloc);
-        let all = dispatches(
+        let all = dispatches_over(
             &self.links,
             alloc,
             self.slots.map(),
@@ -98,7 +98,7 @@ impl<L: ConnectionLike + Drop> ClusterClient<L> {
         ensures log_len { vec_len self.new.asked ≡ vec_len self.old.asked + vec_len group.requests }
         ensures log_capacity { vec_capacity self.old.asked ≤ vec_capacity self.new.asked }
     {
-        let replies = exchange(&mut self.links, alloc, &mut self.asked, group)?;
+        let replies = exchange_over(&mut self.links, alloc, &mut self.asked, group)?;
         self.needs_refresh = refresh_needed(self.needs_refresh, &replies);
         Ok(replies)
     }
@@ -136,7 +136,7 @@ impl<L: ConnectionLike + Drop> ClusterClient<L> {
             (value_answer (tree_result view result)) }
     {
         let dispatches = self.pipeline_dispatches(alloc, commands)?;
-        let count = self.links.nodes.len();
+        let count = self.links.len();
         let places = places_of(alloc, &dispatches)?;
         let groups = grouped(alloc, count, dispatches)?;
         let answered = self.exchange_all(alloc, groups)?;

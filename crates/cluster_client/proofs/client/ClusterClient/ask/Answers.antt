@@ -1,5 +1,4 @@
-use Rattle.std.proofs.Common.{◌≡◌, ◌<◌, length, refl}
-use Rattle.std.proofs.lemmas.List.{length-map}
+use Rattle.std.proofs.Common.{◌≡◌, refl}
 use Rattle.std.proofs.lemmas.Result.{err_from_is_err_and}
 use Rattle.resp_core.specs.Errors.{by_cause}
 use Rattle.resp_core.specs.declared.errors.redis_error.Cause.TheVariants.{Memory}
@@ -9,21 +8,16 @@ use Rattle.cluster_calls.specs.Links.World.{tree_result}
 use Rattle.cluster_client.proofs.NodeLoop.{by_asking, node_lost, node_told, own_outcome}
 use Rattle.cluster_client.proofs.client.ClusterClient.ask.Goals as goal
 
-pub exchange_one-reply-requires-clause-within : goal.exchange_one-reply-requires-clause-within
-exchange_one-reply-requires-clause-within g c =
-    let within : c.args.question.request.dispatch.place.which < length c.args.self.now.links.nodes.items = rw length-map at c.requires.placed.within in
-    rw c.args.self.now.links.nodes.ok.0 within
-
 pub returns-in_err-reply-clause-asked : goal.returns-in_err-reply-clause-asked
 returns-in_err-reply-clause-asked g c =
     let d = c.args.question.request.dispatch in
     let p = err_from_is_err_and c.from_residual.result c.from_residual.ensures.1 in
     let memory : c.in_err-reply.field-0.0 ≡ by_cause Memory = c.in_err-reply.ensures.only in
-    rw (p.1, p.2, memory) (node_lost _ _ (dispatch_of d) (record { entries = refl; settings = refl; picked = refl }) (tree_result view c.exchange_one-reply.result) c.needs_refresh_by-self.ensures _ c.requires.placed.place _
-    (by_asking (dispatch_of d) d.place.asking c.requires.placed.direct) c.exchange_one-reply.ensures.exchange)
+    rw (p.1, p.2, memory) (node_lost _ _ (dispatch_of d) (record { entries = refl; settings = refl; picked = refl }) (tree_result view c.exchange_one_over-reply.result) c.needs_refresh_by-self.ensures _ c.requires.placed.place _
+    (by_asking (dispatch_of d) d.place.asking c.requires.placed.direct) c.exchange_one_over-reply.ensures.exchange)
 
 pub returns-clause-asked : goal.returns-clause-asked
 returns-clause-asked g c =
     let d = c.args.question.request.dispatch in
-    rw (c.args.question.same, c.in_ok-reply.ensures.same) (node_told _ _ (dispatch_of d) (record { entries = refl; settings = refl; picked = refl }) (tree_result view c.exchange_one-reply.result) c.needs_refresh_by-self.ensures _ c.requires.placed.place _
-    (by_asking (dispatch_of d) d.place.asking c.requires.placed.direct) c.exchange_one-reply.ensures.exchange _ (own_outcome c.exchange_one-reply.result (rw c.in_ok-reply.ensures.same at c.in_ok-reply.ensures.memory)))
+    rw (c.args.question.same, c.in_ok-reply.ensures.same) (node_told _ _ (dispatch_of d) (record { entries = refl; settings = refl; picked = refl }) (tree_result view c.exchange_one_over-reply.result) c.needs_refresh_by-self.ensures _ c.requires.placed.place _
+    (by_asking (dispatch_of d) d.place.asking c.requires.placed.direct) c.exchange_one_over-reply.ensures.exchange _ (own_outcome c.exchange_one_over-reply.result (rw c.in_ok-reply.ensures.same at c.in_ok-reply.ensures.memory)))

@@ -1,5 +1,4 @@
-use Rattle.std.proofs.Common.{◌≡◌, ◌∙◌, ◌<◌, length, inl, inr, None, Err, refl, sym, ap}
-use Rattle.std.proofs.lemmas.List.{length-map}
+use Rattle.std.proofs.Common.{◌≡◌, ◌∙◌, inl, inr, None, Err, refl, sym, ap}
 use Rattle.std.proofs.lemmas.Result.{err_from_is_err_and}
 use Rattle.resp_core.specs.Errors.{by_cause}
 use Rattle.resp_core.specs.View.{view}
@@ -31,15 +30,12 @@ returns-in_err-outcome_in-clause-made g c =
     let p = err_from_is_err_and c.from_residual-in_err-outcome_in.result c.from_residual-in_err-outcome_in.ensures.1 in
     let memory : c.in_err-outcome_in.field-0.0 ≡ by_cause Memory = c.in_err-outcome_in.ensures.only in
     rw (p.1, p.2) (sent_there None _ _ _ c.args.cmd.now (sym c.is_no_response.ensures ∙ c.if-is_no_response.false) _ c.in_ok-dispatch.ensures.placed (c.in_ok-dispatch.ensures.node (λ k. cc k)) c.in_ok-dispatch.ensures.args _ c.in_ok-request.ensures.dispatch
-    refl refl (ap addresses c.new-2.ensures.items) _ (c.in_ok-request.ensures.log ∙ c.new.ensures.items) (tree_result view c.exchange_one-reply.result) c.needs_refresh_by-self.ensures c.exchange_one-reply.ensures.exchange _ (inl (ap Err memory)))
+    refl refl (ap addresses c.new-2.ensures.items) _ (c.in_ok-request.ensures.log ∙ c.new.ensures.items) (tree_result view c.exchange_one_over-reply.result) c.needs_refresh_by-self.ensures c.exchange_one_over-reply.ensures.exchange _ (inl (ap Err memory)))
 
 pub returns-clause-made : goal.returns-clause-made
 returns-clause-made g c =
     sent_there None _ _ _ c.args.cmd.now (sym c.is_no_response.ensures ∙ c.if-is_no_response.false) _ c.in_ok-dispatch.ensures.placed (c.in_ok-dispatch.ensures.node (λ k. cc k)) c.in_ok-dispatch.ensures.args _ c.in_ok-request.ensures.dispatch
-    refl refl (ap addresses c.new-2.ensures.items) _ (c.in_ok-request.ensures.log ∙ c.new.ensures.items) (tree_result view c.exchange_one-reply.result) c.needs_refresh_by-self.ensures c.exchange_one-reply.ensures.exchange _ (inr c.in_ok-outcome_in.ensures.outcome)
+    refl refl (ap addresses c.new-2.ensures.items) _ (c.in_ok-request.ensures.log ∙ c.new.ensures.items) (tree_result view c.exchange_one_over-reply.result) c.needs_refresh_by-self.ensures c.exchange_one_over-reply.ensures.exchange _ (inr c.in_ok-outcome_in.ensures.outcome)
 
-pub exchange_one-reply-requires-clause-within : goal.exchange_one-reply-requires-clause-within
-exchange_one-reply-requires-clause-within g c =
-    let d = c.in_ok-dispatch.dispatch in
-    let within : d.place.which < length c.args.self.now.links.nodes.items = rw length-map at c.in_ok-dispatch.ensures.placed.within in
-    rw (c.in_ok-request.ensures.dispatch, c.args.self.now.links.nodes.ok.0) within
+pub exchange_one_over-reply-requires-clause-within : goal.exchange_one_over-reply-requires-clause-within
+exchange_one_over-reply-requires-clause-within g c = rw c.in_ok-request.ensures.dispatch c.in_ok-dispatch.ensures.placed.within
