@@ -210,12 +210,34 @@ pub fn first_place_in<K: NodeLinks>(
     ensures within { IfOk result (λ p. p.which < length (K.nodes links.now)) }
 {
     match target {
-        Target::Slot(_) => first_place_over(links, alloc, slots.map(), target, strategy, picked),
+        Target::Slot(route) => place_at_slot(links, slots.map(), *route, strategy, picked),
         Target::Number(number) => {
             slots.list_nodes(alloc);
             place_of(links, slots.node_by_number(alloc, *number)?)
         }
     }
+}
+
+/// The node that serves a route, and the place of its open link.
+fn place_at_slot<K: NodeLinks>(
+    links: &K,
+    slots: &SlotMap,
+    route: Route,
+    strategy: Option<&dyn ReadRoutingStrategy>,
+    picked: &mut Vec<NodeAddress>,
+) -> Result<Place, RedisError>
+    ensures found { result ≢ Err (by_cause Memory)
+        → FindsFirst (option_map (λ s. admits s.now) strategy.entry) slots.now (at_slot route)
+        (addresses picked.old.items) (addresses picked.new.items)
+        (λ first. node_by (λ p. address p.node) result
+        ≡ node_with_link (open_links (K.nodes links.now)) first) }
+    ensures place { IfOk result
+        (λ p. IsOpenAt (K.nodes links.now) (address p.node) p.which) }
+    ensures direct { IfOk result (λ p. p.asking ≡ false) }
+    ensures within { IfOk result (λ p. p.which < length (K.nodes links.now)) }
+{
+    let node = node_at_slot(slots, route, strategy, picked)?;
+    place_of(links, node)
 }
 
 /// A node, and the place of its open link.
