@@ -451,7 +451,7 @@ impl<L: ConnectionLike + Drop> ClusterClient<L> {
             ≡ link_at (whole L.seen self.now).nodes (address node.now) }
     {
         match self.links.place_of(node) {
-            Some(which) => Some(&self.links.as_slice()[which].1),
+            Some(which) => Some(self.links.link(which)),
             None => None,
         }
     }

@@ -1,8 +1,8 @@
 //! Links whose table, where there is one, has the address of each of them.
-ghost use Rattle.std.specs.Prelude.{◌≡◌, ◌<◌, ◌++◌, ◌∷◌, [], None, Some, is_some, not, vec_len, IfSome, OnErr, OnOk};
+ghost use Rattle.std.specs.Prelude.{◌≡◌, ◌<◌, ◌++◌, ◌∷◌, [], None, Some, is_some, not, option_map, slice_get, vec_len, IfSome, OnErr, OnOk};
 ghost use Rattle.resp_core.specs.View.{view};
 ghost use Rattle.cluster_routing.specs.Seen.{address};
-ghost use Rattle.cluster_calls.specs.Links.World.{nodes, place_at, has_repeats, addresses_of, Calls, Called, one_reply, tree_result, tree_results};
+ghost use Rattle.cluster_calls.specs.Links.World.{Node, nodes, place_at, has_repeats, addresses_of, Calls, Called, one_reply, tree_result, tree_results};
 
 use crate::links::{Links, Told, called, called_one, replaced};
 use crate::node_links::NodeLinks;
@@ -82,6 +82,15 @@ impl<L: ConnectionLike> KnownLinks<L> {
         ensures { result.now ≡ self.now.nodes.items }
     {
         self.links.nodes.as_slice()
+    }
+
+    /// The link at this place.
+    pub fn link(&self, which: usize) -> &L
+        requires { which < vec_len self.now.nodes }
+        ensures { option_map (λ (node : Node). node.link) (slice_get (nodes L.seen self.now.nodes.items) which)
+            ≡ Some (L.seen result.now) }
+    {
+        &self.links.nodes[which].1
     }
 
     /// Puts a link in the place of the one that stands there, which is handed back.
