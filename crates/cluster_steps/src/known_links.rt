@@ -1,8 +1,7 @@
 //! Links whose table, where there is one, has the address of each of them.
 ghost use Rattle.std.specs.Prelude.{◌≡◌, ◌<◌, ◌++◌, ◌∷◌, [], None, Some, is_some, not, option_map, slice_get, vec_len, IfSome, OnErr, OnOk};
-ghost use Rattle.resp_core.specs.View.{view};
 ghost use Rattle.cluster_routing.specs.Seen.{address};
-ghost use Rattle.cluster_calls.specs.Links.World.{Node, nodes, place_at, has_repeats, addresses_of, Calls, Called, one_reply, tree_result, tree_results};
+ghost use Rattle.cluster_calls.specs.Links.World.{Node, nodes, place_at, has_repeats, addresses_of, Calls};
 
 use crate::links::{Links, Told, called, called_one, replaced};
 use crate::node_links::NodeLinks;
