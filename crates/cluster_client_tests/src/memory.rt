@@ -318,7 +318,6 @@ fn number_of(outcome: Result<Value, RedisError>) -> i64 {
     }
 }
 
-// Does without 1 of its requests: room for all nodes at once.
 #[test]
 fn fan_out(rt: HostRuntime) -> Result<(), Fail> {
     let alloc = rt.alloc();
@@ -649,7 +648,6 @@ fn links_once<R: Abort + Print>(rt: &R, alloc: Global, client: &mut Client) -> R
     Ok(())
 }
 
-// Does without 1 of its requests: room for all nodes at once.
 #[test]
 fn new_link(rt: HostRuntime) -> Result<(), Fail> {
     let alloc = rt.alloc();
