@@ -1,7 +1,6 @@
--- Whose order can be seen: commands that share a slot. Source: the Redis Cluster specification, in which all
--- keys of a request have one slot, and each key has one.
-use Rattle.std.specs.Prelude.{ℕ, Bool, true, ◌==◌, List, [], filter_map, Option, Some, None, Result, Ok, Err}
-use Rattle.std.specs.List.{list_any}
+-- The slots of a command. Source: the Redis Cluster specification, in which all keys of a request have one
+-- slot, and each key has one.
+use Rattle.std.specs.Prelude.{ℕ, List, [], filter_map, Option, Some, None, Result, Ok, Err}
 use Rattle.resp_core.specs.Errors.{Refusal}
 use Rattle.resp_args.specs.Command.{Command}
 use Rattle.cluster_calls.specs.Calls.Parts.{Part, Target, at_slot, parts_of}
@@ -21,9 +20,3 @@ slots_by (Err refusal) = []
 -- the slots of a command's keys: of a split one all of them; none where its keys are not known
 abbrev pub slots_of : Command → List ℕ
 slots_of command = slots_by (parts_of [] command 0)
-
--- commands with these slots share one; one without slots may share any
-abbrev pub overlap : List ℕ → List ℕ → Bool
-overlap [] others = true
-overlap slots [] = true
-overlap slots others = list_any (λ slot. list_any (λ other. other == slot) others) slots

@@ -5,7 +5,8 @@ ghost use Rattle.resp_args.specs.Packed.{packed, sent};
 ghost use Rattle.cluster_routing.specs.Info.{shown_parts};
 ghost use Rattle.cluster_steps.specs.CodeParts.{route_target, targets_in};
 ghost use Rattle.cluster_steps.specs.FirstPlaces.{target_of};
-ghost use Rattle.cluster_servers.specs.Slots.{overlap, slot_at, slots_of};
+ghost use Rattle.cluster_servers.specs.Slots.{slot_at, slots_of};
+ghost use Rattle.proxy_core.specs.Slots.{overlap};
 
 use cluster_routing::Route;
 use cluster_steps::route::{Target, Targets, targets_of};
@@ -128,11 +129,24 @@ impl Bytes for GuestCommand {
 }
 
 impl Command for GuestCommand {
-    ghost use Rattle.cluster_servers.specs.Slots.{overlap, slots_of};
+    ghost use Rattle.std.specs.Prelude.{refl};
+    ghost use Rattle.cluster_servers.specs.Slots.{slots_of};
+    ghost use Rattle.proxy_core.specs.Slots.{overlap};
 
     ghost overlaps = { λ c later. overlap (slots_of c.command) (slots_of later.command) };
 
+    ghost slots = { λ c. slots_of c.command };
+
+    ghost overlaps_by_slots = { λ a b. refl };
+
     fn overlaps(&self, later: &GuestCommand) -> bool {
         overlap(&self.slots, &later.slots)
+    }
+
+    fn slot(&self, index: usize) -> Option<u64> {
+        match self.slots.get(index) {
+            Some(slot) => Some(u64::from(*slot)),
+            None => None,
+        }
     }
 }

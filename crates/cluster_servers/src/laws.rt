@@ -2,7 +2,7 @@
 ghost use Rattle.cluster_servers.specs.Asked.{FatesOfOneCommand, FatesOfSeveral};
 
 /// Of each command of a batch that went out as one pipeline its fate is what the log shows: where it was sent
-/// on or not asked it was not done.
+/// on it was not done.
 pub fn fates_of_several()
     ensures { FatesOfSeveral }
 {}

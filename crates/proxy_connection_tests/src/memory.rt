@@ -55,6 +55,7 @@ fn write_out<R: Print>(
     Ok(())
 }
 
+// Does without 1 of its requests: without the list of the overtaken, the queue is looked through.
 #[test]
 fn a_guest_reads_the_same_whichever_request_is_refused(rt: HostRuntime) -> Result<(), Fail> {
     let alloc = rt.alloc();

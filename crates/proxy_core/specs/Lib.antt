@@ -1,5 +1,8 @@
 pub mod Fates
+pub mod Slots
+pub mod Done
 pub mod Queue
+pub mod Verdicts
 pub mod Batch
 pub mod Guests
 pub mod State

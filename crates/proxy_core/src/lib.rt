@@ -5,6 +5,7 @@
 
 mod calls;
 mod command;
+mod done;
 mod guest;
 mod guests;
 mod laws;
@@ -15,6 +16,7 @@ mod queue;
 mod refusal;
 mod run;
 mod servers;
+mod verdicts;
 
 pub use command::{Bytes, Command};
 pub use laws::{asks_once, each_sees_its_own, keeps_order, stays_within};

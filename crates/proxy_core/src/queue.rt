@@ -1,11 +1,13 @@
 //! What a proxy holds of one guest.
-ghost use Rattle.std.specs.Prelude.{◌≡◌, ◌≤◌, ◌<◌, ◌+◌, ◌++◌, ◌∷◌, [], take, drop, length, is_some, if◌then◌else◌};
+ghost use Rattle.std.specs.Prelude.{◌≡◌, ◌≤◌, ◌<◌, ◌+◌, ◌++◌, ◌∷◌, ◌⊎◌, [], take, drop, length, is_some, if◌then◌else◌};
 ghost use Rattle.proxy_core.specs.Fates.{may_be_done};
 ghost use Rattle.proxy_core.specs.Guests.{entry_bytes};
 ghost use Rattle.proxy_core.specs.Queue.{LeavesFirst, first_reply, overtaken, settled, waiting};
+ghost use Rattle.proxy_core.specs.Verdicts.{MayTell, verdicts};
 
 use crate::command::{Bytes, Command};
 use crate::outcome::{Fate, Outcome};
+use crate::verdicts::told_verdicts;
 use std::collections::VecDeque;
 
 /// One command of a guest, in its place.
@@ -29,8 +31,8 @@ impl<C: Bytes, V: Bytes> Entry<C, V> {
     }
 }
 
-// Whether a command with this fate may have been done.
-fn may_be_done(fate: Fate) -> bool
+/// Whether a command with this fate may have been done.
+pub(crate) fn may_be_done(fate: Fate) -> bool
     ensures { result ≡ may_be_done fate }
 {
     match fate {
@@ -67,22 +69,52 @@ fn is_overtaken<C: Command, V>(
     false
 }
 
+// Whether a command that was not done was overtaken: as the next verdict says, of those that the first such
+// command asks for, or by a look at all behind it where none can be told.
+fn next_verdict<C: Command, V>(
+    told: &mut Vec<bool>,
+    command: &C,
+    behind: &VecDeque<Entry<C, V>>,
+    count: usize,
+    outcomes: &VecDeque<Outcome<V>>,
+) -> bool
+    requires counted { count ≤ length behind.now.items }
+    requires told { (told.old.items ≡ []) ⊎ (told.old.items
+        ≡ verdicts C.overlaps (take count behind.now.items) outcomes.now.items
+        ++ overtaken C.overlaps command.now (take count behind.now.items) outcomes.now.items ∷ []) }
+    ensures verdict { result
+        ≡ overtaken C.overlaps command.now (take count behind.now.items) outcomes.now.items }
+    ensures told { MayTell C.overlaps told.new.items (take count behind.now.items) outcomes.now.items }
+{
+    if told.is_empty() {
+        *told = told_verdicts(command, behind, count, outcomes);
+    }
+    match told.pop() {
+        Some(verdict) => verdict,
+        None => is_overtaken(command, behind, count, outcomes),
+    }
+}
+
 // What becomes of a command that waits, with `count` entries behind it.
 fn settle_one<C: Command, V: Drop>(
     command: C,
     behind: &VecDeque<Entry<C, V>>,
     count: usize,
     outcomes: &mut VecDeque<Outcome<V>>,
+    told: &mut Vec<bool>,
 ) -> Entry<C, V>
-    requires { count ≤ length behind.now.items }
+    requires counted { count ≤ length behind.now.items }
+    requires told { MayTell C.overlaps told.old.items (Entry.Waits command ∷ take count behind.now.items)
+        outcomes.old.items }
     ensures next { outcomes.new.items ≡ drop 1 outcomes.old.items }
     ensures entry { LeavesFirst C.overlaps command (take count behind.now.items)
         outcomes.old.items outcomes.new.items result }
+    ensures told { MayTell C.overlaps told.new.items (take count behind.now.items) outcomes.new.items }
 {
     let Some(outcome) = outcomes.pop_front() else {
         return Entry::Waits(command);
     };
-    if may_be_done(outcome.fate) || is_overtaken(&command, behind, count, outcomes) {
+    if may_be_done(outcome.fate) || next_verdict(told, &command, behind, count, outcomes) {
         Entry::Reads(outcome.reply)
     } else {
         Entry::Waits(command)
@@ -98,12 +130,19 @@ pub(crate) fn settle<C: Command, V: Drop>(
     ensures outcomes { outcomes.new.items ≡ drop (length (waiting entries.old.items)) outcomes.old.items }
 {
     let count = entries.len();
+    let mut told = Vec::new(*entries.allocator());
     'entries: for i in 0..count {
         let Some(entry) = entries.pop_front() else {
             break;
         };
         let left = match entry {
-            Entry::Waits(command) => settle_one(command, entries, count - 1 - i, outcomes),
+            Entry::Waits(command) => settle_one(
+                command,
+                entries,
+                count - 1 - i,
+                outcomes,
+                &mut told,
+            ),
             Entry::Reads(reply) => Entry::Reads(reply),
         };
         entries.push_back_reserved(left);

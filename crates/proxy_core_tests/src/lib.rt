@@ -2,6 +2,12 @@
 #![tactic(auto)]
 
 #[cfg(test)]
+mod keys;
+#[cfg(test)]
+mod memory;
+#[cfg(test)]
+mod mixed;
+#[cfg(test)]
 mod moving;
 #[cfg(test)]
 mod runs;

@@ -1,5 +1,6 @@
 //! Servers that tell one key's commands another fate for a while.
-ghost use Rattle.std.specs.Prelude.{◌==◌};
+ghost use Rattle.std.proofs.Common.{rules};
+ghost use Rattle.std.specs.Prelude.{◌==◌, ◌∷◌, []};
 
 use proxy_core::{Asked, Bytes, Command, Fate, Outcome, Servers};
 use std::alloc::{AllocError, Global};
@@ -21,8 +22,20 @@ impl Bytes for OnKey {
 impl Command for OnKey {
     ghost overlaps = { λ a b. a.key == b.key };
 
+    ghost slots = { λ command. command.key ∷ [] };
+
+    ghost overlaps_by_slots = { λ a b. Prim.search rules };
+
     fn overlaps(&self, later: &OnKey) -> bool {
         self.key == later.key
+    }
+
+    fn slot(&self, index: usize) -> Option<u64> {
+        if index == 0 {
+            Some(u64::from(self.key))
+        } else {
+            None
+        }
     }
 }
 

@@ -1,5 +1,6 @@
 //! Guests that ask at keys, and servers that send the commands of one key on, once.
-ghost use Rattle.std.specs.Prelude.{◌==◌};
+ghost use Rattle.std.proofs.Common.{rules};
+ghost use Rattle.std.specs.Prelude.{◌==◌, ◌∷◌, []};
 
 use proxy_connection::Translator;
 use proxy_core::{Asked, Bytes, Command, Entry, Fate, Outcome, Servers};
@@ -23,8 +24,20 @@ impl Bytes for OnKey {
 impl Command for OnKey {
     ghost overlaps = { λ a b. a.key == b.key };
 
+    ghost slots = { λ command. command.key ∷ [] };
+
+    ghost overlaps_by_slots = { λ a b. Prim.search rules };
+
     fn overlaps(&self, later: &OnKey) -> bool {
         self.key == later.key
+    }
+
+    fn slot(&self, index: usize) -> Option<u64> {
+        if index == 0 {
+            Some(u64::from(self.key))
+        } else {
+            None
+        }
     }
 }
 

@@ -1,6 +1,7 @@
 //! What a guest asks of the cluster.
-ghost use Rattle.std.specs.Prelude.{◌≡◌};
-ghost use Rattle.cluster_servers.specs.Slots.{overlap, slots_of};
+ghost use Rattle.std.specs.Prelude.{◌≡◌, refl};
+ghost use Rattle.cluster_servers.specs.Slots.{slots_of};
+ghost use Rattle.proxy_core.specs.Slots.{overlap};
 
 use crate::block::Block;
 use crate::way::{Way, argument_count, is_word};
@@ -127,7 +128,15 @@ impl Command for Ask {
     // One that is asked by itself has no slot of its own, and so overlaps each.
     ghost overlaps = { λ a b. overlap (slots_of a.command.command) (slots_of b.command.command) };
 
+    ghost slots = { λ ask. slots_of ask.command.command };
+
+    ghost overlaps_by_slots = { λ a b. refl };
+
     fn overlaps(&self, later: &Ask) -> bool {
         self.command.overlaps(&later.command)
+    }
+
+    fn slot(&self, index: usize) -> Option<u64> {
+        self.command.slot(index)
     }
 }
