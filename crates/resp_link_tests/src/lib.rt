@@ -8,4 +8,6 @@ mod links;
 #[cfg(test)]
 mod over_std;
 #[cfg(test)]
+mod two_calls;
+#[cfg(test)]
 mod values;
