@@ -2,3 +2,4 @@ pub mod LinkLaws
 pub mod ServerLaws
 pub mod LogLaws
 pub mod MixedPlay
+pub mod EachPlay

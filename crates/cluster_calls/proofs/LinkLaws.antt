@@ -11,6 +11,7 @@ pub mod OpenLinks
 pub mod EventLists
 pub mod LinkCalls
 pub mod MovedLaws
+pub mod PlainAnswers
 pub mod Played
 pub mod AnyStrategy
 pub mod PlayedRuns
@@ -35,3 +36,6 @@ pub mod Told
 pub mod AttemptCalls
 pub mod AttemptLoop
 pub mod Transacted
+pub mod EachPlans
+pub mod EachFaults
+pub mod EachCall

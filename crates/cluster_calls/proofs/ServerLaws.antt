@@ -14,6 +14,13 @@ pub mod Grouping
 pub mod Orders
 pub mod PartCall
 pub mod Pipes
+pub mod NoErrors
+pub mod ReplyOutcomes
+pub mod OnePosition
+pub mod PositionOutcomes
+pub mod PositionsAsked
+pub mod Positions
+pub mod PipeOrder
 pub mod ReadParts
 pub mod ReadRows
 pub mod ReadCall

@@ -16,4 +16,5 @@ pub mod Answer
 pub mod After
 pub mod Each
 pub mod EachInParts
+pub mod InParts
 pub mod Transactions

@@ -26,3 +26,9 @@ pub mod MixedPlay
 pub mod ClosedLinks
 pub mod Transactions
 pub mod AsOneRuns
+pub mod EachRuns
+pub mod EachSplits
+pub mod WrongEach
+pub mod MixedEach
+pub mod EachPlay
+pub mod WrongEachCounts

@@ -4,7 +4,7 @@ ghost use Rattle.cluster_calls.specs.Links.Leaves.{UnaskedNodesStay};
 ghost use Rattle.cluster_calls.specs.OneServer.AmongOthers.{AnswersAmongOthers, UnsplitRunsStay};
 ghost use Rattle.cluster_calls.specs.OneServer.Bounds.{CallsAreBounded, PlaysAreBounded};
 ghost use Rattle.cluster_calls.specs.OneServer.ClosedLinks.{ClosedLinksChangeNothing};
-ghost use Rattle.cluster_calls.specs.OneServer.Fates.{EachPositionHasItsFate, OutcomesMakeTheAnswer, PartsGoWhole, WholesStayWhole};
+ghost use Rattle.cluster_calls.specs.OneServer.Fates.{EachIsACall, EachPositionHasItsFate, OutcomesMakeTheAnswer, PartsGoWhole, WholesStayWhole};
 ghost use Rattle.cluster_calls.specs.OneServer.Headline.{AnswersAndKeyspace, Refusals};
 ghost use Rattle.cluster_calls.specs.OneServer.Laws.{HistoriesAreBySlot, EachPartIsAnsweredOnce, GapsNameNoKey, JoinIsTheWhole, NodesKeepHistories, NodesOnceAscending, OneServerIsDetermined, OnlyRedirectsRepeat, PartsKeepHistories, RequestsAreBounded, RunsAgree};
 ghost use Rattle.cluster_calls.specs.OneServer.OneCall.{OneCallAmongOthers, OneCallAsOnOneServer, RepliesDetermineLogs};
@@ -18,6 +18,7 @@ ghost use Rattle.cluster_calls.specs.OneServer.Respelling.{RespelledRuns};
 ghost use Rattle.cluster_calls.specs.OneServer.SentLists.{NoOtherLists};
 ghost use Rattle.cluster_calls.specs.OneServer.Stretches.{RunsHaveStretches};
 ghost use Rattle.cluster_calls.specs.OneServer.TransactionLaws.{AttemptsAreBounded, OnlyNotDoneIsSentAgain};
+ghost use Rattle.cluster_calls.specs.WholeCalls.EachPlay.{EachIsPlayedWhole};
 ghost use Rattle.cluster_calls.specs.WholeCalls.MixedPlay.{FourArePlayedWhole};
 
 /// A call leaves the links of all nodes that its log does not name, also where memory is refused.
@@ -188,6 +189,12 @@ pub fn four_are_played_whole()
     ensures { FourArePlayedWhole }
 {}
 
+/// A run in which a pipeline tells of each position, of which one is answered, one is redirected, one is
+/// lost and one is half done, is played over an honest cluster, and is as on one server.
+pub fn each_is_played_whole()
+    ensures { EachIsPlayedWhole }
+{}
+
 /// Replies to reads of streams that are spelled in another shape change nothing of a run.
 pub fn respelled_runs()
     ensures { RespelledRuns }
@@ -229,10 +236,15 @@ pub fn promised_plays()
     ensures { PromisedPlays }
 {}
 
-/// What a pipeline that tells of each position ensures lets its caller know of each whether it was done,
+/// What a pipeline that tells of each position ensures lets its caller know of each whether it was answered,
 /// was not done, or may have been done, also where memory is refused.
 pub fn each_position_has_its_fate()
     ensures { EachPositionHasItsFate }
+{}
+
+/// What a pipeline that tells of each position ensures makes it a call of which all laws of calls hold.
+pub fn each_is_a_call()
+    ensures { EachIsACall }
 {}
 
 /// Where each command of a pipeline goes to slots, what stands in it for a split one goes out whole.
@@ -245,7 +257,7 @@ pub fn wholes_stay_whole()
     ensures { WholesStayWhole }
 {}
 
-/// The one answer to a pipeline is a function of the outcomes of its positions.
+/// Where no link call failed, the one answer to a pipeline is a function of the outcomes of its positions.
 pub fn outcomes_make_the_answer()
     ensures { OutcomesMakeTheAnswer }
 {}

@@ -10,7 +10,7 @@ use Rattle.resp_link.specs.Replies.{replies_of}
 use Rattle.cluster_routing.specs.Address.{Address}
 use Rattle.cluster_calls.specs.Calls.Redirects.{Hop}
 use Rattle.cluster_calls.specs.Calls.Transactions.{attempt, exec_reply, lost_refusal, replies_in, size, without_asking}
-use Rattle.cluster_calls.specs.Links.Events.{Event, Ending, answers, fails, lacks_memory, EndsBy, LinkCalled, AllTo, AgreesAt, exchanges_at, is_answer_ending, is_memory_ending, pair_up, reply_count}
+use Rattle.cluster_calls.specs.Links.Events.{Event, Ending, answers, fails, EndsBy, LinkCalled, AllTo, AgreesAt, exchanges_at, is_answer_ending, is_memory_ending, pair_up, reply_count}
 use Rattle.cluster_calls.specs.Links.Exchanges.{Exchanges, not_begun, made}
 use Rattle.cluster_calls.specs.Links.Faults.{LinkFault, refusal_by_fault}
 use Rattle.cluster_calls.specs.Links.Log.{Exchange, is_moved, is_moved_reply}
@@ -169,20 +169,19 @@ module _ (old new : List Node) (hop : Hop) (commands : List (List (List ℕ))) w
       let told : length trees ≡ size commands = o.told in
       ap (λ rs. replies_in (pair_up rs place (attempt hop commands))) p.1.1 ∙ attempt_heard hop commands p.1.0 trees place (omega (arith, l, all, count, told)) told
 
-  few_taken : (e : Refusal) (taken : List Tree) (ending : Ending) (b a : Seen) → e ≢ by_cause Memory → ending_refusal ending ≡ Some e → EndsBy b a (attempt hop commands) taken ending → length (replies_of taken) < reply_count (attempt hop commands)
-  few_taken e taken (answers replies) b a m is ends = cc
-  few_taken e taken (fails fault) b a m is ends = ends_pairs b a (attempt hop commands) taken (fails fault) (some_attempt hop commands) ends
-  few_taken e taken lacks_memory b a m is ends = absurd (m (let same : e ≡ by_cause Memory = cc in same))
+  few_taken : (e : Refusal) (taken : List Tree) (ending : Ending) (b a : Seen) → ending_refusal ending ≡ Some e → EndsBy b a (attempt hop commands) taken ending → length (replies_of taken) < reply_count (attempt hop commands)
+  few_taken e taken (answers replies) b a is ends = cc
+  few_taken e taken (fails fault) b a is ends = ends_pairs b a (attempt hop commands) taken (fails fault) (some_attempt hop commands) ends
 
-  pub failed_few : (e : Refusal) → e ≢ by_cause Memory → (o : AttemptMade old new hop commands (Err e)) → length (replies_of o.taken) < reply_count (attempt hop commands)
-  failed_few e m o = few_taken e o.taken (ending_of (Err e)) o.called.before o.called.after m o.told o.called.ends
+  pub failed_few : (e : Refusal) → (o : AttemptMade old new hop commands (Err e)) → length (replies_of o.taken) < reply_count (attempt hop commands)
+  failed_few e o = few_taken e o.taken (ending_of (Err e)) o.called.before o.called.after o.told o.called.ends
 
   pub attempt_had_memory : (result : Result (List Tree) Refusal) → result ≢ Err (by_cause Memory) → (o : AttemptMade old new hop commands result) → is_memory_ending (ending_of result) ≡ false
   attempt_had_memory (Ok trees) m o = refl
   attempt_had_memory (Err e) m o = had_memory_by (ending_of (Err e)) e (λ k. m (ap Err k)) o.told
 
-  pub attempt_fault : (e : Refusal) (faults : Address → LinkFault) → e ≢ by_cause Memory → (o : AttemptMade old new hop commands (Err e)) → AgreesAt faults hop.node (ending_of (Err e)) → e ≡ refusal_by_fault (faults hop.node)
-  attempt_fault e faults m o agrees = refusal_agrees faults hop.node (ending_of (Err e)) e m o.told agrees
+  pub attempt_fault : (e : Refusal) (faults : Address → LinkFault) → (o : AttemptMade old new hop commands (Err e)) → AgreesAt faults hop.node (ending_of (Err e)) → e ≡ refusal_by_fault (faults hop.node)
+  attempt_fault e faults o agrees = refusal_agrees faults hop.node (ending_of (Err e)) e o.told agrees
 
   -- after an answered call the same links are open
   pub attempt_open : (trees : List Tree) (o : AttemptMade old new hop commands (Ok trees)) → open_links new ≡ open_links old
@@ -196,7 +195,6 @@ module _ (old new : List Node) (hop : Hop) (commands : List (List (List ℕ))) w
   not_answered : (e : Ending) (refusal : Refusal) → ending_refusal e ≡ Some refusal → is_answer_ending e ≡ false
   not_answered (answers replies) refusal is = cc
   not_answered (fails fault) refusal is = refl
-  not_answered lacks_memory refusal is = refl
 
 -- whether a link call was answered by MOVED
 abbrev pub moved_in : Result (List Tree) Refusal → Bool

@@ -8,7 +8,8 @@ use Rattle.resp_core.specs.Errors.{Refusal, by_cause}
 use Rattle.resp_core.specs.declared.errors.redis_error.Cause.TheVariants.{Memory}
 use Rattle.resp_link.specs.Replies.{replies_of}
 use Rattle.cluster_routing.specs.Address.{Address}
-use Rattle.cluster_calls.specs.Calls.Plan.{Client, unless}
+use Rattle.cluster_calls.specs.Calls.Parts.{unless}
+use Rattle.cluster_calls.specs.Calls.Plan.{Client}
 use Rattle.cluster_calls.specs.Calls.Redirects.{Hop, Next, Stays, Lost, Goes, is_going}
 use Rattle.cluster_calls.specs.Calls.Transactions.{attempt, attempt_answer, attempt_count, exec_reply, FollowsAttempts, last_answer, last_attempt, next_attempt, replies_in, sent_answer, size, unless_lost}
 use Rattle.cluster_calls.specs.Links.AttemptRuns.{AreAttempts, AttemptsAnswered, AttemptsMade, IsAttempt}
@@ -228,13 +229,13 @@ module _ (old now new : World) (commands : List (List (List ℕ))) (first : Hop)
       let flag' = flag ∙ sym (or_none now.needs_refresh) in
       loop_made (Err e) o log flag' (Err e) (λ m.
       let had : e ≢ by_cause Memory = λ k. m (ap (λ r. Err r) k) in
-      let few = failed_few now.nodes new.nodes hop commands e had o in
+      let few = failed_few now.nodes new.nodes hop commands e o in
       let x = called_event hop commands o.taken (Err e) in
       record {
         memory = memory_more (Err e) o log flag' (λ k. had (refusal_same k));
         follows = λ p. stops_here (Err e) o log flag' (λ k. had (refusal_same k)) p (ap is_going (lost_stays (client_of old).links left (replies_in (last (Err e) o log flag' p)) (last_lost (attempt hop commands) (replies_of o.taken) (p + length (log_of l.events)) few)));
         tells = λ faults agrees p.
-            ap failed_by (attempt_fault now.nodes new.nodes hop commands e faults had o (Agrees-last faults l.events x agrees))
+            ap failed_by (attempt_fault now.nodes new.nodes hop commands e faults o (Agrees-last faults l.events x agrees))
             ∙ ap (λ why. unless why (unless_lost (next_attempt (client_of old).links left (replies_in (last (Err e) o log flag' p))) (attempt_answer (replies_in (last (Err e) o log flag' p))))) (sym (lost_told faults hop.node (attempt hop commands) (replies_of o.taken) (p + length (log_of l.events)) (attempt_to hop commands) few))
             ∙ sym (told_here (Err e) o log flag' (λ k. had (refusal_same k)) faults p);
       })

@@ -235,7 +235,7 @@ module _ (old now new : World) (args : List (List ℕ)) (first : Hop) (left : �
 
     module _ (m : result ≢ Err (by_cause Memory)) where
       snoc : (p : ℕ) → exchanges_of p more_events ≡ exchanges_of p l.events ++ next_exchange p l.events (request_of hop args) (reply_in result) ∷ []
-      snoc p = exchanges-snoc p l.events (request_of hop args) o.taken result (reply_in result) (one_reply_is now.nodes new.nodes (request_of hop args) result m o)
+      snoc p = exchanges-snoc p l.events (request_of hop args) o.taken result (reply_in result) (one_reply_is now.nodes new.nodes (request_of hop args) result o)
 
       memory_more : lack_memory more_events ≡ false
       memory_more = memory-append l.events (single (request_of hop args) o.taken result ∷ []) l.memory (ap (λ b. b || false) (one_had_memory now.nodes new.nodes (request_of hop args) result m o))
@@ -260,7 +260,7 @@ module _ (old now new : World) (args : List (List ℕ)) (first : Hop) (left : �
         chain = stops (Err e) o log f m Stays (next_none (client_of old).links left) refl;
         tells = λ faults agrees p.
             let x = next_exchange p l.events (request_of hop args) None in
-            let fault : e ≡ refusal_by_fault (faults hop.node) = one_fault now.nodes new.nodes (request_of hop args) e faults (λ k. m (ap Err k)) o (Agrees-last faults l.events (single (request_of hop args) o.taken (Err e)) agrees) in
+            let fault : e ≡ refusal_by_fault (faults hop.node) = one_fault now.nodes new.nodes (request_of hop args) e faults o (Agrees-last faults l.events (single (request_of hop args) o.taken (Err e)) agrees) in
             rw (snoc (Err e) o log f m p) (
               any-append is_answered (exchanges_of p l.events) (x ∷ []) ∙ ap (λ b. b || false) (l.unanswered p),
               ap (λ t. option_and_then (λ (y : Exchange). last_refusal (client_of old) (length (exchanges_of p l.events ++ x ∷ [])) (faults y.request.node) y.reply) t) (last-snoc (exchanges_of p l.events) x) ∙ ap Some (sym fault),

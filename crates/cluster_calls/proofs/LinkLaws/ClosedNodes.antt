@@ -7,7 +7,7 @@ use Rattle.resp_core.specs.Errors.{Refusal}
 use Rattle.resp_link.specs.Call.{Seen}
 use Rattle.cluster_routing.specs.Address.{Address, same_address}
 use Rattle.cluster_routing.specs.Choice.{Strategy}
-use Rattle.cluster_calls.specs.Calls.Answer.{Answer, answer_of}
+use Rattle.cluster_calls.specs.Calls.Answer.{Answer, IsAnswerOf}
 use Rattle.cluster_calls.specs.Calls.Call.{Call}
 use Rattle.cluster_calls.specs.Calls.Legal.{IsLegalCall}
 use Rattle.cluster_calls.specs.Calls.Picks.{ArePicks}
@@ -165,7 +165,7 @@ module _ (strategy : Option Strategy) (old new : World) (call : Call) (answer : 
     logged = a.logged;
     picks = subst (λ c. ArePicks strategy c call new.picked) same a.picks;
     legal = λ place. subst (λ c. IsLegalCall c new.picked call (exchanges_of place made.happened.events)) same (a.legal place);
-    answered = λ faults agree place. a.answered faults agree place ∙ ap (λ c. answer_of c new.picked faults call (exchanges_of place made.happened.events)) same;
+    answered = λ faults agree place. subst (λ c. IsAnswerOf c new.picked faults call (exchanges_of place made.happened.events) answer) same (a.answered faults agree place);
     entries = a.entries;
     flag = a.flag;
   }
@@ -175,7 +175,7 @@ module _ (strategy : Option Strategy) (old new : World) (call : Call) (answer : 
     record {
       happened = happened;
       answered = λ had. answered (made.answered had);
-      played = λ had. played strategy (with_nodes old nodes) (with_nodes new nodes') call answer happened (answered (made.answered had));
+      played = λ told. played strategy (with_nodes old nodes) (with_nodes new nodes') call answer happened (answered (made.answered told.0)) told;
       memory = λ lacks refreshes. let l = made.memory lacks refreshes in record { entries = l.entries; flag = l.flag };
       unpicked = made.unpicked;
     },

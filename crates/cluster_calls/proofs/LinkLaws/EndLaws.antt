@@ -1,29 +1,21 @@
 -- What one link call did, from the link's own contract: what came in, how many replies, what went out, and what stayed.
-use Rattle.std.specs.Prelude.{slice_get, Some, None, zero, suc, filter, ⊤, ◌⊎◌}
+use Rattle.std.specs.Prelude.{slice_get, Some, None, zero, suc, filter, ◌⊎◌}
 use Rattle.std.specs.Io.KnownBytes.{Appends}
 use Rattle.std.proofs.Common.{◌≡◌, ◌≢◌, ℕ, ◌+◌, ◌<◌, true, false, List, [], ◌∷◌, ◌++◌, refl, sym, ap, ◌∙◌, subst, length, length-append, append-nil, inl, inr, arith}
 use Rattle.std.proofs.lemmas.Bool.{false≢true}
 use Rattle.resp_core.specs.Trees.{Tree}
-use Rattle.resp_core.specs.Errors.{Refusal, by_cause}
-use Rattle.resp_core.specs.declared.errors.redis_error.Cause.TheVariants.{Io, Memory}
+use Rattle.resp_core.specs.Errors.{Refusal}
 use Rattle.resp_core.specs.Counts.{Counts}
 use Rattle.resp_core.specs.Incoming.{Takes}
 use Rattle.resp_link.specs.Replies.{is_push, replies_of}
 use Rattle.resp_link.specs.Call.{Seen, ReadFails, at_start}
 use Rattle.cluster_calls.specs.Links.Request.{Request, bytes_of, skipped}
-use Rattle.cluster_calls.specs.Links.Faults.{LinkFault, io, grammar, refusal_by_fault}
-use Rattle.cluster_calls.specs.Links.Events.{Ending, answers, fails, lacks_memory, AnswersFrom, FailsFrom, in_sending, in_receiving, EndsBy, reply_count, is_memory_ending, is_answer_ending}
+use Rattle.cluster_calls.specs.Links.Faults.{LinkFault, refusal_by_fault}
+use Rattle.cluster_calls.specs.Links.Events.{Ending, answers, fails, AnswersFrom, FailsFrom, in_sending, in_receiving, EndsBy, reply_count, is_answer_ending}
 use Rattle.cluster_calls.specs.Links.Nodes.{Came}
 use Rattle.cluster_calls.proofs.LinkLaws.LinkEnds.{failed_closes}
 use Rattle.cluster_calls.proofs.LinkLaws.Pairing.{few_get}
 use Rattle.cluster_calls.proofs.LinkLaws.Bytes.{Came-none, came}
-
-pub fault_is_no_memory : (f : LinkFault) → refusal_by_fault f ≢ by_cause Memory
-fault_is_no_memory io e = cc
-fault_is_no_memory grammar e = cc
-
-io_is_no_memory : by_cause Memory ≢ by_cause Io
-io_is_no_memory e = cc
 
 some_counted : (qs : List Request) → qs ≢ [] → 0 < reply_count qs
 some_counted [] some = absurd (some refl)
@@ -37,8 +29,8 @@ answered_came old new bytes count taken replies a =
     subst (λ ts. Came old new ts) a.values
     (came old new _ _ reads.trees reads.reads.takes refl refl refl reads.reads.takes.same_limit refl (λ o. refl) reads.set_aside (reads.reads.takes.promise, a.contract.sent.sound.promise))
 
-read_came : (old new : Seen) (bytes : List ℕ) (count : ℕ) (refusal : Refusal) → refusal ≢ by_cause Memory → (r : ReadFails old new bytes count refusal) → Came old new r.lacks.ends.trees
-read_came old new bytes count refusal m r =
+read_came : (old new : Seen) (bytes : List ℕ) (count : ℕ) (refusal : Refusal) → (r : ReadFails old new bytes count refusal) → Came old new r.lacks.ends.trees
+read_came old new bytes count refusal r =
     let shut : new.usable ≡ false = r.closed in
     let does : Takes (at_start old) (record { left = new.left; held = r.lacks.held; counts = new.counts; allowed = r.lacks.allowed; limit = old.limit }) r.lacks.ends.trees → Came old new r.lacks.ends.trees =
     λ t. came old new _ _ r.lacks.ends.trees t refl refl refl r.limit refl (λ o. absurd (false≢true (sym shut ∙ o))) r.lacks.ends.set_aside (t.promise, r.sent.sound.promise) in
@@ -47,16 +39,15 @@ read_came old new bytes count refusal m r =
       | inr more ↦ elim more as (λ _. Came old new r.lacks.ends.trees) [ inl s ↦ does s.0.seeks.takes | inr s ↦ does s.0.takes ]
     ]
 
-pub failed_came : (old new : Seen) (bytes : List ℕ) (count : ℕ) (taken : List Tree) (refusal : Refusal) → refusal ≢ by_cause Memory → FailsFrom old new bytes count taken refusal → Came old new taken
-failed_came old new bytes count taken refusal m (in_sending s is nothing) =
+pub failed_came : (old new : Seen) (bytes : List ℕ) (count : ℕ) (taken : List Tree) (refusal : Refusal) → FailsFrom old new bytes count taken refusal → Came old new taken
+failed_came old new bytes count taken refusal (in_sending s is nothing) =
     subst (λ ts. Came old new ts) (sym nothing)
     (Came-none old new s.left s.pushes s.limit (λ o. absurd (false≢true (sym s.closed ∙ o))) (ap (λ (c : Counts). c.promise) s.counts, s.sent.counted.promise))
-failed_came old new bytes count taken refusal m (in_receiving r values) = subst (λ ts. Came old new ts) values (read_came old new bytes count refusal m r)
+failed_came old new bytes count taken refusal (in_receiving r values) = subst (λ ts. Came old new ts) values (read_came old new bytes count refusal r)
 
-pub ends_came : (old new : Seen) (qs : List Request) (taken : List Tree) (e : Ending) → is_memory_ending e ≡ false → EndsBy old new qs taken e → Came old new taken
-ends_came old new qs taken (answers replies) m h = answered_came old new (bytes_of qs) (reply_count qs) taken replies h
-ends_came old new qs taken (fails fault) m h = failed_came old new (bytes_of qs) (reply_count qs) taken (refusal_by_fault fault) (fault_is_no_memory fault) h
-ends_came old new qs taken lacks_memory m h = absurd (false≢true (sym m))
+pub ends_came : (old new : Seen) (qs : List Request) (taken : List Tree) (e : Ending) → EndsBy old new qs taken e → Came old new taken
+ends_came old new qs taken (answers replies) h = answered_came old new (bytes_of qs) (reply_count qs) taken replies h
+ends_came old new qs taken (fails fault) h = failed_came old new (bytes_of qs) (reply_count qs) taken (refusal_by_fault fault) h
 
 -- ---- how many replies
 
@@ -64,7 +55,6 @@ ends_came old new qs taken lacks_memory m h = absurd (false≢true (sym m))
 abbrev pub Pairs : List Tree → List Request → Ending → Type 0
 Pairs rs qs (answers replies) = (length rs ≡ reply_count qs) × ((dropped : List Tree) × (rs ≡ dropped ++ replies))
 Pairs rs qs (fails fault) = length rs < reply_count qs
-Pairs rs qs lacks_memory = ⊤
 
 pub answered_pairs : (old new : Seen) (bytes : List ℕ) (count : ℕ) (taken replies : List Tree) → AnswersFrom old new bytes count taken replies
     → (length (replies_of taken) ≡ count) × ((dropped : List Tree) × (replies_of taken ≡ dropped ++ replies))
@@ -76,15 +66,14 @@ answered_pairs old new bytes count taken replies a =
       (t.dropped, rest),
     )
 
-pub failed_pairs : (old new : Seen) (bytes : List ℕ) (count : ℕ) (taken : List Tree) (refusal : Refusal) → refusal ≢ by_cause Memory → 0 < count → FailsFrom old new bytes count taken refusal → length (replies_of taken) < count
-failed_pairs old new bytes count taken refusal m some (in_sending s is nothing) = subst (λ ts. length (replies_of ts) < count) (sym nothing) some
-failed_pairs old new bytes count taken refusal m some (in_receiving r values) =
+pub failed_pairs : (old new : Seen) (bytes : List ℕ) (count : ℕ) (taken : List Tree) (refusal : Refusal) → 0 < count → FailsFrom old new bytes count taken refusal → length (replies_of taken) < count
+failed_pairs old new bytes count taken refusal some (in_sending s is nothing) = subst (λ ts. length (replies_of ts) < count) (sym nothing) some
+failed_pairs old new bytes count taken refusal some (in_receiving r values) =
     subst (λ ts. length (replies_of ts) < count) values (subst (λ ts. length ts < count) (sym r.lacks.ends.rest) r.lacks.fewer)
 
 pub ends_pairs : (old new : Seen) (qs : List Request) (taken : List Tree) (e : Ending) → qs ≢ [] → EndsBy old new qs taken e → Pairs (replies_of taken) qs e
 ends_pairs old new qs taken (answers replies) some h = answered_pairs old new (bytes_of qs) (reply_count qs) taken replies h
-ends_pairs old new qs taken (fails fault) some h = failed_pairs old new (bytes_of qs) (reply_count qs) taken (refusal_by_fault fault) (fault_is_no_memory fault) (some_counted qs some) h
-ends_pairs old new qs taken lacks_memory some h = tt
+ends_pairs old new qs taken (fails fault) some h = failed_pairs old new (bytes_of qs) (reply_count qs) taken (refusal_by_fault fault) (some_counted qs some) h
 
 -- ---- what went out
 
@@ -97,21 +86,17 @@ pub ends_sends : (old new : Seen) (qs : List Request) (taken : List Tree) (e : E
 ends_sends old new qs taken (answers replies) h = h.contract.sent.written
 ends_sends old new qs taken (fails fault) (in_sending s is nothing) = inr (s.sent.front, s.sent.rest, sym s.sent.joins, s.sent.written)
 ends_sends old new qs taken (fails fault) (in_receiving r values) = inl r.sent.written
-ends_sends old new qs taken lacks_memory (in_sending s is nothing) = absurd (io_is_no_memory is)
-ends_sends old new qs taken lacks_memory (in_receiving r values) = r.sent.written
 
 -- ---- what stayed
 
 pub ends_was_open : (old new : Seen) (qs : List Request) (taken : List Tree) (e : Ending) → EndsBy old new qs taken e → old.usable ≡ true
 ends_was_open old new qs taken (answers replies) h = h.contract.was_open
 ends_was_open old new qs taken (fails fault) h = (failed_closes old new (bytes_of qs) (reply_count qs) taken (refusal_by_fault fault) h).0
-ends_was_open old new qs taken lacks_memory h = (failed_closes old new (bytes_of qs) (reply_count qs) taken (by_cause Memory) h).0
 
 -- the link is open exactly if it answered
 pub ends_usable : (old new : Seen) (qs : List Request) (taken : List Tree) (e : Ending) → EndsBy old new qs taken e → new.usable ≡ is_answer_ending e
 ends_usable old new qs taken (answers replies) h = h.contract.usable
 ends_usable old new qs taken (fails fault) h = (failed_closes old new (bytes_of qs) (reply_count qs) taken (refusal_by_fault fault) h).1
-ends_usable old new qs taken lacks_memory h = (failed_closes old new (bytes_of qs) (reply_count qs) taken (by_cause Memory) h).1
 
 failed_pushes : (old new : Seen) (bytes : List ℕ) (count : ℕ) (taken : List Tree) (refusal : Refusal) → FailsFrom old new bytes count taken refusal → new.pushes ≡ old.pushes ++ filter is_push taken
 failed_pushes old new bytes count taken refusal (in_sending s is nothing) = s.pushes ∙ sym (append-nil old.pushes) ∙ ap (λ ts. old.pushes ++ filter is_push ts) (sym nothing)
@@ -121,7 +106,6 @@ failed_pushes old new bytes count taken refusal (in_receiving r values) = r.lack
 pub ends_pushes : (old new : Seen) (qs : List Request) (taken : List Tree) (e : Ending) → EndsBy old new qs taken e → new.pushes ≡ old.pushes ++ filter is_push taken
 ends_pushes old new qs taken (answers replies) h = h.contract.takes.reads.set_aside ∙ ap (λ ts. old.pushes ++ filter is_push ts) h.values
 ends_pushes old new qs taken (fails fault) h = failed_pushes old new (bytes_of qs) (reply_count qs) taken (refusal_by_fault fault) h
-ends_pushes old new qs taken lacks_memory h = failed_pushes old new (bytes_of qs) (reply_count qs) taken (by_cause Memory) h
 
 -- ---- the replies that were told
 

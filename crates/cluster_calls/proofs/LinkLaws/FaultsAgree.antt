@@ -7,7 +7,7 @@ use Rattle.cluster_routing.specs.Address.{Address, same_address}
 use Rattle.cluster_calls.specs.Links.Request.{Request}
 use Rattle.cluster_calls.specs.Links.World.{Node, link_at, is_usable}
 use Rattle.cluster_calls.specs.Links.Faults.{LinkFault}
-use Rattle.cluster_calls.specs.Links.Events.{Event, Ending, answers, fails, lacks_memory, EndsBy, LinkCalled, Runs, AgreesAt, Agrees, faults_of, fault_by}
+use Rattle.cluster_calls.specs.Links.Events.{Event, Ending, answers, fails, EndsBy, LinkCalled, Runs, AgreesAt, Agrees, faults_of, fault_by}
 use Rattle.cluster_calls.proofs.LinkLaws.Addresses.{same_true, same_refl}
 use Rattle.cluster_calls.proofs.LinkLaws.LinkPlaces.{set_other}
 use Rattle.cluster_calls.proofs.LinkLaws.EndLaws.{ends_was_open, ends_usable}
@@ -32,12 +32,10 @@ Knows ns f xs = (a : Address) → is_usable (link_at ns a) ≡ true → f a ≡ 
 first_by : (f : Address → LinkFault) (node : Address) (e : Ending) (later : LinkFault) → f node ≡ fault_by e later → AgreesAt f node e
 first_by f node (answers replies) later h = tt
 first_by f node (fails fault) later h = h
-first_by f node lacks_memory later h = tt
 
 later_by : (b a : Seen) (qs : List Request) (taken : List Tree) (e : Ending) (k later : LinkFault) → EndsBy b a qs taken e → a.usable ≡ true → k ≡ fault_by e later → k ≡ later
 later_by b a qs taken (answers replies) k later d u h = h
 later_by b a qs taken (fails fault) k later d u h = absurd (false≢true (sym (ends_usable b a qs taken (fails fault) d) ∙ u))
-later_by b a qs taken lacks_memory k later d u h = h
 
 known_by : (old mid : List Node) (x : Event) (xs : List Event) (f : Address → LinkFault) (s : LinkCalled old mid x) → Knows old f (x ∷ xs) → (a : Address) → is_usable (link_at mid a) ≡ true
     → (b : Bool) → same_address x.node a ≡ b → f a ≡ faults_of xs a

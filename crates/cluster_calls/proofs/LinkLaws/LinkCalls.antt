@@ -8,7 +8,7 @@ use Rattle.cluster_calls.specs.Links.Request.{Request, requests_to}
 use Rattle.cluster_calls.specs.Links.World.{Node, link_at}
 use Rattle.cluster_calls.specs.Links.Leaves.{Leaves}
 use Rattle.cluster_calls.specs.Links.Events.{Event, AllTo, LinkCalled, Runs, log_of, calls_of}
-use Rattle.cluster_calls.specs.Calls.Task.{Task, slot_map_of, one_command, pipeline_of, several_nodes, one_node, read_of, transaction_of}
+use Rattle.cluster_calls.specs.Calls.Task.{Task, slot_map_of, one_command, pipeline_of, positions_of, several_nodes, one_node, read_of, transaction_of}
 use Rattle.cluster_calls.specs.Links.Nodes.{in_one, link_calls}
 use Rattle.cluster_calls.specs.Links.Chains.{IsSingle}
 use Rattle.cluster_calls.specs.Calls.OneSlot.{args_of}
@@ -93,6 +93,7 @@ attempts old new commands xs r h a =
 -- a pipeline makes one link call to a node, a transaction one for each attempt, others one for each request
 abbrev pub AreLinkCalls : Task → List Event → Type 0
 AreLinkCalls (pipeline_of entries) xs = IsDistinct same_address (map (λ (x : Event). x.node) xs)
+AreLinkCalls (positions_of entries) xs = IsDistinct same_address (map (λ (x : Event). x.node) xs)
 AreLinkCalls (transaction_of commands) xs = AllByRecursion (IsAttempt (args_of commands)) xs
 AreLinkCalls _ xs = AllByRecursion IsSingle xs
 
@@ -100,6 +101,7 @@ pub link_calls_made : (old new : List Node) (xs : List Event) (task : Task) → 
 link_calls_made old new xs (slot_map_of node) r h a = singles old new xs r h a
 link_calls_made old new xs (one_command command number order) r h a = singles old new xs r h a
 link_calls_made old new xs (pipeline_of entries) r h a = once old new xs r h a
+link_calls_made old new xs (positions_of entries) r h a = once old new xs r h a
 link_calls_made old new xs (several_nodes command) r h a = singles old new xs r h a
 link_calls_made old new xs (one_node node command) r h a = singles old new xs r h a
 link_calls_made old new xs (transaction_of commands) r h a = attempts old new (args_of commands) xs r h a

@@ -10,8 +10,8 @@ use Rattle.cluster_routing.specs.Address.{Address}
 use Rattle.cluster_calls.specs.Links.Request.{Request, bytes_of}
 use Rattle.cluster_calls.specs.Links.World.{Node, link_at, is_usable, Called, Calls}
 use Rattle.cluster_calls.specs.Links.Places.{IsOpenAt}
-use Rattle.cluster_calls.specs.Links.Faults.{LinkFault, io, grammar, refusal_by_fault}
-use Rattle.cluster_calls.specs.Links.Events.{Ending, answers, fails, lacks_memory, AnswersFrom, FailsFrom, in_sending, in_receiving, EndsBy, reply_count, AllTo, LinkCalled, AgreesAt, is_memory_ending}
+use Rattle.cluster_calls.specs.Links.Faults.{LinkFault, io, grammar, no_memory, refusal_by_fault}
+use Rattle.cluster_calls.specs.Links.Events.{Ending, answers, fails, AnswersFrom, FailsFrom, in_sending, in_receiving, EndsBy, reply_count, AllTo, LinkCalled, AgreesAt, is_memory_ending}
 use Rattle.cluster_calls.proofs.LinkLaws.LinkPlaces.{found, linked}
 
 -- an answered call
@@ -33,14 +33,13 @@ failed_closes old new bytes count taken refusal (in_receiving contract values) =
 
 abbrev pub ending_of : Result (List Tree) Refusal → Ending
 ending_of (Ok replies) = answers replies
-ending_of (Err (by_cause Memory)) = lacks_memory
+ending_of (Err (by_cause Memory)) = fails no_memory
 ending_of (Err (by_cause Parse)) = fails grammar
 ending_of (Err _) = fails io
 
 abbrev pub ending_refusal : Ending → Option Refusal
 ending_refusal (answers replies) = None
 ending_refusal (fails fault) = Some (refusal_by_fault fault)
-ending_refusal lacks_memory = Some (by_cause Memory)
 
 -- a failed call's refusal is one of three
 one_of_three : (old new : Seen) (bytes : List ℕ) (count : ℕ) (taken : List Tree) (e : Refusal) → FailsFrom old new bytes count taken e → (e ≡ by_cause Io) ⊎ (e ≡ by_cause Parse) ⊎ (e ≡ by_cause Memory)
@@ -78,16 +77,16 @@ ended_refusal old new qs offset size e whole open' called =
 -- a link call that was refused otherwise had memory
 pub had_memory_by : (e : Ending) (refusal : Refusal) → refusal ≢ by_cause Memory → ending_refusal e ≡ Some refusal → is_memory_ending e ≡ false
 had_memory_by (answers replies) refusal m is = refl
-had_memory_by (fails fault) refusal m is = refl
-had_memory_by lacks_memory refusal m is = absurd (m (let same : refusal ≡ by_cause Memory = cc in same))
+had_memory_by (fails io) refusal m is = refl
+had_memory_by (fails grammar) refusal m is = refl
+had_memory_by (fails no_memory) refusal m is = absurd (m (let same : refusal ≡ by_cause Memory = cc in same))
 
 -- and its refusal is by the fault of each function that agrees with it
-pub refusal_agrees : (faults : Address → LinkFault) (node : Address) (e : Ending) (refusal : Refusal) → refusal ≢ by_cause Memory → ending_refusal e ≡ Some refusal → AgreesAt faults node e → refusal ≡ refusal_by_fault (faults node)
-refusal_agrees faults node (answers replies) refusal m is agrees = cc
-refusal_agrees faults node (fails fault) refusal m is agrees =
+pub refusal_agrees : (faults : Address → LinkFault) (node : Address) (e : Ending) (refusal : Refusal) → ending_refusal e ≡ Some refusal → AgreesAt faults node e → refusal ≡ refusal_by_fault (faults node)
+refusal_agrees faults node (answers replies) refusal is agrees = cc
+refusal_agrees faults node (fails fault) refusal is agrees =
     let told : refusal ≡ refusal_by_fault fault = cc in
     told ∙ ap refusal_by_fault (sym agrees)
-refusal_agrees faults node lacks_memory refusal m is agrees = absurd (m (let same : refusal ≡ by_cause Memory = cc in same))
 
 -- ---- a call at an open place, among the nodes
 

@@ -12,7 +12,7 @@ use Rattle.cluster_calls.specs.Links.Request.{Request, requests_to}
 use Rattle.cluster_calls.specs.Links.Log.{exchanges, replies, has_lost, left_after_all}
 use Rattle.cluster_calls.specs.Links.World.{Node, link_at}
 use Rattle.cluster_calls.specs.Links.Faults.{io}
-use Rattle.cluster_calls.specs.Links.Events.{Event, Ending, answers, fails, lacks_memory, reply_count, pair_up, AllTo, LinkCalled, Runs, log_of, taken_of, calls_of, exchanges_at, exchanges_of, faults_of, is_memory_ending, is_answer_ending, lack_memory}
+use Rattle.cluster_calls.specs.Links.Events.{Event, Ending, answers, fails, reply_count, pair_up, AllTo, LinkCalled, Runs, log_of, taken_of, calls_of, exchanges_at, exchanges_of, faults_of, is_memory_ending, is_answer_ending, lack_memory}
 use Rattle.cluster_calls.specs.Links.Nodes.{NodeMade, NodesMade}
 use Rattle.cluster_calls.proofs.LinkLaws.Addresses.{same_true, same_refl}
 use Rattle.cluster_calls.proofs.LinkLaws.LinkPlaces.{set_same, set_other, set_addresses}
@@ -75,18 +75,18 @@ abbrev pub MadeAt : List Event → ℕ → Address → Seen → Seen → Type 0
 MadeAt xs place a before after = NodeMade before after (calls_of xs a) (taken_of xs a) (has_lost a (exchanges_of place xs)) (faults_of xs a)
 
 made_by : (old mid new : List Node) (x : Event) (xs : List Event) (place : ℕ) → LinkCalled old mid x → Runs mid new xs
-    → (a : Address) (before after : Seen) → (same_address x.node a ≡ true → is_memory_ending x.ending ≡ false) → link_at old a ≡ Some before
+    → (a : Address) (before after : Seen) → link_at old a ≡ Some before
     → ((between : Seen) → link_at mid a ≡ Some between → MadeAt xs (place + length x.requests) a between after)
     → (b : Bool) → same_address x.node a ≡ b → MadeAt (x ∷ xs) place a before after
-made_by old mid new x xs place s r a before after m f h true t =
+made_by old mid new x xs place s r a before after f h true t =
     let is : x.node ≡ a = same_true x.node a t in
     let all : AllTo a x.requests = subst (λ k. AllTo k x.requests) is s.to_node in
     let was : link_at old a ≡ Some s.before = subst (λ k. link_at old k ≡ Some s.before) is s.found in
     let now : link_at mid a ≡ Some s.after = subst (λ k. link_at mid k ≡ Some s.after) is (link_behind old mid x s) in
     let same : s.before ≡ before = cc in
     rw (t, has_lost-append a (exchanges_at place x) (exchanges_of (place + length x.requests) xs), ← same)
-    (NodeMade-append s.before s.after after a x.requests _ x.taken _ x.ending place _ _ (m t) s.some all (λ u. quiet mid new xs r a s.after now u) s.ends (h s.after now))
-made_by old mid new x xs place s r a before after m f h false t =
+    (NodeMade-append s.before s.after after a x.requests _ x.taken _ x.ending place _ _ s.some all (λ u. quiet mid new xs r a s.after now u) s.ends (h s.after now))
+made_by old mid new x xs place s r a before after f h false t =
     let there : link_at mid a ≡ Some before = ap (λ ns. link_at ns a) s.now ∙ set_other old x.node a s.after t ∙ f in
     rw (
       t,
@@ -94,34 +94,17 @@ made_by old mid new x xs place s r a before after m f h false t =
       other_lost x.node a x.requests (replies_of x.taken) place s.to_node t,
     ) (h before there)
 
--- whether a link call to this node lacked memory
-abbrev pub lacks_memory_at : Address → List Event → Bool
-lacks_memory_at a xs = list_any (λ (x : Event). same_address x.node a && is_memory_ending x.ending) xs
-
-had_at : (b m : Bool) → (b && m) ≡ false → b ≡ true → m ≡ false
-had_at true m e t = e
-had_at false m e t = absurd (false≢true t)
-
--- one node, also where another node's link call lacked memory
+-- one node
 pub made : (old new : List Node) (xs : List Event) (place : ℕ) → Runs old new xs
-    → (a : Address) (before after : Seen) → lacks_memory_at a xs ≡ false → link_at old a ≡ Some before → link_at new a ≡ Some after → MadeAt xs place a before after
-made old new [] place r a before after m f g =
+    → (a : Address) (before after : Seen) → link_at old a ≡ Some before → link_at new a ≡ Some after → MadeAt xs place a before after
+made old new [] place r a before after f g =
     let e : before ≡ after = cc in
     subst (λ s. NodeMade before s [] [] false io) e (NodeMade-none before io)
-made old new (x ∷ xs) place r a before after m f g =
-    let had = or_parts (same_address x.node a && is_memory_ending x.ending) (lacks_memory_at a xs) m in
-    made_by old r.0 new x xs place r.1 r.2 a before after (had_at (same_address x.node a) (is_memory_ending x.ending) had.0) f
-    (λ between e. made r.0 new xs (place + length x.requests) r.2 a between after had.1 e g)
+made old new (x ∷ xs) place r a before after f g =
+    made_by old r.0 new x xs place r.1 r.2 a before after f
+    (λ between e. made r.0 new xs (place + length x.requests) r.2 a between after e g)
     (same_address x.node a)
     refl
-
-nowhere_by : (b m c d : Bool) → (m || c) ≡ false → (c ≡ false → d ≡ false) → ((b && m) || d) ≡ false
-nowhere_by true m c d e h = let parts = or_parts m c e in rw parts.0 (h parts.1)
-nowhere_by false m c d e h = h (or_parts m c e).1
-
-pub lacks_nowhere : (xs : List Event) (a : Address) → lack_memory xs ≡ false → lacks_memory_at a xs ≡ false
-lacks_nowhere [] a m = refl
-lacks_nowhere (x ∷ xs) a m = nowhere_by (same_address x.node a) (is_memory_ending x.ending) (lack_memory xs) (lacks_memory_at a xs) m (λ e. lacks_nowhere xs a e)
 
 pub addresses : (old new : List Node) (xs : List Event) → Runs old new xs → map (λ (n : Node). n.address) new ≡ map (λ (n : Node). n.address) old
 addresses old new [] r = ap (λ ns. map (λ (n : Node). n.address) ns) r
@@ -129,8 +112,8 @@ addresses old new (x ∷ xs) r =
     addresses r.0 new xs r.2 ∙ ap (λ ns. map (λ (n : Node). n.address) ns) r.1.now ∙ set_addresses old x.node r.1.after
 
 -- what became of all nodes over the link calls
-pub nodes_made : (old new : List Node) (xs : List Event) (place : ℕ) → lack_memory xs ≡ false → Runs old new xs → NodesMade old new (calls_of xs) (exchanges_of place xs) (taken_of xs) (faults_of xs)
-nodes_made old new xs place m r = record { addresses = addresses old new xs r; each = λ a before after was now. made old new xs place r a before after (lacks_nowhere xs a m) was now }
+pub nodes_made : (old new : List Node) (xs : List Event) (place : ℕ) → Runs old new xs → NodesMade old new (calls_of xs) (exchanges_of place xs) (taken_of xs) (faults_of xs)
+nodes_made old new xs place r = record { addresses = addresses old new xs r; each = λ a before after was now. made old new xs place r a before after was now }
 
 -- ---- pairing
 
@@ -138,14 +121,13 @@ nodes_made old new xs place m r = record { addresses = addresses old new xs r; e
 abbrev pub Behind : List Tree → List Request → ℕ → List Tree → Type 0
 Behind rs qs place more = (pair_up (rs ++ more) place qs ≡ pair_up rs place qs) × (drop (reply_count qs) (rs ++ more) ≡ more)
 
-behind_by : (rs : List Tree) (qs : List Request) (place : ℕ) (e : Ending) (more : List Tree) → is_memory_ending e ≡ false → Pairs rs qs e → (is_answer_ending e ≡ false → more ≡ []) → Behind rs qs place more
-behind_by rs qs place (answers replies) more m p quiet = (paired_front qs rs more place (let l = p.0 in omega arith), drop_wanted rs more (reply_count qs) p.0)
-behind_by rs qs place (fails fault) more m p quiet = rw (quiet refl, append-nil) (refl, drop_short rs (reply_count qs) p)
-behind_by rs qs place lacks_memory more m p quiet = absurd (false≢true (sym m))
+behind_by : (rs : List Tree) (qs : List Request) (place : ℕ) (e : Ending) (more : List Tree) → Pairs rs qs e → (is_answer_ending e ≡ false → more ≡ []) → Behind rs qs place more
+behind_by rs qs place (answers replies) more p quiet = (paired_front qs rs more place (let l = p.0 in omega arith), drop_wanted rs more (reply_count qs) p.0)
+behind_by rs qs place (fails fault) more p quiet = rw (quiet refl, append-nil) (refl, drop_short rs (reply_count qs) p)
 
-behind : (old mid new : List Node) (x : Event) (xs : List Event) (place : ℕ) → is_memory_ending x.ending ≡ false → LinkCalled old mid x → Runs mid new xs → Behind (replies_of x.taken) x.requests place (replies_of (taken_of xs x.node))
-behind old mid new x xs place m s r =
-    behind_by (replies_of x.taken) x.requests place x.ending (replies_of (taken_of xs x.node)) m (ends_pairs s.before s.after x.requests x.taken x.ending s.some s.ends)
+behind : (old mid new : List Node) (x : Event) (xs : List Event) (place : ℕ) → LinkCalled old mid x → Runs mid new xs → Behind (replies_of x.taken) x.requests place (replies_of (taken_of xs x.node))
+behind old mid new x xs place s r =
+    behind_by (replies_of x.taken) x.requests place x.ending (replies_of (taken_of xs x.node)) (ends_pairs s.before s.after x.requests x.taken x.ending s.some s.ends)
     (λ u. ap replies_of (quiet mid new xs r x.node s.after (link_behind old mid x s) (ends_usable s.before s.after x.requests x.taken x.ending s.ends ∙ u)))
 
 left_by : (x : Event) (xs : List Event) (place : ℕ) (a : Address) (b : Bool) → same_address x.node a ≡ b → Behind (replies_of x.taken) x.requests place (replies_of (taken_of xs x.node))
@@ -156,36 +138,34 @@ left_by x xs place a true t h =
 left_by x xs place a false t h = rw t refl
 
 -- each request of the first link calls with the next reply from its node is the exchange that was made
-pub pairing_first : (old new : List Node) (xs more : List Event) (place : ℕ) → lack_memory (xs ++ more) ≡ false → Runs old new (xs ++ more) → exchanges (replies (taken_of (xs ++ more))) place (log_of xs) ≡ exchanges_of place xs
-pairing_first old new [] more place m r = refl
-pairing_first old new (x ∷ es) more place m r =
+pub pairing_first : (old new : List Node) (xs more : List Event) (place : ℕ) → Runs old new (xs ++ more) → exchanges (replies (taken_of (xs ++ more))) place (log_of xs) ≡ exchanges_of place xs
+pairing_first old new [] more place r = refl
+pairing_first old new (x ∷ es) more place r =
     let xs = es ++ more in
-    let had = had_memory x xs m in
-    let h = behind old r.0 new x xs place had.0 r.1 r.2 in
+    let h = behind old r.0 new x xs place r.1 r.2 in
     let f = replies (taken_of (x ∷ xs)) in
     let t : same_address x.node x.node ≡ true = same_refl x.node in
     let queue : f x.node ≡ replies_of x.taken ++ replies_of (taken_of xs x.node) = rw (t, filter-append) refl in
     let head : pair_up (f x.node) place x.requests ≡ exchanges_at place x = rw queue h.0 in
     let tail : exchanges (left_behind f x.node (reply_count x.requests)) (place + length x.requests) (log_of es) ≡ exchanges_of (place + length x.requests) es =
     exchanges_same (log_of es) (left_behind f x.node (reply_count x.requests)) (replies (taken_of xs)) (place + length x.requests) (λ a. left_by x xs place a (same_address x.node a) refl h)
-    ∙ pairing_first r.0 new es more (place + length x.requests) had.1 r.2 in
+    ∙ pairing_first r.0 new es more (place + length x.requests) r.2 in
     exchanges_to x.requests (log_of es) f place x.node r.1.to_node ∙ ap (λ p. p ++ exchanges (left_behind f x.node (reply_count x.requests)) (place + length x.requests) (log_of es)) head
     ∙ ap (λ q. exchanges_at place x ++ q) tail
 
 -- each request with the next reply from its node is the exchange that was made
-pub pairing : (old new : List Node) (xs : List Event) (place : ℕ) → lack_memory xs ≡ false → Runs old new xs → exchanges (replies (taken_of xs)) place (log_of xs) ≡ exchanges_of place xs
-pairing old new xs place m r =
+pub pairing : (old new : List Node) (xs : List Event) (place : ℕ) → Runs old new xs → exchanges (replies (taken_of xs)) place (log_of xs) ≡ exchanges_of place xs
+pairing old new xs place r =
     subst (λ ys. exchanges (replies (taken_of ys)) place (log_of xs) ≡ exchanges_of place xs) (append-nil xs)
-    (pairing_first old new xs [] place (ap lack_memory (append-nil xs) ∙ m) (subst (λ ys. Runs old new ys) (sym (append-nil xs)) r))
+    (pairing_first old new xs [] place (subst (λ ys. Runs old new ys) (sym (append-nil xs)) r))
 
 -- what the first link calls leave to each node's later requests
-pub left_first : (old new : List Node) (xs more : List Event) → lack_memory (xs ++ more) ≡ false → Runs old new (xs ++ more) → (a : Address) → left_after_all (replies (taken_of (xs ++ more))) (log_of xs) a ≡ replies (taken_of more) a
-left_first old new [] more m r a = refl
-left_first old new (x ∷ es) more m r a =
+pub left_first : (old new : List Node) (xs more : List Event) → Runs old new (xs ++ more) → (a : Address) → left_after_all (replies (taken_of (xs ++ more))) (log_of xs) a ≡ replies (taken_of more) a
+left_first old new [] more r a = refl
+left_first old new (x ∷ es) more r a =
     let xs = es ++ more in
-    let had = had_memory x xs m in
-    let h = behind old r.0 new x xs 0 had.0 r.1 r.2 in
+    let h = behind old r.0 new x xs 0 r.1 r.2 in
     let f = replies (taken_of (x ∷ xs)) in
     let here : (k : Address) → left_after_all f x.requests k ≡ replies (taken_of xs) k =
     λ k. left_to x.requests f x.node r.1.to_node k ∙ left_by x xs 0 k (same_address x.node k) refl h in
-    left-append x.requests (log_of es) f a ∙ left_same (log_of es) (left_after_all f x.requests) (replies (taken_of xs)) here a ∙ left_first r.0 new es more had.1 r.2 a
+    left-append x.requests (log_of es) f a ∙ left_same (log_of es) (left_after_all f x.requests) (replies (taken_of xs)) here a ∙ left_first r.0 new es more r.2 a

@@ -21,7 +21,8 @@ use Rattle.cluster_calls.specs.Links.Converted.{value_answer}
 use Rattle.cluster_calls.specs.Links.PartRuns.{ArePartResults, PartsMade, replies_with_slots, IsMadeOfParts}
 use Rattle.cluster_calls.specs.Calls.Call.{Call}
 use Rattle.cluster_calls.specs.Calls.Task.{one_command, task_of}
-use Rattle.cluster_calls.specs.Calls.Plan.{Client, Dispatch, plan, unless}
+use Rattle.cluster_calls.specs.Calls.Parts.{unless}
+use Rattle.cluster_calls.specs.Calls.Plan.{Client, Dispatch, plan}
 use Rattle.cluster_calls.specs.Calls.Picks.{ArePicks}
 use Rattle.cluster_calls.specs.Calls.Legal.{PartByPart, IsLegalCall}
 use Rattle.cluster_calls.specs.Calls.Replies.{exchange_slot, reply_or_nil, part_replies, reply_of_parts}
@@ -29,6 +30,7 @@ use Rattle.cluster_calls.specs.Calls.Refusals.{part_refusal}
 use Rattle.cluster_calls.specs.Calls.Answer.{Value, answer_in}
 use Rattle.cluster_calls.proofs.LinkLaws.FaultsAgree.{agrees}
 use Rattle.cluster_calls.proofs.LinkLaws.LinkCalls.{AreLinkCalls, link_calls_made}
+use Rattle.cluster_calls.proofs.LinkLaws.PlainAnswers.{by_task, plain_answer}
 use Rattle.cluster_calls.proofs.LinkLaws.MovedLaws.{answered_plain}
 
 -- ---- the parts' replies
@@ -105,7 +107,7 @@ module _ (strategy : Option Strategy) (old new : World) (call : Call) (command :
   happened = record {
     events = m.events;
     runs = m.runs;
-    stops = m.stops;
+    stops = λ e. m.stops;
     logged = m.logged;
     calls = λ node. link_calls_made old.nodes new.nodes m.events (task_of call) m.runs singles node;
     picks = λ some. are;
@@ -120,6 +122,8 @@ module _ (strategy : Option Strategy) (old new : World) (call : Call) (command :
   many_answered had =
       let there : reply ≢ Err (by_cause Memory) = λ e. had (ap value_answer e) in
       let a = m.answered (parts_had (sent command) ds result reply made there) in
-      answered_plain strategy old new call (value_answer reply) happened plain singles a.memory m.logged are
+      answered_plain strategy old new call (value_answer reply) happened plain singles (λ e. a.memory) m.logged are
       (λ place. legal (exchanges_of place m.events) (a.parts place))
-      (λ faults agrees place. rw (plans, task) (told call value (sent command) (client_of old) faults ds (exchanges_of place m.events) result reply (a.tells faults agrees place) made there))
+      (λ faults agrees place.
+      plain_answer (client_of old) new.picked faults call (exchanges_of place m.events) (value_answer reply) (by_task call (one_command command number order) task refl)
+      (rw (plans, task) (told call value (sent command) (client_of old) faults ds (exchanges_of place m.events) result reply (a.tells faults agrees place) made there)))

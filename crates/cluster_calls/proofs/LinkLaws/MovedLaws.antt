@@ -14,15 +14,15 @@ use Rattle.cluster_routing.specs.Lists.{IsDistinct, concat}
 use Rattle.cluster_calls.specs.Links.Request.{Request, skipped}
 use Rattle.cluster_calls.specs.Links.Log.{Exchange, is_moved, is_moved_reply, has_lost, is_unanswered}
 use Rattle.cluster_calls.specs.Links.World.{Node, World}
-use Rattle.cluster_calls.specs.Calls.Call.{Call, Refresh, Query, Ordered, Pipeline, FanOut, At, OnStreams, Transaction}
+use Rattle.cluster_calls.specs.Calls.Call.{Call, Refresh, Query, Ordered, Pipeline, Each, FanOut, At, OnStreams, Transaction}
 use Rattle.cluster_calls.specs.Calls.Task.{task_of}
 use Rattle.cluster_calls.specs.Calls.Picks.{ArePicks}
 use Rattle.cluster_calls.specs.Calls.Legal.{IsLegalCall}
 use Rattle.cluster_calls.specs.Links.Faults.{LinkFault}
-use Rattle.cluster_calls.specs.Calls.Answer.{Answer, answer_of}
+use Rattle.cluster_calls.specs.Calls.Answer.{Answer, IsAnswerOf}
 use Rattle.cluster_calls.specs.Calls.After.{map_after, flag_after, some_moved, is_moved_whole}
-use Rattle.cluster_calls.specs.Links.Events.{Event, Ending, answers, fails, lacks_memory, EndsBy, AllTo, Runs, log_of, pair_up, exchanges_at, exchanges_of, Agrees, is_memory_ending, lack_memory, is_answer_ending, answered_moved, LinkCalled}
-use Rattle.cluster_calls.specs.Links.Happened.{client_of, is_refresh, Happened, Answered}
+use Rattle.cluster_calls.specs.Links.Events.{Event, Ending, answers, fails, EndsBy, AllTo, Runs, log_of, pair_up, exchanges_at, exchanges_of, Agrees, is_memory_ending, lack_memory, is_answer_ending, answered_moved, LinkCalled}
+use Rattle.cluster_calls.specs.Links.Happened.{client_of, is_each, is_refresh, Happened, Answered}
 use Rattle.cluster_calls.specs.Links.Chains.{IsSingle}
 use Rattle.cluster_calls.specs.Calls.OneSlot.{args_of}
 use Rattle.cluster_calls.specs.Calls.Transactions.{in_sizes, size}
@@ -44,21 +44,19 @@ moved_place trees place other (q ∷ qs) = ap (λ b. is_moved_reply (slice_get t
 
 -- ---- link calls with one request each
 
-moved_single : (b a : Seen) (q : Request) (taken : List Tree) (e : Ending) (place : ℕ) → is_memory_ending e ≡ false → EndsBy b a (q ∷ []) taken e
+moved_single : (b a : Seen) (q : Request) (taken : List Tree) (e : Ending) (place : ℕ) → EndsBy b a (q ∷ []) taken e
     → (is_answer_ending e && list_any is_moved (pair_up (replies_of taken) 0 (q ∷ []))) ≡ list_any is_moved (pair_up (replies_of taken) place (q ∷ []))
-moved_single b a q taken (answers replies) place m d = moved_place (replies_of taken) 0 place (q ∷ [])
-moved_single b a q taken (fails fault) place m d = sym (ap (λ r. is_moved_reply r || false) (single_failed b a q taken fault d))
-moved_single b a q taken lacks_memory place m d = absurd (false≢true (sym m))
+moved_single b a q taken (answers replies) place d = moved_place (replies_of taken) 0 place (q ∷ [])
+moved_single b a q taken (fails fault) place d = sym (ap (λ r. is_moved_reply r || false) (single_failed b a q taken fault d))
 
-pub moved_singles : (old new : List Node) (xs : List Event) (place : ℕ) → lack_memory xs ≡ false → Runs old new xs → AllByRecursion IsSingle xs → answered_moved xs ≡ list_any is_moved (exchanges_of place xs)
-moved_singles old new [] place m r h = refl
-moved_singles old new (x ∷ xs) place m r h =
+pub moved_singles : (old new : List Node) (xs : List Event) (place : ℕ) → Runs old new xs → AllByRecursion IsSingle xs → answered_moved xs ≡ list_any is_moved (exchanges_of place xs)
+moved_singles old new [] place r h = refl
+moved_singles old new (x ∷ xs) place r h =
     let s = r.1 in
-    let had = had_memory x xs m in
     let here : (is_answer_ending x.ending && list_any is_moved (exchanges_at 0 x)) ≡ list_any is_moved (exchanges_at place x) =
-    subst (λ qs. EndsBy s.before s.after qs x.taken x.ending → (is_answer_ending x.ending && list_any is_moved (pair_up (replies_of x.taken) 0 qs)) ≡ list_any is_moved (pair_up (replies_of x.taken) place qs)) (sym h.0.1) (λ d. moved_single s.before s.after h.0.0 x.taken x.ending place had.0 d) s.ends in
+    subst (λ qs. EndsBy s.before s.after qs x.taken x.ending → (is_answer_ending x.ending && list_any is_moved (pair_up (replies_of x.taken) 0 qs)) ≡ list_any is_moved (pair_up (replies_of x.taken) place qs)) (sym h.0.1) (λ d. moved_single s.before s.after h.0.0 x.taken x.ending place d) s.ends in
     ap (λ b. b || answered_moved xs) here
-    ∙ ap (λ b. list_any is_moved (exchanges_at place x) || b) (moved_singles r.0 new xs (place + length x.requests) had.1 r.2 h.1)
+    ∙ ap (λ b. list_any is_moved (exchanges_at place x) || b) (moved_singles r.0 new xs (place + length x.requests) r.2 h.1)
     ∙ sym (any-append is_moved (exchanges_at place x) (exchanges_of (place + length x.requests) xs))
 
 -- ---- no node with two link calls
@@ -118,10 +116,9 @@ lost_uncalled old new (x ∷ xs) place r a n =
     ∙ ap (λ b. b || has_lost a (exchanges_of (place + length x.requests) xs)) (other_lost x.node a x.requests (replies_of x.taken) place r.1.to_node (swapped x.node a ∙ parts.0))
     ∙ lost_uncalled r.0 new xs (place + length x.requests) r.2 a parts.1
 
-lost_called : (b a : Seen) (node : Address) (qs : List Request) (taken : List Tree) (e : Ending) (place : ℕ) → is_memory_ending e ≡ false → (qs ≡ [] → ⊥) → AllTo node qs → EndsBy b a qs taken e → has_lost node (pair_up (replies_of taken) place qs) ≡ not (is_answer_ending e)
-lost_called b a node qs taken (answers replies) place m some all d = lost_here node qs (replies_of taken) replies place (ends_pairs b a qs taken (answers replies) some d)
-lost_called b a node qs taken (fails fault) place m some all d = some_lost node qs (replies_of taken) place all (ends_pairs b a qs taken (fails fault) some d)
-lost_called b a node qs taken lacks_memory place m some all d = absurd (false≢true (sym m))
+lost_called : (b a : Seen) (node : Address) (qs : List Request) (taken : List Tree) (e : Ending) (place : ℕ) → (qs ≡ [] → ⊥) → AllTo node qs → EndsBy b a qs taken e → has_lost node (pair_up (replies_of taken) place qs) ≡ not (is_answer_ending e)
+lost_called b a node qs taken (answers replies) place some all d = lost_here node qs (replies_of taken) replies place (ends_pairs b a qs taken (answers replies) some d)
+lost_called b a node qs taken (fails fault) place some all d = some_lost node qs (replies_of taken) place all (ends_pairs b a qs taken (fails fault) some d)
 
 or_none : (b : Bool) → (b || false) ≡ b
 or_none true = refl
@@ -137,21 +134,20 @@ lost_behind x place es (y ∷ ys) all n h =
       lost_behind x place es ys all parts.1 h.1,
     )
 
-lost_each : (old new : List Node) (xs : List Event) (place : ℕ) → lack_memory xs ≡ false → Runs old new xs → IsDistinct same_address (map (λ (x : Event). x.node) xs) → LostUnanswered (λ a. has_lost a (exchanges_of place xs)) xs
-lost_each old new [] place m r d = tt
-lost_each old new (x ∷ xs) place m r d =
+lost_each : (old new : List Node) (xs : List Event) (place : ℕ) → Runs old new xs → IsDistinct same_address (map (λ (x : Event). x.node) xs) → LostUnanswered (λ a. has_lost a (exchanges_of place xs)) xs
+lost_each old new [] place r d = tt
+lost_each old new (x ∷ xs) place r d =
     let s = r.1 in
-    let had = had_memory x xs m in
     let es = exchanges_of (place + length x.requests) xs in (
       has_lost-append x.node (exchanges_at place x) es
           ∙ ap (λ b. has_lost x.node (exchanges_at place x) || b) (lost_uncalled r.0 new xs (place + length x.requests) r.2 x.node d.0)
           ∙ or_none (has_lost x.node (exchanges_at place x))
-          ∙ lost_called s.before s.after x.node x.requests x.taken x.ending place had.0 s.some s.to_node s.ends,
-      lost_behind x place es xs s.to_node d.0 (lost_each r.0 new xs (place + length x.requests) had.1 r.2 d.1),
+          ∙ lost_called s.before s.after x.node x.requests x.taken x.ending place s.some s.to_node s.ends,
+      lost_behind x place es xs s.to_node d.0 (lost_each r.0 new xs (place + length x.requests) r.2 d.1),
     )
 
-pub moved_once : (old new : List Node) (xs : List Event) (place : ℕ) → lack_memory xs ≡ false → Runs old new xs → IsDistinct same_address (map (λ (x : Event). x.node) xs) → answered_moved xs ≡ some_moved (exchanges_of place xs)
-moved_once old new xs place m r d = moved_counted (λ a. has_lost a (exchanges_of place xs)) old new xs place r (lost_each old new xs place m r d)
+pub moved_once : (old new : List Node) (xs : List Event) (place : ℕ) → Runs old new xs → IsDistinct same_address (map (λ (x : Event). x.node) xs) → answered_moved xs ≡ some_moved (exchanges_of place xs)
+moved_once old new xs place r d = moved_counted (λ a. has_lost a (exchanges_of place xs)) old new xs place r (lost_each old new xs place r d)
 
 -- ---- an attempt at a transaction each
 
@@ -183,23 +179,22 @@ lost_any node (q ∷ qs) trees place all =
     ap (λ b. (b && is_none (slice_get trees (skipped q.asking))) || has_lost node (pair_up (drop (skipped q.asking + 1) trees) (suc place) qs)) to
     ∙ ap (λ b. is_none (slice_get trees (skipped q.asking)) || b) (lost_any node qs (drop (skipped q.asking + 1) trees) (suc place) all.1)
 
-moved_attempt : (old new : List Node) (x : Event) (place : ℕ) → is_memory_ending x.ending ≡ false → LinkCalled old new x → (is_answer_ending x.ending && list_any is_moved (exchanges_at 0 x)) ≡ is_moved_whole (exchanges_at place x)
-moved_attempt old new x place m s =
+moved_attempt : (old new : List Node) (x : Event) (place : ℕ) → LinkCalled old new x → (is_answer_ending x.ending && list_any is_moved (exchanges_at 0 x)) ≡ is_moved_whole (exchanges_at place x)
+moved_attempt old new x place s =
     ap (λ b. is_answer_ending x.ending && b) (moved_place (replies_of x.taken) 0 place x.requests)
     ∙ and_swap (is_answer_ending x.ending) (list_any is_moved (exchanges_at place x)) (list_any is_unanswered (exchanges_at place x))
-    (sym (lost_any x.node x.requests (replies_of x.taken) place s.to_node) ∙ lost_called s.before s.after x.node x.requests x.taken x.ending place m s.some s.to_node s.ends)
+    (sym (lost_any x.node x.requests (replies_of x.taken) place s.to_node) ∙ lost_called s.before s.after x.node x.requests x.taken x.ending place s.some s.to_node s.ends)
 
-moved_lists : (old new : List Node) (xs : List Event) (place : ℕ) → lack_memory xs ≡ false → Runs old new xs → answered_moved xs ≡ list_any is_moved_whole (lists_at place xs)
-moved_lists old new [] place m r = refl
-moved_lists old new (x ∷ xs) place m r =
-    let had = had_memory x xs m in
-    ap (λ b. b || answered_moved xs) (moved_attempt old r.0 x place had.0 r.1)
-    ∙ ap (λ b. is_moved_whole (exchanges_at place x) || b) (moved_lists r.0 new xs (place + length x.requests) had.1 r.2)
+moved_lists : (old new : List Node) (xs : List Event) (place : ℕ) → Runs old new xs → answered_moved xs ≡ list_any is_moved_whole (lists_at place xs)
+moved_lists old new [] place r = refl
+moved_lists old new (x ∷ xs) place r =
+    ap (λ b. b || answered_moved xs) (moved_attempt old r.0 x place r.1)
+    ∙ ap (λ b. is_moved_whole (exchanges_at place x) || b) (moved_lists r.0 new xs (place + length x.requests) r.2)
 
-moved_attempts : (old new : List Node) (commands : List (List (List ℕ))) (xs : List Event) (place : ℕ) → lack_memory xs ≡ false → Runs old new xs → AllByRecursion (IsAttempt commands) xs
+moved_attempts : (old new : List Node) (commands : List (List (List ℕ))) (xs : List Event) (place : ℕ) → Runs old new xs → AllByRecursion (IsAttempt commands) xs
     → answered_moved xs ≡ list_any is_moved_whole (in_sizes (size commands) (exchanges_of place xs))
-moved_attempts old new commands xs place m r h =
-    moved_lists old new xs place m r
+moved_attempts old new commands xs place r h =
+    moved_lists old new xs place r
     ∙ sym (ap (list_any is_moved_whole) (in_sizes_are (size commands) (lists_at place xs) (omega arith) (sized_lists commands place xs h)))
     ∙ ap (λ ys. list_any is_moved_whole (in_sizes (size commands) ys)) (together place xs)
 
@@ -210,28 +205,30 @@ plain_map (Refresh node) entries xs n = absurd (false≢true (sym n))
 plain_map (Query command number) entries xs n = refl
 plain_map (Ordered command order number) entries xs n = refl
 plain_map (Pipeline commands) entries xs n = refl
+plain_map (Each commands) entries xs n = refl
 plain_map (FanOut command) entries xs n = refl
 plain_map (At node command) entries xs n = refl
 plain_map (Transaction commands) entries xs n = refl
 plain_map (OnStreams call) entries xs n = refl
 
-plain_flag : (old new : List Node) (xs : List Event) (place : ℕ) (call : Call) (flag : Bool) → is_refresh call ≡ false → lack_memory xs ≡ false → Runs old new xs → AreLinkCalls (task_of call) xs
+plain_flag : (old new : List Node) (xs : List Event) (place : ℕ) (call : Call) (flag : Bool) → is_refresh call ≡ false → Runs old new xs → AreLinkCalls (task_of call) xs
     → (flag || answered_moved xs) ≡ flag_after flag call (exchanges_of place xs)
-plain_flag old new xs place (Refresh node) flag n m r h = absurd (false≢true (sym n))
-plain_flag old new xs place (Query command number) flag n m r h = ap (λ b. flag || b) (moved_singles old new xs place m r h)
-plain_flag old new xs place (Ordered command order number) flag n m r h = ap (λ b. flag || b) (moved_singles old new xs place m r h)
-plain_flag old new xs place (Pipeline commands) flag n m r h = ap (λ b. flag || b) (moved_once old new xs place m r h)
-plain_flag old new xs place (FanOut command) flag n m r h = ap (λ b. flag || b) (moved_singles old new xs place m r h)
-plain_flag old new xs place (At node command) flag n m r h = ap (λ b. flag || b) (moved_singles old new xs place m r h)
-plain_flag old new xs place (Transaction commands) flag n m r h = ap (λ b. flag || b) (moved_attempts old new (args_of commands) xs place m r h)
-plain_flag old new xs place (OnStreams call) flag n m r h =
-    ap (λ b. flag || b) (moved_singles old new xs place m r (stream_tasks (λ task. AreLinkCalls task xs → AllByRecursion IsSingle xs) (λ command number order a. a) (λ options streams a. a) call h))
+plain_flag old new xs place (Refresh node) flag n r h = absurd (false≢true (sym n))
+plain_flag old new xs place (Query command number) flag n r h = ap (λ b. flag || b) (moved_singles old new xs place r h)
+plain_flag old new xs place (Ordered command order number) flag n r h = ap (λ b. flag || b) (moved_singles old new xs place r h)
+plain_flag old new xs place (Pipeline commands) flag n r h = ap (λ b. flag || b) (moved_once old new xs place r h)
+plain_flag old new xs place (Each commands) flag n r h = ap (λ b. flag || b) (moved_once old new xs place r h)
+plain_flag old new xs place (FanOut command) flag n r h = ap (λ b. flag || b) (moved_singles old new xs place r h)
+plain_flag old new xs place (At node command) flag n r h = ap (λ b. flag || b) (moved_singles old new xs place r h)
+plain_flag old new xs place (Transaction commands) flag n r h = ap (λ b. flag || b) (moved_attempts old new (args_of commands) xs place r h)
+plain_flag old new xs place (OnStreams call) flag n r h =
+    ap (λ b. flag || b) (moved_singles old new xs place r (stream_tasks (λ task. AreLinkCalls task xs → AllByRecursion IsSingle xs) (λ command number order a. a) (λ options streams a. a) call h))
 
 -- so code proves its log and its answer alone
 pub answered_plain : (strategy : Option Strategy) (old new : World) (call : Call) (answer : Result Answer Refusal) (h : Happened strategy old new call) → is_refresh call ≡ false → AreLinkCalls (task_of call) h.events
-    → lack_memory h.events ≡ false → new.log ≡ log_of h.events → ArePicks strategy (client_of old) call new.picked
+    → (is_each call ≡ false → lack_memory h.events ≡ false) → new.log ≡ log_of h.events → ArePicks strategy (client_of old) call new.picked
     → ((place : ℕ) → IsLegalCall (client_of old) new.picked call (exchanges_of place h.events))
-    → ((faults : Address → LinkFault) → Agrees faults h.events → (place : ℕ) → answer ≡ answer_of (client_of old) new.picked faults call (exchanges_of place h.events))
+    → ((faults : Address → LinkFault) → Agrees faults h.events → (place : ℕ) → IsAnswerOf (client_of old) new.picked faults call (exchanges_of place h.events) answer)
     → Answered strategy old new call h.events answer
 answered_plain strategy old new call answer h n made memory logged picks legal answered = record {
   memory = memory;
@@ -240,5 +237,5 @@ answered_plain strategy old new call answer h n made memory logged picks legal a
   legal = legal;
   answered = answered;
   entries = λ place. h.map_stays n ∙ sym (plain_map call old.entries (exchanges_of place h.events) n);
-  flag = λ place. h.flag n ∙ plain_flag old.nodes new.nodes h.events place call old.needs_refresh n memory h.runs made;
+  flag = λ place. h.flag n ∙ plain_flag old.nodes new.nodes h.events place call old.needs_refresh n h.runs made;
 }

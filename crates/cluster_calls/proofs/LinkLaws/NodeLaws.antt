@@ -10,10 +10,10 @@ use Rattle.cluster_routing.specs.Lists.{concat}
 use Rattle.cluster_calls.specs.Links.Request.{Request, bytes_of}
 use Rattle.cluster_calls.specs.Links.Log.{has_lost}
 use Rattle.cluster_calls.specs.Links.Faults.{LinkFault, refusal_by_fault}
-use Rattle.cluster_calls.specs.Links.Events.{Ending, answers, fails, lacks_memory, FailsFrom, in_sending, in_receiving, EndsBy, AllTo, reply_count, pair_up, is_memory_ending, fault_by}
+use Rattle.cluster_calls.specs.Links.Events.{Ending, answers, fails, FailsFrom, in_sending, in_receiving, EndsBy, AllTo, reply_count, pair_up, fault_by}
 use Rattle.cluster_calls.specs.Links.Nodes.{LostBy, NodeMade}
 use Rattle.cluster_calls.proofs.LinkLaws.Bytes.{Appends-none, Appends-append, Came-none, Came-append, bytes_of-append, IsSentFor-cons}
-use Rattle.cluster_calls.proofs.LinkLaws.EndLaws.{fault_is_no_memory, failed_came, answered_came, Pairs, ends_pairs, ends_usable}
+use Rattle.cluster_calls.proofs.LinkLaws.EndLaws.{failed_came, answered_came, Pairs, ends_pairs, ends_usable}
 use Rattle.cluster_calls.proofs.LinkLaws.Pairing.{none_lost, some_lost}
 
 pub NodeMade-none : (s : Seen) (fault : LinkFault) → NodeMade s s [] [] false fault
@@ -71,7 +71,7 @@ NodeMade-last a b qs t f (in_sending s is nothing) = record {
   bytes = s.sent.front;
   sent = s.sent.written;
   are = ([], qs, s.sent.front, s.sent.rest, refl, sym s.sent.joins, refl);
-  came = failed_came a b (bytes_of qs) (reply_count qs) t (refusal_by_fault f) (fault_is_no_memory f) (in_sending s is nothing);
+  came = failed_came a b (bytes_of qs) (reply_count qs) t (refusal_by_fault f) (in_sending s is nothing);
   kept = λ e. absurd (false≢true (sym e));
   failed = λ e. (
     s.closed,
@@ -97,7 +97,7 @@ NodeMade-last a b qs t f (in_receiving r values) = record {
   bytes = bytes_of qs;
   sent = r.sent.written;
   are = ap bytes_of (sym (append-nil qs));
-  came = failed_came a b (bytes_of qs) (reply_count qs) t (refusal_by_fault f) (fault_is_no_memory f) (in_receiving r values);
+  came = failed_came a b (bytes_of qs) (reply_count qs) t (refusal_by_fault f) (in_receiving r values);
   kept = λ e. absurd (false≢true (sym e));
   failed = λ e. (
     r.closed,
@@ -134,10 +134,9 @@ NodeMade-err a b c qs calls t ts e l f quiet d n =
 pub lost_here : (a : Address) (qs : List Request) (rs replies : List Tree) (place : ℕ) → Pairs rs qs (answers replies) → has_lost a (pair_up rs place qs) ≡ false
 lost_here a qs rs replies place p = none_lost a qs rs place (let e = p.0 in omega arith)
 
-pub NodeMade-append : (a b c : Seen) (node : Address) (qs : List Request) (calls : List (List Request)) (t ts : List Tree) (e : Ending) (place : ℕ) (l : Bool) (f : LinkFault) → is_memory_ending e ≡ false → qs ≢ [] → AllTo node qs
+pub NodeMade-append : (a b c : Seen) (node : Address) (qs : List Request) (calls : List (List Request)) (t ts : List Tree) (e : Ending) (place : ℕ) (l : Bool) (f : LinkFault) → qs ≢ [] → AllTo node qs
     → (b.usable ≡ false → ts ≡ []) → EndsBy a b qs t e → NodeMade b c calls ts l f → NodeMade a c (qs ∷ calls) (t ++ ts) (has_lost node (pair_up (replies_of t) place qs) || l) (fault_by e f)
-NodeMade-append a b c node qs calls t ts (answers replies) place l f m some all quiet d n =
+NodeMade-append a b c node qs calls t ts (answers replies) place l f some all quiet d n =
     rw (lost_here node qs (replies_of t) replies place (ends_pairs a b qs t (answers replies) some d)) (NodeMade-ok a b c qs calls t ts replies l f d n)
-NodeMade-append a b c node qs calls t ts (fails fault) place l f m some all quiet d n =
+NodeMade-append a b c node qs calls t ts (fails fault) place l f some all quiet d n =
     rw (some_lost node qs (replies_of t) place all (ends_pairs a b qs t (fails fault) some d)) (NodeMade-err a b c qs calls t ts fault l f (quiet (ends_usable a b qs t (fails fault) d)) d n)
-NodeMade-append a b c node qs calls t ts lacks_memory place l f m some all quiet d n = absurd (false≢true (sym m))

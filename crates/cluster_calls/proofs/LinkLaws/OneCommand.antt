@@ -12,7 +12,7 @@ use Rattle.cluster_calls.specs.Links.Nodes.{link_calls}
 use Rattle.cluster_calls.specs.Links.Happened.{client_of, is_refresh, Answered, Happened, CallMade}
 use Rattle.cluster_calls.specs.Links.Run.{with_log}
 use Rattle.cluster_calls.specs.Calls.Call.{Call}
-use Rattle.cluster_calls.specs.Calls.Task.{Task, slot_map_of, one_command, pipeline_of, several_nodes, one_node, read_of, task_of, transaction_of}
+use Rattle.cluster_calls.specs.Calls.Task.{Task, slot_map_of, one_command, pipeline_of, positions_of, several_nodes, one_node, read_of, task_of, transaction_of}
 use Rattle.cluster_calls.specs.Calls.Plan.{plan}
 use Rattle.cluster_calls.specs.Calls.Picks.{ArePicks}
 use Rattle.cluster_calls.specs.Calls.Answer.{Answer}
@@ -20,6 +20,7 @@ use Rattle.cluster_calls.specs.Calls.OneSlot.{args_of}
 use Rattle.cluster_calls.specs.Calls.Transactions.{size}
 use Rattle.cluster_calls.proofs.LinkLaws.LinkCalls.{AreLinkCalls}
 use Rattle.cluster_calls.proofs.LinkLaws.MovedLaws.{answered_plain}
+use Rattle.cluster_calls.proofs.LinkLaws.PlainAnswers.{refused_answer}
 use Rattle.cluster_calls.proofs.LinkLaws.Played.{call_made}
 use Rattle.cluster_calls.proofs.LogLaws.Sizes.{in_sizes_are}
 
@@ -47,6 +48,7 @@ pub no_link_calls : (task : Task) → [] ≡ link_calls task []
 no_link_calls (slot_map_of node) = refl
 no_link_calls (one_command command number order) = refl
 no_link_calls (pipeline_of entries) = refl
+no_link_calls (positions_of entries) = refl
 no_link_calls (several_nodes command) = refl
 no_link_calls (one_node node command) = refl
 no_link_calls (transaction_of commands) = sym (in_sizes_are (size (args_of commands)) [] (omega arith) tt)
@@ -56,7 +58,7 @@ abbrev pub nothing_happened : (strategy : Option Strategy) (old new : World) (ca
 nothing_happened strategy old new call u = record {
   events = [];
   runs = u.nodes;
-  stops = tt;
+  stops = λ e. tt;
   logged = u.log;
   calls = λ node. no_link_calls (task_of call);
   picks = λ some. absurd (some u.log);
@@ -80,12 +82,14 @@ pub unsent_answered : (strategy : Option Strategy) (old new : World) (call : Cal
     → Answered strategy old new call [] (Err refusal)
 unsent_answered strategy old new call refusal n u why m =
     let told = why m in
-    answered_plain strategy old new call (Err refusal) (nothing_happened strategy old new call u) n (no_calls (task_of call)) refl u.log told.1 (λ place. rw told.0 refl) (λ faults agrees place. rw told.0 refl)
+    answered_plain strategy old new call (Err refusal) (nothing_happened strategy old new call u) n (no_calls (task_of call)) (λ e. refl) u.log told.1 (λ place. rw told.0 refl)
+    (λ faults agrees place. refused_answer (client_of old) new.picked faults call [] refusal (rw told.0 refl))
   where
     no_calls : (task : Task) → AreLinkCalls task []
     no_calls (slot_map_of node) = tt
     no_calls (one_command command number order) = tt
     no_calls (pipeline_of entries) = tt
+    no_calls (positions_of entries) = tt
     no_calls (several_nodes command) = tt
     no_calls (one_node node command) = tt
     no_calls (transaction_of commands) = tt

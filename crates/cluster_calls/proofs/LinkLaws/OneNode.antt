@@ -20,7 +20,8 @@ use Rattle.cluster_calls.specs.Calls.Answer.{Value}
 use Rattle.cluster_calls.specs.Calls.Call.{At}
 use Rattle.cluster_calls.specs.Calls.Legal.{direct}
 use Rattle.cluster_calls.specs.Calls.Picks.{ArePicks}
-use Rattle.cluster_calls.specs.Calls.Plan.{Client, Dispatch, plan, unless}
+use Rattle.cluster_calls.specs.Calls.Parts.{unless}
+use Rattle.cluster_calls.specs.Calls.Plan.{Client, Dispatch, plan}
 use Rattle.cluster_calls.specs.Calls.Replies.{unless_error, reply_error}
 use Rattle.cluster_calls.specs.Calls.Task.{one_node}
 use Rattle.cluster_calls.proofs.LinkLaws.LinkCalls.{link_calls_made}
@@ -110,7 +111,7 @@ module _ (strategy : Option Strategy) (old new : World) (node : Address) (comman
     happened = record {
       events = single q o.taken result ∷ [];
       runs = (new.nodes, o.called, refl);
-      stops = (λ lacks. refl, tt);
+      stops = λ e. (λ lacks. refl, tt);
       logged = logged;
       calls = λ a. link_calls_made old.nodes new.nodes (single q o.taken result ∷ []) (one_node node command) (new.nodes, o.called, refl) ((q, refl), tt) a;
       picks = λ some. picked;
@@ -127,15 +128,15 @@ module _ (strategy : Option Strategy) (old new : World) (node : Address) (comman
       → told result ≢ lacks → Answered strategy old new (At node command) (happened result flag logged o).events (value_answer (told result))
   answered (Ok tree) flag logged o m =
       let some : ok_reply tree ≢ lacks = λ k. cc k in
-      let got = one_reply_is old.nodes new.nodes q (Ok tree) some o in
-      answered_plain strategy old new (At node command) (value_answer (told (Ok tree))) (happened (Ok tree) flag logged o) refl ((q, refl), tt) (had (Ok tree) flag logged o some) logged picked
+      let got = one_reply_is old.nodes new.nodes q (Ok tree) o in
+      answered_plain strategy old new (At node command) (value_answer (told (Ok tree))) (happened (Ok tree) flag logged o) refl ((q, refl), tt) (λ k. had (Ok tree) flag logged o some) logged picked
       (λ place. rw (waits, linked) refl)
       (λ faults agrees place. rw (waits, linked, got) (told_value tree (reply_error tree)))
   answered (Err e) flag logged o m =
-      let got = one_reply_is old.nodes new.nodes q (Err e) m o in
-      answered_plain strategy old new (At node command) (Err e) (happened (Err e) flag logged o) refl ((q, refl), tt) (had (Err e) flag logged o m) logged picked
+      let got = one_reply_is old.nodes new.nodes q (Err e) o in
+      answered_plain strategy old new (At node command) (Err e) (happened (Err e) flag logged o) refl ((q, refl), tt) (λ k. had (Err e) flag logged o m) logged picked
       (λ place. rw (waits, linked) refl)
-      (λ faults agrees place. rw (waits, linked, got) (ap refused_by (one_fault old.nodes new.nodes q e faults (λ k. m (ap (λ r. Err r) k)) o agrees.0)))
+      (λ faults agrees place. rw (waits, linked, got) (ap refused_by (one_fault old.nodes new.nodes q e faults o agrees.0)))
 
   -- memory was refused, in the link call or for the answer, or the reply is told
   called : (result : Result Tree Refusal) → new.needs_refresh ≡ (old.needs_refresh || one_moved result) → new.log ≡ q ∷ [] → OneMade old.nodes new.nodes q result

@@ -13,7 +13,7 @@ use Rattle.cluster_calls.specs.Links.Log.{is_moved, is_moved_reply}
 use Rattle.cluster_calls.specs.Links.World.{Node, Called, Calls, one_reply, link_at, is_usable, open_links}
 use Rattle.cluster_calls.specs.Links.Places.{IsOpenAt}
 use Rattle.cluster_calls.specs.Links.Faults.{LinkFault, refusal_by_fault}
-use Rattle.cluster_calls.specs.Links.Events.{Event, Ending, answers, fails, lacks_memory, EndsBy, LinkCalled, AgreesAt, is_memory_ending, is_answer_ending, exchanges_at}
+use Rattle.cluster_calls.specs.Links.Events.{Event, Ending, answers, fails, EndsBy, LinkCalled, AgreesAt, is_memory_ending, is_answer_ending, exchanges_at}
 use Rattle.cluster_calls.specs.Links.Exchanges.{Exchanges, not_begun, made}
 use Rattle.cluster_calls.proofs.LinkLaws.LinkEnds.{ending_of, ending_refusal, ended_refusal, had_memory_by, refusal_agrees, link_called_at}
 use Rattle.cluster_calls.proofs.LinkLaws.EndLaws.{single_answered, single_failed, ends_usable, ends_was_open}
@@ -60,21 +60,20 @@ exchanged_one old new which before after q result at (made log calls) = inr (log
 
 -- ---- its reply
 
-failed_reply : (b a : Seen) (q : Request) (taken : List Tree) (e : Ending) (refusal : Refusal) → ending_refusal e ≡ Some refusal → refusal ≢ by_cause Memory → EndsBy b a (q ∷ []) taken e → slice_get (replies_of taken) (skipped q.asking) ≡ None
-failed_reply b a q taken (answers replies) refusal is m ends = cc
-failed_reply b a q taken (fails fault) refusal is m ends = single_failed b a q taken fault ends
-failed_reply b a q taken lacks_memory refusal is m ends = absurd (m (let same : refusal ≡ by_cause Memory = cc in same))
+failed_reply : (b a : Seen) (q : Request) (taken : List Tree) (e : Ending) (refusal : Refusal) → ending_refusal e ≡ Some refusal → EndsBy b a (q ∷ []) taken e → slice_get (replies_of taken) (skipped q.asking) ≡ None
+failed_reply b a q taken (answers replies) refusal is ends = cc
+failed_reply b a q taken (fails fault) refusal is ends = single_failed b a q taken fault ends
 
-pub one_reply_is : (old new : List Node) (q : Request) (result : Result Tree Refusal) → result ≢ Err (by_cause Memory) → (o : OneMade old new q result) → slice_get (replies_of o.taken) (skipped q.asking) ≡ reply_in result
-one_reply_is old new q (Ok tree) m o = single_answered o.called.before o.called.after q o.taken tree o.called.ends
-one_reply_is old new q (Err e) m o = failed_reply o.called.before o.called.after q o.taken (ending_of (Err e)) e o.refused (λ k. m (ap Err k)) o.called.ends
+pub one_reply_is : (old new : List Node) (q : Request) (result : Result Tree Refusal) → (o : OneMade old new q result) → slice_get (replies_of o.taken) (skipped q.asking) ≡ reply_in result
+one_reply_is old new q (Ok tree) o = single_answered o.called.before o.called.after q o.taken tree o.called.ends
+one_reply_is old new q (Err e) o = failed_reply o.called.before o.called.after q o.taken (ending_of (Err e)) e o.refused o.called.ends
 
 pub one_had_memory : (old new : List Node) (q : Request) (result : Result Tree Refusal) → result ≢ Err (by_cause Memory) → (o : OneMade old new q result) → is_memory_ending (ending_of (one_reply result)) ≡ false
 one_had_memory old new q (Ok tree) m o = refl
 one_had_memory old new q (Err e) m o = had_memory_by (ending_of (Err e)) e (λ k. m (ap Err k)) o.refused
 
-pub one_fault : (old new : List Node) (q : Request) (e : Refusal) (faults : Address → LinkFault) → e ≢ by_cause Memory → (o : OneMade old new q (Err e)) → AgreesAt faults q.node (ending_of (Err e)) → e ≡ refusal_by_fault (faults q.node)
-one_fault old new q e faults m o agrees = refusal_agrees faults q.node (ending_of (Err e)) e m o.refused agrees
+pub one_fault : (old new : List Node) (q : Request) (e : Refusal) (faults : Address → LinkFault) → (o : OneMade old new q (Err e)) → AgreesAt faults q.node (ending_of (Err e)) → e ≡ refusal_by_fault (faults q.node)
+one_fault old new q e faults o agrees = refusal_agrees faults q.node (ending_of (Err e)) e o.refused agrees
 
 -- after an answered call the same links are open
 pub still_open : (old new : List Node) (q : Request) (tree : Tree) (o : OneMade old new q (Ok tree)) → open_links new ≡ open_links old
@@ -89,7 +88,6 @@ still_open old new q tree o =
 not_answered : (e : Ending) (refusal : Refusal) → ending_refusal e ≡ Some refusal → is_answer_ending e ≡ false
 not_answered (answers replies) refusal is = cc
 not_answered (fails fault) refusal is = refl
-not_answered lacks_memory refusal is = refl
 
 or_false : (b : Bool) → (b || false) ≡ b
 or_false true = refl

@@ -11,13 +11,12 @@ use Rattle.cluster_calls.specs.Links.Request.{Request}
 use Rattle.cluster_calls.specs.Links.Log.{Exchange, has_lost}
 use Rattle.cluster_calls.specs.Links.World.{Node, link_at, set_link, open_links}
 use Rattle.cluster_calls.specs.Calls.After.{links_after}
-use Rattle.cluster_calls.specs.Links.Events.{Event, Ending, answers, fails, lacks_memory, EndsBy, reply_count, pair_up, AllTo, Runs, exchanges_at, exchanges_of, is_memory_ending, lack_memory}
+use Rattle.cluster_calls.specs.Links.Events.{Event, Ending, answers, fails, EndsBy, reply_count, pair_up, AllTo, Runs, exchanges_at, exchanges_of}
 use Rattle.cluster_calls.proofs.LinkLaws.Addresses.{same_true, same_refl}
 use Rattle.cluster_calls.proofs.LinkLaws.LinkPlaces.{set_open}
 use Rattle.cluster_calls.proofs.LinkLaws.Pairing.{some_lost, other_lost, has_lost-append}
 use Rattle.cluster_calls.proofs.LinkLaws.EndLaws.{ends_pairs, ends_was_open, ends_usable}
 use Rattle.cluster_calls.proofs.LinkLaws.NodeLaws.{lost_here}
-use Rattle.cluster_calls.proofs.LinkLaws.LinkRuns.{had_memory}
 
 -- ---- lists of addresses
 
@@ -100,15 +99,14 @@ lost_by node k qs rs place all few true t = sym (some_lost k qs rs place (subst 
 lost_by node k qs rs place all few false t = sym (other_lost node k qs rs place all t)
 
 links_by : (links : List Address) (node : Address) (b a : Seen) (qs : List Request) (taken : List Tree) (e : Ending) (place : ℕ) (ns : List Node) → links ≡ open_links (set_link ns node a) → link_at ns node ≡ Some b
-    → is_memory_ending e ≡ false → EndsBy b a qs taken e → (qs ≡ [] → ⊥) → AllTo node qs → links ≡ links_after (open_links ns) (pair_up (replies_of taken) place qs)
-links_by links node b a qs taken (answers replies) place ns now found m d some all =
+    → EndsBy b a qs taken e → (qs ≡ [] → ⊥) → AllTo node qs → links ≡ links_after (open_links ns) (pair_up (replies_of taken) place qs)
+links_by links node b a qs taken (answers replies) place ns now found d some all =
     now ∙ set_open ns node b a found (ends_usable b a qs taken (answers replies) d ∙ sym (ends_was_open b a qs taken (answers replies) d))
     ∙ sym (filter_agree (λ k. not (has_lost k (pair_up (replies_of taken) place qs))) (λ k. not false) (λ k. ap not (lost_here k qs (replies_of taken) replies place (ends_pairs b a qs taken (answers replies) some d))) (open_links ns) ∙ filter_all (open_links ns))
-links_by links node b a qs taken (fails fault) place ns now found m d some all =
+links_by links node b a qs taken (fails fault) place ns now found d some all =
     now ∙ shut ns node a (ends_usable b a qs taken (fails fault) d)
     ∙ filter_agree (λ k. not (same_address node k)) (λ k. not (has_lost k (pair_up (replies_of taken) place qs)))
     (λ k. ap not (lost_by node k qs (replies_of taken) place all (ends_pairs b a qs taken (fails fault) some d) (same_address node k) refl)) (open_links ns)
-links_by links node b a qs taken lacks_memory place ns now found m d some all = absurd (false≢true (sym m))
 
 -- ---- runs
 
@@ -117,11 +115,10 @@ links_append links xs ys =
     filter_twice (λ k. has_lost k xs) (λ k. has_lost k ys) links
     ∙ filter_agree (λ k. not (has_lost k xs || has_lost k ys)) (λ k. not (has_lost k (xs ++ ys))) (λ k. ap not (sym (has_lost-append k xs ys))) links
 
-pub links_behind : (old new : List Node) (xs : List Event) (place : ℕ) → lack_memory xs ≡ false → Runs old new xs → open_links new ≡ links_after (open_links old) (exchanges_of place xs)
-links_behind old new [] place m r = ap open_links r ∙ sym (filter_all (open_links old))
-links_behind old new (x ∷ xs) place m r =
+pub links_behind : (old new : List Node) (xs : List Event) (place : ℕ) → Runs old new xs → open_links new ≡ links_after (open_links old) (exchanges_of place xs)
+links_behind old new [] place r = ap open_links r ∙ sym (filter_all (open_links old))
+links_behind old new (x ∷ xs) place r =
     let s = r.1 in
-    let had = had_memory x xs m in
-    links_behind r.0 new xs (place + length x.requests) had.1 r.2
-    ∙ ap (λ ls. links_after ls (exchanges_of (place + length x.requests) xs)) (links_by (open_links r.0) x.node s.before s.after x.requests x.taken x.ending place old (ap open_links s.now) s.found had.0 s.ends s.some s.to_node)
+    links_behind r.0 new xs (place + length x.requests) r.2
+    ∙ ap (λ ls. links_after ls (exchanges_of (place + length x.requests) xs)) (links_by (open_links r.0) x.node s.before s.after x.requests x.taken x.ending place old (ap open_links s.now) s.found s.ends s.some s.to_node)
     ∙ links_append (open_links old) (exchanges_at place x) (exchanges_of (place + length x.requests) xs)

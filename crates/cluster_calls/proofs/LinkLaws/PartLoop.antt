@@ -164,9 +164,9 @@ none_lost links left hop args (x ∷ xs) f e a =
     lost_by links left x xs a (λ next. FollowsRedirects links (left - 1) next args Ends xs) (next_of links left x.reply) refl f.1 e (λ next h k. none_lost links (left - 1) next args xs h k a)
 
 -- so its links stay open
-links_stay : (old new : List Node) (events : List Event) → lack_memory events ≡ false → Runs old new events → ((a : Address) → has_lost a (exchanges_of 0 events) ≡ false) → open_links new ≡ open_links old
-links_stay old new events m r none =
-    links_behind old new events 0 m r ∙ filter_agree (λ a. not (has_lost a (exchanges_of 0 events))) (λ a. not false) (λ a. ap not (none a)) (open_links old) ∙ filter_all (open_links old)
+links_stay : (old new : List Node) (events : List Event) → Runs old new events → ((a : Address) → has_lost a (exchanges_of 0 events) ≡ false) → open_links new ≡ open_links old
+links_stay old new events r none =
+    links_behind old new events 0 r ∙ filter_agree (λ a. not (has_lost a (exchanges_of 0 events))) (λ a. not false) (λ a. ap not (none a)) (open_links old) ∙ filter_all (open_links old)
 
 abbrev HaveArgs : List (List ℕ) → List Exchange → Type 0
 HaveArgs args xs = AllByRecursion (λ (x : Exchange). x.request.args ≡ args) xs
@@ -387,7 +387,7 @@ module _ (old now new : World) (ds : List Dispatch) (d : Dispatch) (rest : List 
         replied = λ p.
             ap (λ xs. map reply_or_nil xs) (answered p) ∙ map-append reply_or_nil (filter is_answered (exchanges_of p l.events)) (filter is_answered (exchanges_of (at p) m.events))
             ∙ ap (λ ts. ts ++ map reply_or_nil (filter is_answered (exchanges_of (at p) m.events))) (l.replied p) ∙ ap (λ ts. trees ++ ts) (told (at p)).1;
-        opens = links_stay now.nodes new.nodes m.events a.memory m.runs (λ k. none_lost client.links client.settings.budget (first_hop d) d.args (exchanges_of 0 m.events) (chain 0) (told 0).0 k) ∙ l.opens;
+        opens = links_stay now.nodes new.nodes m.events m.runs (λ k. none_lost client.links client.settings.budget (first_hop d) d.args (exchanges_of 0 m.events) (chain 0) (told 0).0 k) ∙ l.opens;
         flag = flag_more (Ok tree) m;
         entries = m.entries ∙ l.entries;
         settings = m.settings ∙ l.settings;

@@ -11,7 +11,7 @@ use Rattle.cluster_calls.specs.Calls.Answer.{Value}
 use Rattle.cluster_calls.specs.Calls.Call.{Entry}
 use Rattle.cluster_calls.specs.Calls.Refusals.{errors_from, errors_refusal, pipeline_refusal, with_error}
 use Rattle.cluster_calls.specs.Calls.Replies.{not_ignored, reply_or_nil}
-use Rattle.cluster_calls.specs.Calls.Plan.{unless}
+use Rattle.cluster_calls.specs.Calls.Parts.{unless}
 use Rattle.cluster_calls.specs.Links.Converted.{value_answer}
 use Rattle.cluster_calls.specs.Links.Faults.{LinkFault, refusal_by_fault}
 use Rattle.cluster_calls.specs.Links.Log.{Exchange, is_unanswered, has_lost}

@@ -21,14 +21,16 @@ use Rattle.cluster_calls.specs.Links.World.{World}
 use Rattle.cluster_calls.specs.Calls.Answer.{Answer, Read, answer_of, call_answer}
 use Rattle.cluster_calls.specs.Calls.Call.{Stream, Call}
 use Rattle.cluster_calls.specs.Calls.Legal.{AreMade, PartByPart, IsLegalCall}
-use Rattle.cluster_calls.specs.Calls.Parts.{Part, result_then}
+use Rattle.cluster_calls.specs.Calls.Parts.{Part, result_then, unless}
 use Rattle.cluster_calls.specs.Calls.Picks.{ArePicks, ArePicksOf}
-use Rattle.cluster_calls.specs.Calls.Plan.{Client, Dispatch, call_parts, dispatches, in_order, order_of, plan, unless}
+use Rattle.cluster_calls.specs.Calls.Plan.{Client, Dispatch, call_parts, dispatches, in_order, order_of, plan}
 use Rattle.cluster_calls.specs.Calls.Reads.{key_places, read_slot, readings, read_rows}
 use Rattle.cluster_calls.specs.Calls.Refusals.{part_refusal, sent_refusal}
 use Rattle.cluster_calls.specs.Calls.Replies.{reply_or_nil}
 use Rattle.cluster_calls.specs.Calls.Task.{read_of, task_of, stream_keys, are_of_one_slot}
 use Rattle.cluster_calls.proofs.LinkLaws.LinkCalls.{AreLinkCalls, link_calls_made}
+use Rattle.cluster_calls.proofs.LinkLaws.PlainAnswers.{by_task, plain_answer}
+use Rattle.cluster_calls.proofs.LinkLaws.Played.{plain_played}
 use Rattle.cluster_calls.proofs.LinkLaws.MovedLaws.{answered_plain}
 use Rattle.cluster_calls.proofs.LinkLaws.Unpicked.{no_parts}
 
@@ -102,7 +104,7 @@ module _ (options : ReadSettings) (streams : List Stream) where
     happened = record {
       events = m.events;
       runs = m.runs;
-      stops = m.stops;
+      stops = λ e. m.stops;
       logged = m.logged;
       calls = λ node. link_calls_made old.nodes new.nodes m.events (task_of call) m.runs singles node;
       picks = λ some. are;
@@ -116,9 +118,11 @@ module _ (options : ReadSettings) (streams : List Stream) where
     pub read_answered : answer ≢ Err (by_cause Memory) → Answered strategy old new call m.events answer
     read_answered had =
         let a = m.answered (parts_had ds result answer made had) in
-        answered_plain strategy old new call answer happened plain singles a.memory m.logged are
+        answered_plain strategy old new call answer happened plain singles (λ e. a.memory) m.logged are
         (λ place. legal (exchanges_of place m.events) (a.parts place))
-        (λ faults agrees place. rw (plans, task) (told (client_of old) faults ds (exchanges_of place m.events) result answer (a.tells faults agrees place) made had))
+        (λ faults agrees place.
+        plain_answer (client_of old) new.picked faults call (exchanges_of place m.events) answer (by_task call (read_of options streams) task refl)
+        (rw (plans, task) (told (client_of old) faults ds (exchanges_of place m.events) result answer (a.tells faults agrees place) made had)))
 
 -- ---- a read that was answered without a request shows no picks
 
@@ -159,7 +163,7 @@ module _ (options : ReadSettings) (streams : List Stream) (client : Client) (pic
 pub read_unpicked : (options : ReadSettings) (streams : List Stream) (strategy : Option Strategy) (old new : World) (call : Call) → task_of call ≡ read_of options streams → (a : Answer)
     → CallMade strategy old new call (Ok a) → new.log ≡ [] → new.picked ≡ []
 read_unpicked options streams strategy old new call task a m none =
-    let p = m.played (λ k. cc k) in
+    let p = plain_played strategy old new call (Ok a) (by_task call (read_of options streams) task refl) m (λ k. cc k) in
     unsent_unpicked options streams (client_of old) new.picked call task strategy p.faults a
     (subst (λ qs. IsLegalCall (client_of old) new.picked call (log_with_replies (taken_of m.happened.events) qs)) none p.legal)
     (subst (λ qs. Ok a ≡ answer_of (client_of old) new.picked p.faults call (log_with_replies (taken_of m.happened.events) qs)) none p.answered)

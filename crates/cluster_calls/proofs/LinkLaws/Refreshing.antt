@@ -71,7 +71,7 @@ not_linked old new node shut u picks =
     let h : Happened None old new (Refresh node) = nothing_happened None old new (Refresh node) u in
     call_made None old new (Refresh node) (Err (by_cause NoLink)) h
     (λ m. record {
-      memory = refl;
+      memory = λ k. refl;
       logged = u.log;
       picks = picks;
       legal = λ place. rw shut refl;
@@ -96,7 +96,7 @@ module _ (old new : World) (node : Address) (linked : is_linked (open_links old.
     happened = record {
       events = single (slots_to node) o.taken result ∷ [];
       runs = (new.nodes, o.called, refl);
-      stops = (λ lacks. refl, tt);
+      stops = λ e. (λ lacks. refl, tt);
       logged = logged;
       calls = λ a. link_calls_made old.nodes new.nodes (single (slots_to node) o.taken result ∷ []) (slot_map_of node) (new.nodes, o.called, refl) ((slots_to node, refl), tt) a;
       picks = λ some. picks;
@@ -114,10 +114,10 @@ module _ (old new : World) (node : Address) (linked : is_linked (open_links old.
       → CallMade None old new (Refresh node) (Ok Refreshed)
   refresh_ok tree o n r f =
       let d = tree_answered tree n in
-      let got = one_reply_is old.nodes new.nodes (slots_to node) (Ok tree) (λ e. cc e) o in
+      let got = one_reply_is old.nodes new.nodes (slots_to node) (Ok tree) o in
       call_made None old new (Refresh node) (Ok Refreshed) (happened (Ok tree) o)
       (λ m. record {
-        memory = had (Ok tree) o (λ e. cc e);
+        memory = λ k. had (Ok tree) o (λ e. cc e);
         logged = logged;
         picks = picks;
         legal = λ place. rw linked refl;
@@ -136,9 +136,9 @@ module _ (old new : World) (node : Address) (linked : is_linked (open_links old.
       (λ m.
       let told = why m in
       let d = error_sort_no_data tree told.0 told.1 in
-      let got = one_reply_is old.nodes new.nodes (slots_to node) (Ok tree) (λ k. cc k) o in
+      let got = one_reply_is old.nodes new.nodes (slots_to node) (Ok tree) o in
       record {
-        memory = had (Ok tree) o (λ k. cc k);
+        memory = λ j. had (Ok tree) o (λ k. cc k);
         logged = logged;
         picks = picks;
         legal = λ place. rw linked refl;
@@ -156,13 +156,13 @@ module _ (old new : World) (node : Address) (linked : is_linked (open_links old.
       (λ m.
       let some : e ≢ by_cause Memory = λ k. m (ap refused_by k) in
       let had' : failed_by e ≢ failed_by (by_cause Memory) = λ k. some (cc k) in
-      let got = one_reply_is old.nodes new.nodes (slots_to node) (Err e) had' o in
+      let got = one_reply_is old.nodes new.nodes (slots_to node) (Err e) o in
       record {
-        memory = had (Err e) o had';
+        memory = λ k. had (Err e) o had';
         logged = logged;
         picks = picks;
         legal = λ place. rw linked refl;
-        answered = λ faults agrees place. rw (linked, got) (ap refused_by (one_fault old.nodes new.nodes (slots_to node) e faults some o agrees.0));
+        answered = λ faults agrees place. rw (linked, got) (ap refused_by (one_fault old.nodes new.nodes (slots_to node) e faults o agrees.0));
         entries = λ place. rw got r;
         flag = λ place. rw got f;
       })

@@ -1,4 +1,4 @@
--- The exchanges that are told of a run of link calls, also where one lacked memory.
+-- Which nodes are lost in a run of link calls: those whose link call failed.
 use Rattle.std.specs.Prelude.{drop, ◌&&◌, ◌||◌}
 use Rattle.std.proofs.Common.{◌≡◌, ◌≢◌, ℕ, suc, ◌+◌, Bool, true, false, cond, List, [], ◌∷◌, ◌++◌, map, length, length-append, append_assoc, Some, Err, refl, sym, ap, ◌∙◌, subst, arith}
 use Rattle.std.proofs.lemmas.Bool.{false≢true}
@@ -7,9 +7,9 @@ use Rattle.resp_core.specs.Trees.{Tree}
 use Rattle.resp_core.specs.Errors.{Refusal}
 use Rattle.resp_link.specs.Replies.{replies_of}
 use Rattle.cluster_routing.specs.Address.{Address, same_address}
-use Rattle.cluster_calls.specs.Links.EachMade.{unanswered, told_at, told_of, refusal_by, refusals_of}
-use Rattle.cluster_calls.specs.Links.Events.{Event, Ending, answers, fails, lacks_memory, EndsBy, AllTo, LinkCalled, Runs, log_of, pair_up, exchanges_at, exchanges_of, is_memory_ending, is_answer_ending, lack_memory}
-use Rattle.cluster_calls.specs.Links.Faults.{io, grammar}
+use Rattle.cluster_calls.specs.Links.EachMade.{refusal_by, refusals_of}
+use Rattle.cluster_calls.specs.Links.Events.{Event, Ending, answers, fails, EndsBy, LinkCalled, Runs, exchanges_at, exchanges_of, is_answer_ending}
+use Rattle.cluster_calls.specs.Links.Faults.{io, grammar, no_memory}
 use Rattle.cluster_calls.specs.Links.Log.{Exchange, requests, has_lost}
 use Rattle.cluster_calls.specs.Links.Request.{Request, skipped}
 use Rattle.cluster_calls.specs.Links.World.{Node, link_at, is_usable}
@@ -18,90 +18,27 @@ use Rattle.cluster_calls.proofs.LinkLaws.Addresses.{same_true, same_refl}
 use Rattle.cluster_calls.proofs.LinkLaws.EndLaws.{ends_pairs, ends_usable, ends_was_open}
 use Rattle.cluster_calls.proofs.LinkLaws.EventLists.{exchanged}
 use Rattle.cluster_calls.proofs.LinkLaws.LinkPlaces.{set_other}
-use Rattle.cluster_calls.proofs.LinkLaws.LinkRuns.{had_memory, link_behind}
+use Rattle.cluster_calls.proofs.LinkLaws.LinkRuns.{link_behind}
 use Rattle.cluster_calls.proofs.LinkLaws.NodeLaws.{lost_here}
 use Rattle.cluster_calls.proofs.LinkLaws.Pairing.{other_lost, some_lost, has_lost-append}
 
--- ---- the requests
-
-unanswered_requests : (xs : List Exchange) → requests (map unanswered xs) ≡ requests xs
-unanswered_requests [] = refl
-unanswered_requests (x ∷ xs) = ap (λ qs. x.request ∷ qs) (unanswered_requests xs)
-
-at_requests : (b : Bool) (xs : List Exchange) → requests (cond b (map unanswered xs) xs) ≡ requests xs
-at_requests true xs = unanswered_requests xs
-at_requests false xs = refl
-
-pub told_at_requests : (place : ℕ) (x : Event) → requests (told_at place x) ≡ requests (exchanges_at place x)
-told_at_requests place x = at_requests (is_memory_ending x.ending) (exchanges_at place x)
-
-same_requests : (xs : List Event) (place : ℕ) → requests (told_of place xs) ≡ requests (exchanges_of place xs)
-same_requests [] place = refl
-same_requests (x ∷ xs) place =
-    map-append (λ (e : Exchange). e.request) (told_at place x) (told_of (place + length x.requests) xs)
-    ∙ ap (λ qs. qs ++ requests (told_of (place + length x.requests) xs)) (told_at_requests place x)
-    ∙ ap (λ qs. requests (exchanges_at place x) ++ qs) (same_requests xs (place + length x.requests))
-    ∙ sym (map-append (λ (e : Exchange). e.request) (exchanges_at place x) (exchanges_of (place + length x.requests) xs))
-
--- are the log
-pub told_requests : (xs : List Event) (place : ℕ) → requests (told_of place xs) ≡ log_of xs
-told_requests xs place = same_requests xs place ∙ exchanged xs place
-
--- one run and then another
-pub told-append : (xs ys : List Event) (place : ℕ) → told_of place (xs ++ ys) ≡ told_of place xs ++ told_of (place + length (log_of xs)) ys
-told-append [] ys place =
-    let z : place ≡ place + 0 = omega arith in
-    ap (λ p. told_of p ys) z
-told-append (x ∷ xs) ys place =
-    let l : length (x.requests ++ log_of xs) ≡ length x.requests + length (log_of xs) = length-append x.requests (log_of xs) in
-    let p : place + length x.requests + length (log_of xs) ≡ place + length (x.requests ++ log_of xs) = omega arith in
-    ap (λ es. told_at place x ++ es) (told-append xs ys (place + length x.requests) ∙ ap (λ n. told_of (place + length x.requests) xs ++ told_of n ys) p)
-    ∙ sym (append_assoc (told_at place x) (told_of (place + length x.requests) xs) (told_of (place + length (x.requests ++ log_of xs)) ys))
-
--- where memory was not refused they are the exchanges
-pub told_had : (xs : List Event) (place : ℕ) → lack_memory xs ≡ false → told_of place xs ≡ exchanges_of place xs
-told_had [] place m = refl
-told_had (x ∷ xs) place m =
-    let had = had_memory x xs m in
-    ap (λ b. cond b (map unanswered (exchanges_at place x)) (exchanges_at place x) ++ told_of (place + length x.requests) xs) had.0
-    ∙ ap (λ ys. exchanges_at place x ++ ys) (told_had xs (place + length x.requests) had.1)
-
 -- ---- lost requests
 
--- of exchanges that have no reply one is lost, where there are some and they are to the node
-none_told : (a : Address) (trees : List Tree) (place : ℕ) (qs : List Request) → qs ≢ [] → AllTo a qs → has_lost a (map unanswered (pair_up trees place qs)) ≡ true
-none_told a trees place [] some all = absurd (some refl)
-none_told a trees place (q ∷ qs) some all =
-    ap (λ s. (s && true) || has_lost a (map unanswered (pair_up (drop (skipped q.asking + 1) trees) (suc place) qs))) (subst (λ n. same_address n a ≡ true) (sym all.0) (same_refl a))
-
-other_told : (node a : Address) (trees : List Tree) (place : ℕ) (qs : List Request) → AllTo node qs → same_address node a ≡ false → has_lost a (map unanswered (pair_up trees place qs)) ≡ false
-other_told node a trees place [] all n = refl
-other_told node a trees place (q ∷ qs) all n =
-    ap (λ s. (s && true) || has_lost a (map unanswered (pair_up (drop (skipped q.asking + 1) trees) (suc place) qs))) (subst (λ m. same_address m a ≡ false) (sym all.0) n)
-    ∙ other_told node a (drop (skipped q.asking + 1) trees) (suc place) qs all.1 n
-
 -- a link call to another node loses nothing of this one
-pub told_other : (old mid : List Node) (x : Event) (place : ℕ) → LinkCalled old mid x → (a : Address) → same_address x.node a ≡ false → has_lost a (told_at place x) ≡ false
-told_other old mid x place s a n = by (is_memory_ending x.ending)
-  where
-    by : (b : Bool) → has_lost a (cond b (map unanswered (exchanges_at place x)) (exchanges_at place x)) ≡ false
-    by true = other_told x.node a (replies_of x.taken) place x.requests s.to_node n
-    by false = other_lost x.node a x.requests (replies_of x.taken) place s.to_node n
+pub told_other : (old mid : List Node) (x : Event) (place : ℕ) → LinkCalled old mid x → (a : Address) → same_address x.node a ≡ false → has_lost a (exchanges_at place x) ≡ false
+told_other old mid x place s a n = other_lost x.node a x.requests (replies_of x.taken) place s.to_node n
 
 -- one that was refused loses its node, and an answered one does not
 abbrev pub LosesBy : Ending → Bool → Type 0
 LosesBy (answers replies) l = l ≡ false
 LosesBy (fails fault) l = l ≡ true
-LosesBy lacks_memory l = l ≡ true
 
-pub told_here : (old mid : List Node) (x : Event) (place : ℕ) → LinkCalled old mid x → LosesBy x.ending (has_lost x.node (told_at place x))
-told_here old mid x place s = by x.ending refl s.ends
+pub told_here : (old mid : List Node) (x : Event) (place : ℕ) → LinkCalled old mid x → LosesBy x.ending (has_lost x.node (exchanges_at place x))
+told_here old mid x place s = by x.ending s.ends
   where
-    by : (e : Ending) → x.ending ≡ e → EndsBy s.before s.after x.requests x.taken e
-        → LosesBy e (has_lost x.node (cond (is_memory_ending e) (map unanswered (exchanges_at place x)) (exchanges_at place x)))
-    by (answers replies) is ends = lost_here x.node x.requests (replies_of x.taken) replies place (ends_pairs s.before s.after x.requests x.taken (answers replies) s.some ends)
-    by (fails fault) is ends = some_lost x.node x.requests (replies_of x.taken) place s.to_node (ends_pairs s.before s.after x.requests x.taken (fails fault) s.some ends)
-    by lacks_memory is ends = none_told x.node (replies_of x.taken) place x.requests s.some s.to_node
+    by : (e : Ending) → EndsBy s.before s.after x.requests x.taken e → LosesBy e (has_lost x.node (exchanges_at place x))
+    by (answers replies) ends = lost_here x.node x.requests (replies_of x.taken) replies place (ends_pairs s.before s.after x.requests x.taken (answers replies) s.some ends)
+    by (fails fault) ends = some_lost x.node x.requests (replies_of x.taken) place s.to_node (ends_pairs s.before s.after x.requests x.taken (fails fault) s.some ends)
 
 -- ---- links that were closed
 
@@ -116,33 +53,30 @@ pub stays_closed : (old new : List Node) (xs : List Event) → Runs old new xs �
 stays_closed old new [] r a shut = ap (λ ns. is_usable (link_at ns a)) r ∙ shut
 stays_closed old new (x ∷ xs) r a shut = closed_by old r.0 new x xs r.1 a shut (λ k. stays_closed r.0 new xs r.2 a k) (same_address x.node a) refl
 
-pub or_cases : (b c : Bool) → (b || c) ≡ true → (b ≡ false → c ≡ true)
+or_cases : (b c : Bool) → (b || c) ≡ true → (b ≡ false → c ≡ true)
 or_cases true c e f = absurd (false≢true (sym f))
 or_cases false c e f = e
 
 -- a node with a lost request is closed behind the run
-pub lost_closed : (old new : List Node) (xs : List Event) (place : ℕ) → Runs old new xs → (a : Address) → has_lost a (told_of place xs) ≡ true → is_usable (link_at new a) ≡ false
+pub lost_closed : (old new : List Node) (xs : List Event) (place : ℕ) → Runs old new xs → (a : Address) → has_lost a (exchanges_of place xs) ≡ true → is_usable (link_at new a) ≡ false
 lost_closed old new [] place r a l = absurd (false≢true l)
 lost_closed old new (x ∷ xs) place r a l =
-    by (same_address x.node a) refl (sym (has_lost-append a (told_at place x) (told_of (place + length x.requests) xs)) ∙ l) (λ k. lost_closed r.0 new xs (place + length x.requests) r.2 a k)
+    by (same_address x.node a) refl (sym (has_lost-append a (exchanges_at place x) (exchanges_of (place + length x.requests) xs)) ∙ l) (λ k. lost_closed r.0 new xs (place + length x.requests) r.2 a k)
   where
-    ended : (e : Ending) → x.ending ≡ e → LosesBy e (has_lost x.node (told_at place x)) → (has_lost x.node (told_at place x) || has_lost x.node (told_of (place + length x.requests) xs)) ≡ true
-        → (has_lost x.node (told_of (place + length x.requests) xs) ≡ true → is_usable (link_at new x.node) ≡ false) → is_usable (link_at new x.node) ≡ false
+    ended : (e : Ending) → x.ending ≡ e → LosesBy e (has_lost x.node (exchanges_at place x)) → (has_lost x.node (exchanges_at place x) || has_lost x.node (exchanges_of (place + length x.requests) xs)) ≡ true
+        → (has_lost x.node (exchanges_of (place + length x.requests) xs) ≡ true → is_usable (link_at new x.node) ≡ false) → is_usable (link_at new x.node) ≡ false
     ended (answers replies) is h k ih = ih (or_cases _ _ k h)
     ended (fails fault) is h k ih =
         let shut : r.1.after.usable ≡ false = ends_usable r.1.before r.1.after x.requests x.taken x.ending r.1.ends ∙ ap is_answer_ending is in
         stays_closed r.0 new xs r.2 x.node (ap is_usable (link_behind old r.0 x r.1) ∙ shut)
-    ended lacks_memory is h k ih =
-        let shut : r.1.after.usable ≡ false = ends_usable r.1.before r.1.after x.requests x.taken x.ending r.1.ends ∙ ap is_answer_ending is in
-        stays_closed r.0 new xs r.2 x.node (ap is_usable (link_behind old r.0 x r.1) ∙ shut)
 
-    by : (b : Bool) → same_address x.node a ≡ b → (has_lost a (told_at place x) || has_lost a (told_of (place + length x.requests) xs)) ≡ true → (has_lost a (told_of (place + length x.requests) xs) ≡ true → is_usable (link_at new a) ≡ false)
+    by : (b : Bool) → same_address x.node a ≡ b → (has_lost a (exchanges_at place x) || has_lost a (exchanges_of (place + length x.requests) xs)) ≡ true → (has_lost a (exchanges_of (place + length x.requests) xs) ≡ true → is_usable (link_at new a) ≡ false)
         → is_usable (link_at new a) ≡ false
     by true t k ih =
         let is = same_true x.node a t in
         subst (λ n. is_usable (link_at new n) ≡ false) is
-        (ended x.ending refl (told_here old r.0 x place r.1) (subst (λ n. (has_lost n (told_at place x) || has_lost n (told_of (place + length x.requests) xs)) ≡ true) (sym is) k)
-        (subst (λ n. has_lost n (told_of (place + length x.requests) xs) ≡ true → is_usable (link_at new n) ≡ false) (sym is) ih))
+        (ended x.ending refl (told_here old r.0 x place r.1) (subst (λ n. (has_lost n (exchanges_at place x) || has_lost n (exchanges_of (place + length x.requests) xs)) ≡ true) (sym is) k)
+        (subst (λ n. has_lost n (exchanges_of (place + length x.requests) xs) ≡ true → is_usable (link_at new n) ≡ false) (sym is) ih))
     by false t k ih = ih (or_cases _ _ k (told_other old r.0 x place r.1 a t))
 
 -- ---- by what a link call was refused
@@ -151,7 +85,7 @@ by_fate : (e : Ending) (later : Refusal) → fate_of (Err later) ≡ lost → fa
 by_fate (answers replies) later h = h
 by_fate (fails io) later h = refl
 by_fate (fails grammar) later h = refl
-by_fate lacks_memory later h = refl
+by_fate (fails no_memory) later h = refl
 
 pub refusals_lose : (xs : List Event) (a : Address) → fate_of (Err (refusals_of xs a)) ≡ lost
 refusals_lose [] a = refl

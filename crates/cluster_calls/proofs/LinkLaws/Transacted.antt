@@ -15,9 +15,9 @@ use Rattle.cluster_routing.specs.declared.route.SlotAddr.TheVariants.{Master}
 use Rattle.cluster_calls.specs.Calls.Answer.{Answer, Value, answer_in}
 use Rattle.cluster_calls.specs.Calls.Call.{Transaction}
 use Rattle.cluster_calls.specs.Calls.OneSlot.{agrees, args_of, common_slot, own_slot, parts_at, with_own}
-use Rattle.cluster_calls.specs.Calls.Parts.{Part, at_slot, part_to, result_then}
+use Rattle.cluster_calls.specs.Calls.Parts.{Part, at_slot, part_to, result_then, unless}
 use Rattle.cluster_calls.specs.Calls.Picks.{ArePartPicks, ArePicks, ArePicksOf}
-use Rattle.cluster_calls.specs.Calls.Plan.{Client, Dispatch, dispatches, plan, unless}
+use Rattle.cluster_calls.specs.Calls.Plan.{Client, Dispatch, dispatches, plan}
 use Rattle.cluster_calls.specs.Calls.Redirects.{Next, Stays, Lost, Goes}
 use Rattle.cluster_calls.specs.Calls.Refusals.{refusal_in}
 use Rattle.cluster_calls.specs.Calls.Replies.{only_reply, transaction_reply}
@@ -174,7 +174,7 @@ transaction_empty strategy old new commands stays planned =
     empty : CallMade strategy old new (Transaction []) (Ok (Value (array no_trees)))
     empty =
         call_made strategy old new (Transaction []) (Ok (Value (array no_trees))) (nothing_happened strategy old new (Transaction []) u)
-        (λ m. answered_plain strategy old new (Transaction []) (Ok (Value (array no_trees))) (nothing_happened strategy old new (Transaction []) u) refl tt refl u.log (picked strategy old new [] stays) (λ place. refl) (λ faults agrees place. refl))
+        (λ m. answered_plain strategy old new (Transaction []) (Ok (Value (array no_trees))) (nothing_happened strategy old new (Transaction []) u) refl tt (λ e. refl) u.log (picked strategy old new [] stays) (λ place. refl) (λ faults agrees place. refl))
         (λ e n. absurd (false≢true n))
         (λ e l. ap (λ (w : World). w.picked) stays)
 
@@ -257,7 +257,7 @@ module _ (strategy : Option Strategy) (old new : World) (commands : List Command
   happened = record {
     events = a.events;
     runs = a.runs;
-    stops = a.stops;
+    stops = λ e. a.stops;
     logged = a.logged;
     calls = λ b. link_calls_made old.nodes new.nodes a.events (transaction_of commands) a.runs a.attempts b;
     picks = λ any. picks;
@@ -270,7 +270,7 @@ module _ (strategy : Option Strategy) (old new : World) (commands : List Command
   answered : value_answer reply ≢ Err (by_cause Memory) → Answered strategy old new (Transaction commands) a.events (value_answer reply)
   answered m =
       let t = a.answered (λ k. m (ap value_answer k)) in
-      answered_plain strategy old new (Transaction commands) (value_answer reply) happened refl a.attempts t.memory a.logged picks
+      answered_plain strategy old new (Transaction commands) (value_answer reply) happened refl a.attempts (λ e. t.memory) a.logged picks
       (λ place. rw planned (t.follows place))
       (λ faults agree place. rw planned (sent_told (client_of old) faults commands _ reply some (t.tells faults agree place)))
 

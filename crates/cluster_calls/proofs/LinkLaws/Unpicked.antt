@@ -19,12 +19,14 @@ use Rattle.cluster_calls.specs.Links.World.{World, is_linked}
 use Rattle.cluster_calls.specs.Calls.Answer.{Answer, answer_of, call_answer}
 use Rattle.cluster_calls.specs.Calls.Call.{Call}
 use Rattle.cluster_calls.specs.Calls.Legal.{AreMade, IsLegalCall, PartByPart}
-use Rattle.cluster_calls.specs.Calls.Parts.{Part, fits_order, if_ordered, parts_of, result_then}
+use Rattle.cluster_calls.specs.Calls.Parts.{Part, fits_order, if_ordered, parts_of, result_then, unless}
 use Rattle.cluster_calls.specs.Calls.Picks.{ArePicks, ArePicksOf}
-use Rattle.cluster_calls.specs.Calls.Plan.{Client, Dispatch, First, call_parts, dispatch_one, dispatches, first_of, in_order, order_of, plan, unless, with_first}
+use Rattle.cluster_calls.specs.Calls.Plan.{Client, Dispatch, First, call_parts, dispatch_one, dispatches, first_of, in_order, order_of, plan, with_first}
 use Rattle.cluster_calls.specs.Calls.Refusals.{sent_refusal}
 use Rattle.cluster_calls.specs.Calls.Task.{early_refusal, one_command, task_of}
 use Rattle.cluster_calls.specs.Calls.TaskParts.{task_parts}
+use Rattle.cluster_calls.proofs.LinkLaws.PlainAnswers.{by_task}
+use Rattle.cluster_calls.proofs.LinkLaws.Played.{plain_played}
 use Rattle.cluster_calls.proofs.LogLaws.Plans.{IsFor, dispatches_for}
 use Rattle.cluster_calls.proofs.LogLaws.SentOnce.{pair_length}
 
@@ -130,7 +132,7 @@ module _ (strategy : Option Strategy) (client : Client) (picks : List Address) (
 pub answered_unpicked : (strategy : Option Strategy) (old new : World) (call : Call) (command : Command) (number : ℕ) (order : Option (List ℕ)) → task_of call ≡ one_command command number order → (a : Answer)
     → CallMade strategy old new call (Ok a) → new.log ≡ [] → new.picked ≡ []
 answered_unpicked strategy old new call command number order task a m none =
-    let p = m.played (λ k. cc k) in
+    let p = plain_played strategy old new call (Ok a) (by_task call (one_command command number order) task refl) m (λ k. cc k) in
     unsent_unpicked strategy (client_of old) new.picked call command number order task p.faults a
     (subst (λ qs. IsLegalCall (client_of old) new.picked call (log_with_replies (taken_of m.happened.events) qs)) none p.legal)
     (subst (λ qs. Ok a ≡ answer_of (client_of old) new.picked p.faults call (log_with_replies (taken_of m.happened.events) qs)) none p.answered)

@@ -21,7 +21,7 @@ use Rattle.cluster_calls.specs.Links.Request.{Request}
 use Rattle.cluster_calls.specs.Links.Reply.{Sort, error_sort, inner_sort, sort_of}
 use Rattle.cluster_calls.specs.Links.Log.{Exchange, requests, is_data, is_data_reply, is_answered, is_unanswered, last_of, behind_answers}
 use Rattle.cluster_calls.specs.Calls.Call.{Call, Stream}
-use Rattle.cluster_calls.specs.Calls.Task.{Task, slot_map_of, one_command, pipeline_of, several_nodes, one_node, read_of, task_of, stream_keys, are_of_one_slot, transaction_of}
+use Rattle.cluster_calls.specs.Calls.Task.{Task, slot_map_of, one_command, pipeline_of, positions_of, several_nodes, one_node, read_of, task_of, stream_keys, are_of_one_slot, transaction_of}
 use Rattle.cluster_calls.specs.Calls.Plan.{Client, Dispatch, plan}
 use Rattle.cluster_calls.specs.Calls.Redirects.{Hop, Next, Stays, Lost, Goes, next_of, sort_next, MatchNext, FollowsRedirects}
 use Rattle.cluster_calls.specs.Calls.Legal.{first_hop, PartByPart, NodeByNode, node_groups, AreMade, IsLegalCall, AttemptAfterAttempt}
@@ -220,6 +220,7 @@ module _ (how : Option Respellable) where
   made_alike client (slot_map_of node) exact ds xs ys h m = sym (requests_alike xs ys h) ∙ m
   made_alike client (one_command command number order) exact ds xs ys h m = parts_alike client ds xs ys h m
   made_alike client (pipeline_of entries) exact ds xs ys h m = nodes_alike (node_groups ds) xs ys h m
+  made_alike client (positions_of entries) exact ds xs ys h m = sym (requests_alike xs ys h) ∙ m
   made_alike client (several_nodes command) exact ds xs ys h m = sym (requests_alike xs ys h) ∙ m
   made_alike client (one_node node command) exact ds xs ys h m = sym (requests_alike xs ys h) ∙ m
   made_alike client (read_of options streams) exact ds xs ys h m = parts_alike client ds xs ys h m

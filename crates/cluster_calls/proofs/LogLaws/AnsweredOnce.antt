@@ -14,7 +14,7 @@ use Rattle.cluster_calls.specs.Calls.Legal.{first_hop, PartByPart}
 use Rattle.cluster_calls.specs.Links.Faults.{LinkFault}
 use Rattle.cluster_calls.specs.Links.Log.{behind_answers}
 use Rattle.cluster_calls.specs.Calls.Refusals.{part_refusal, sent_refusal}
-use Rattle.cluster_calls.specs.Calls.Task.{Task, slot_map_of, one_command, pipeline_of, several_nodes, one_node, read_of, transaction_of}
+use Rattle.cluster_calls.specs.Calls.Task.{Task, slot_map_of, one_command, pipeline_of, positions_of, several_nodes, one_node, read_of, transaction_of}
 use Rattle.cluster_calls.specs.OneServer.Laws.{is_in_parts, is_redirect_sort, is_redirect_reply, is_redirected}
 use Rattle.cluster_calls.proofs.LogLaws.Repeats.{redirect_reply}
 use Rattle.cluster_calls.proofs.ServerLaws.Counted.{parts_done}
@@ -89,6 +89,7 @@ refused_in_parts client faults (one_command command number order) xs p = refl
 refused_in_parts client faults (read_of options streams) xs p = refl
 refused_in_parts client faults (slot_map_of node) xs p = absurd (false≢true p)
 refused_in_parts client faults (pipeline_of entries) xs p = absurd (false≢true p)
+refused_in_parts client faults (positions_of entries) xs p = absurd (false≢true p)
 refused_in_parts client faults (several_nodes command) xs p = absurd (false≢true p)
 refused_in_parts client faults (one_node node command) xs p = absurd (false≢true p)
 refused_in_parts client faults (transaction_of commands) xs p = absurd (false≢true p)

@@ -21,7 +21,8 @@ use Rattle.cluster_routing.proofs.Recut.{cut_of, split_of_some}
 use Rattle.cluster_routing.proofs.SplitWords.{split_words_are_names}
 use Rattle.stream_commands.specs.Commands.{plain_command}
 use Rattle.cluster_calls.specs.Calls.Call.{Entry}
-use Rattle.cluster_calls.specs.Calls.EachInParts.{AreOutcomesOf, if_several, split_at, part_entry, entries_by, in_parts, goes_to_slots, first_unplaced, splits_in}
+use Rattle.cluster_calls.specs.Calls.EachInParts.{AreOutcomesOf}
+use Rattle.cluster_calls.specs.Calls.InParts.{if_several, split_at, part_entry, entries_by, in_parts, goes_to_slots, first_unplaced, splits_in}
 use Rattle.cluster_calls.specs.Calls.Parts.{Part, part_to, at_slot, is_gap, if_one_slot, have_several_slots, is_read_name, keys_behind, parts_of, pipeline_parts, reads_several_slots, role_by, slot_part, split_parts, whole_part, with_whole}
 use Rattle.cluster_calls.specs.OneServer.Fates.{PartsGoWhole, WholesStayWhole}
 use Rattle.cluster_calls.proofs.LogLaws.Plans.{firsts_among, has_tuple}
@@ -55,7 +56,7 @@ no_read w p e = by (str_eq_ignore_ascii_case (codes "XREAD") w) refl
 
 -- ---- arguments without a gap
 
-sent_as_they_are : (n : ℕ) (args : List (List ℕ)) → wire n (map Simple args) ≡ args
+pub sent_as_they_are : (n : ℕ) (args : List (List ℕ)) → wire n (map Simple args) ≡ args
 sent_as_they_are n [] = refl
 sent_as_they_are n (a ∷ args) = ap (λ rest. a ∷ rest) (sent_as_they_are n args)
 

@@ -5,13 +5,13 @@ use Rattle.std.proofs.Common.{◌≡◌, ◌≢◌, suc, Bool, true, false, cond
 use Rattle.std.proofs.lemmas.Bool.{false≢true}
 use Rattle.resp_core.specs.Trees.{Tree}
 use Rattle.resp_core.specs.Errors.{Refusal, by_cause, by_server, by_servers, at_position}
-use Rattle.resp_core.specs.declared.errors.redis_error.Cause.{Cause}
 use Rattle.resp_core.specs.declared.errors.redis_error.Cause.TheVariants as causes
 use Rattle.cluster_routing.specs.Combine.{combine, part_replies}
 use Rattle.cluster_routing.specs.Policies.{or_bad_reply}
 use Rattle.cluster_routing.specs.Split.{Split, part_slots}
-use Rattle.cluster_calls.specs.Calls.Each.{Fate, answered, redirected, not_asked, lost, fate_by_cause, fate_of, link_refusal, refusal_where, reply_in}
-use Rattle.cluster_calls.specs.Calls.EachInParts.{AreOutcomesOf, IsMadeOf, IsOutcomeOf, are_of_one_fate, part_count, refusal_of_parts, reply_in_parts, same_fate}
+use Rattle.cluster_calls.specs.Calls.Each.{Fate, answered, redirected, lost, fate_of, link_refusal, refusal_where, reply_in}
+use Rattle.cluster_calls.specs.Calls.EachInParts.{AreOutcomesOf, IsMadeOf, IsOutcomeOf, are_of_one_fate, refusal_of_parts, reply_in_parts, same_fate}
+use Rattle.cluster_calls.specs.Calls.InParts.{part_count}
 use Rattle.cluster_calls.specs.Calls.Refusals.{refusal_in}
 use Rattle.cluster_calls.specs.Calls.Task.{first_refusal}
 use Rattle.cluster_calls.specs.OneServer.Fates.{AreFatesOfParts, FateOfParts}
@@ -27,19 +27,12 @@ HaveFate fate os = AllByRecursion (λ (o : Outcome). fate_of o ≡ fate) os
 same_is : (a b : Fate) → same_fate a b ≡ true → a ≡ b
 same_is answered answered e = refl
 same_is answered redirected e = absurd (false≢true e)
-same_is answered not_asked e = absurd (false≢true e)
 same_is answered lost e = absurd (false≢true e)
 same_is redirected answered e = absurd (false≢true e)
 same_is redirected redirected e = refl
-same_is redirected not_asked e = absurd (false≢true e)
 same_is redirected lost e = absurd (false≢true e)
-same_is not_asked answered e = absurd (false≢true e)
-same_is not_asked redirected e = absurd (false≢true e)
-same_is not_asked not_asked e = refl
-same_is not_asked lost e = absurd (false≢true e)
 same_is lost answered e = absurd (false≢true e)
 same_is lost redirected e = absurd (false≢true e)
-same_is lost not_asked e = absurd (false≢true e)
 same_is lost lost e = refl
 
 have_fate : (fate : Fate) (os : List Outcome) → list_all (λ p. same_fate (fate_of p) fate) os ≡ true → HaveFate fate os
@@ -71,7 +64,6 @@ lost_first (Err other ∷ os) refusal e = by (fate_of (Err other)) refl e (λ k.
     by : (fate : Fate) → fate_of (Err other) ≡ fate → first_refusal (refusal_where fate other ∷ map link_refusal os) ≡ Some refusal → (first_refusal (map link_refusal os) ≡ Some refusal → fate_of (Err refusal) ≡ lost) → fate_of (Err refusal) ≡ lost
     by answered f k ih = ih k
     by redirected f k ih = ih k
-    by not_asked f k ih = ih k
     by lost f k ih = let same : other ≡ refusal = cc in subst (λ r. fate_of (Err r) ≡ lost) same f
 
 mixed : (o : Option Refusal) → ((refusal : Refusal) → o ≡ Some refusal → fate_of (Err refusal) ≡ lost) → fate_of (Err (unwrap_or o (by_cause causes.UnexpectedReturnType))) ≡ lost
@@ -83,10 +75,9 @@ mixed (Some refusal) h = h refusal refl
 of_fate : (fate : Fate) (os : List Outcome) → HaveFate fate os → FateOfParts fate os
 of_fate answered os h = h
 of_fate redirected os h = h
-of_fate not_asked os h = h
 of_fate lost os h = tt
 
-refused_fate : (os : List Outcome) (refusal : Refusal) → refusal_of_parts os ≡ Some refusal → FateOfParts (fate_of (Err refusal)) os
+pub refused_fate : (os : List Outcome) (refusal : Refusal) → refusal_of_parts os ≡ Some refusal → FateOfParts (fate_of (Err refusal)) os
 refused_fate os refusal e = by (are_of_one_fate os) refl e
   where
     uniform : (os : List Outcome) → are_of_one_fate os ≡ true → first_refusal (map refusal_in os) ≡ Some refusal → FateOfParts (fate_of (Err refusal)) os
@@ -99,7 +90,6 @@ refused_fate os refusal e = by (are_of_one_fate os) refl e
         same_refl : (f : Fate) → same_fate f f ≡ true
         same_refl answered = refl
         same_refl redirected = refl
-        same_refl not_asked = refl
         same_refl lost = refl
 
     by : (b : Bool) → are_of_one_fate os ≡ b → cond b (first_refusal (map refusal_in os)) (Some (unwrap_or (first_refusal (map link_refusal os)) (by_cause causes.UnexpectedReturnType))) ≡ Some refusal → FateOfParts (fate_of (Err refusal)) os
@@ -117,39 +107,16 @@ unrefused os e = by (are_of_one_fate os) e
     by true k = all_answered os k
     by false k = cc
 
-cause_open : (cause : Cause) → cause ≢ causes.NotAsked → fate_by_cause cause ≡ lost
-cause_open causes.UnreadableAddress n = refl
-cause_open causes.RepeatedAddress n = refl
-cause_open causes.SettingOutOfRange n = refl
-cause_open causes.NoResponse n = refl
-cause_open causes.NoRoute n = refl
-cause_open causes.CursorInSplit n = refl
-cause_open causes.BrokenTuples n = refl
-cause_open causes.BadOrder n = refl
-cause_open causes.NoNode n = refl
-cause_open causes.NoLink n = refl
-cause_open causes.NoKeys n = refl
-cause_open causes.SeveralSlots n = refl
-cause_open causes.BadGroupName n = refl
-cause_open causes.Io n = refl
-cause_open causes.Parse n = refl
-cause_open causes.UnexpectedReturnType n = refl
-cause_open causes.Memory n = refl
-cause_open causes.ClaimsIdsAlone n = refl
-cause_open causes.LevelsOutOfRange n = refl
-cause_open causes.NotAsked n = absurd (n refl)
-
 abbrev refused : Refusal → Outcome
 refused refusal = Err refusal
 
 -- what is made of their replies is an answer, or leaves it open what was done
 made_open : (o : Option Tree) (refusal : Refusal) → (refused refusal ≢ Err (by_cause causes.Memory) → refused refusal ≡ or_bad_reply o) → fate_of (Err refusal) ≡ lost
+made_open o (by_cause cause) h = refl
 made_open o (at_position n) h = refl
 made_open o (by_servers first more) h = refl
 made_open None (by_server e) h = absurd (let k = h (λ m. cc m) in cc)
 made_open (Some tree) (by_server e) h = absurd (let k = h (λ m. cc m) in cc)
-made_open None (by_cause cause) h = cause_open cause (λ is. let k = h (λ m. cc (m, is)) in cc)
-made_open (Some tree) (by_cause cause) h = cause_open cause (λ is. let k = h (λ m. cc (m, is)) in cc)
 
 made_fate : (s : Split) (os : List Outcome) (outcome : Outcome) → IsMadeOf s os outcome → FateOfParts (fate_of outcome) os
 made_fate s os outcome made = by (refusal_of_parts os) refl made

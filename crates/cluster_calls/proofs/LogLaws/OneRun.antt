@@ -11,21 +11,21 @@ use Rattle.cluster_routing.specs.Routing.{destination}
 use Rattle.cluster_calls.specs.Links.Request.{Request, skipped}
 use Rattle.cluster_calls.specs.Links.Log.{Exchange, exchanges, left_after, left_after_all, reply_at, is_unanswered, is_answered, last_of, has_lost, behind_answers}
 use Rattle.cluster_calls.specs.Calls.Call.{Call}
-use Rattle.cluster_calls.specs.Calls.Task.{Task, slot_map_of, one_command, pipeline_of, several_nodes, one_node, read_of, task_of, transaction_of}
-use Rattle.cluster_calls.specs.Calls.Parts.{result_then}
-use Rattle.cluster_calls.specs.Calls.Plan.{Client, plan, unless}
+use Rattle.cluster_calls.specs.Calls.Task.{Task, slot_map_of, one_command, pipeline_of, positions_of, several_nodes, one_node, read_of, task_of, transaction_of}
+use Rattle.cluster_calls.specs.Calls.Parts.{result_then, unless}
+use Rattle.cluster_calls.specs.Calls.Plan.{Client, plan}
 use Rattle.cluster_calls.specs.Calls.Legal.{IsLegalCall}
 use Rattle.cluster_calls.specs.Links.Faults.{LinkFault, refusal_by_fault}
 use Rattle.cluster_calls.specs.Links.Run.{whole_log}
 use Rattle.cluster_calls.specs.Calls.Replies.{outcome_by, outcomes, policy_in, reply_by_outcomes, in_pipeline_order, several_reply}
 use Rattle.cluster_calls.specs.Calls.Refusals.{refusal_in, direct_refusal, last_refusal, pipeline_refusal, errors_from, sent_refusal}
-use Rattle.cluster_calls.specs.Calls.Answer.{answer_in, task_answer, tree_in, answer_of}
+use Rattle.cluster_calls.specs.Calls.Answer.{answer_in, task_answer, tree_in, answer_of, Told}
 use Rattle.cluster_calls.specs.Calls.After.{client_after}
 use Rattle.cluster_calls.specs.OneServer.Headline.{PlayedCall, RepliedCall, with_replies_from, IsPlayedFrom}
 use Rattle.cluster_calls.proofs.LinkLaws.Addresses.{same_refl, same_true}
 use Rattle.cluster_calls.proofs.LinkLaws.Pairing.{has_lost-append}
 use Rattle.cluster_calls.proofs.LogLaws.SameLogs.{replies_determine_logs, exchanges_then}
-use Rattle.cluster_calls.proofs.LogLaws.LostFaults.{commands_same}
+use Rattle.cluster_calls.proofs.LogLaws.LostFaults.{commands_same, each_same}
 
 -- ---- the same replies, the same faults
 
@@ -135,6 +135,7 @@ module _ (faults faults' : Address → LinkFault) where
       refused (slot_map_of node) = refresh_same xs h
       refused (one_command command number order) = part_last client (length (behind_answers xs)) (behind_answers xs) (behind_same xs h)
       refused (pipeline_of entries) = pipeline_same xs (errors_from 0 (in_pipeline_order entries xs)) h
+      refused (positions_of entries) = refl
       refused (several_nodes command) = ap refusal_in (several_same command xs h)
       refused (one_node node command) = refresh_same xs h
       refused (transaction_of commands) = ap refusal_in (commands_same faults faults' client commands xs h)
@@ -144,6 +145,7 @@ module _ (faults faults' : Address → LinkFault) where
       told (slot_map_of node) = refl
       told (one_command command number order) = refl
       told (pipeline_of entries) = refl
+      told (positions_of entries) = ap (λ os. Some (Told os)) (each_same faults faults' entries xs h)
       told (several_nodes command) = ap (λ r. option_and_then (answer_in call) (tree_in r)) (several_same command xs h)
       told (one_node node command) = refl
       told (transaction_of commands) = refl

@@ -57,7 +57,7 @@ abbrev pub GapsStay : Command → Type 0
 GapsStay command = (route : Route) → destination command.args [] ≡ Some (to_route route) → destination (map (λ bytes. Simple bytes) (sent command)) [] ≡ Some (to_route route)
 
 module _ (command : Command) (part : Part) (p : parts_of [] command 0 ≡ Ok (part ∷ [])) where
-  one_part : (split : Split) (ks : List ℕ) → part ∷ [] ≡ map (slot_part (role [] command 0 (part ∷ [])) split) ks → (k : ℕ) × (ks ≡ k ∷ [])
+  pub one_part : (split : Split) (ks : List ℕ) → part ∷ [] ≡ map (slot_part (role [] command 0 (part ∷ [])) split) ks → (k : ℕ) × (ks ≡ k ∷ [])
   one_part split [] e = cc
   one_part split (k ∷ []) e = (k, refl)
   one_part split (k ∷ k2 ∷ ks) e = cc

@@ -1,8 +1,9 @@
 -- A pipeline sends each command at most once.
-use Rattle.std.proofs.Common.{◌≡◌, Bool, true, false, cond, List, [], ◌∷◌, ◌++◌, map, length, take, drop, Some, None, MatchBool, refl, sym, ap, ◌∙◌, append-nil}
+use Rattle.std.proofs.Common.{◌≡◌, Bool, true, false, cond, List, [], ◌∷◌, ◌++◌, map, length, take, drop, Some, None, MatchBool, refl, sym, ap, ◌∙◌, subst, append-nil}
 use Rattle.std.specs.List.{list_any}
 use Rattle.std.proofs.lemmas.Bool.{false≢true}
-use Rattle.std.proofs.lemmas.List.{map-append, take-append-drop}
+use Rattle.std.proofs.lemmas.List.{drop-map, length-map, map-append, take-append-drop, take-map}
+use Rattle.std.proofs.Math.Seq.{drop-append_seam, take-append_seam}
 use Rattle.resp_core.specs.Trees.{ErrorText}
 use Rattle.std.specs.Prelude.{ℕ, ◌||◌}
 use Rattle.cluster_routing.specs.Address.{Address}
@@ -56,6 +57,23 @@ asked_first (group ∷ groups) xs h = by (list_any is_unanswered (take (length g
           both_parts xs group h.0 ∙ ap (λ qs. map direct group ++ qs) r.3 ∙ sym (map-append direct group (concat r.0)),
           λ none. r.4 (none_taken (length group) xs none).1,
         )
+
+-- where all were asked and none is unanswered, they went node by node
+pub all_asked : (groups : List (List Dispatch)) (xs : List Exchange) → requests xs ≡ map direct (concat groups) → list_any is_unanswered xs ≡ false → NodeByNode groups xs
+all_asked [] xs e none = no_requests xs e
+  where
+    no_requests : (ys : List Exchange) → requests ys ≡ [] → ys ≡ []
+    no_requests [] f = refl
+    no_requests (y ∷ ys) f = cc
+all_asked (group ∷ groups) xs e none =
+    let n = length group in
+    let whole : requests xs ≡ map direct group ++ map direct (concat groups) = e ∙ map-append direct group (concat groups) in
+    let long : length (map direct group) ≡ n = length-map group direct in
+    let fine = none_taken n xs none in (
+      sym (take-map (λ (x : Exchange). x.request) n xs) ∙ ap (take n) whole ∙ ap (λ k. take k (map direct group ++ map direct (concat groups))) (sym long) ∙ take-append_seam (map direct group) (map direct (concat groups)),
+      subst (λ b. MatchBool b (drop n xs ≡ []) (NodeByNode groups (drop n xs))) (sym fine.0) (all_asked groups (drop n xs)
+          (sym (drop-map (λ (x : Exchange). x.request) n xs) ∙ ap (drop n) whole ∙ ap (λ k. drop k (map direct group ++ map direct (concat groups))) (sym long) ∙ drop-append_seam (map direct group) (map direct (concat groups))) fine.1),
+    )
 
 pub none_unanswered : (faults : Address → LinkFault) (xs : List Exchange) (errors : List (ℕ × ErrorText)) → pipeline_refusal faults xs errors ≡ None → list_any is_unanswered xs ≡ false
 none_unanswered faults [] errors e = refl

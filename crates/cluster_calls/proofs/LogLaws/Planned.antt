@@ -4,8 +4,8 @@ use Rattle.resp_core.specs.Errors.{Refusal}
 use Rattle.cluster_routing.specs.Address.{Address}
 use Rattle.cluster_calls.specs.Calls.Call.{Call}
 use Rattle.cluster_calls.specs.Calls.Task.{Task, task_of, early_refusal}
-use Rattle.cluster_calls.specs.Calls.Parts.{Part, result_then}
-use Rattle.cluster_calls.specs.Calls.Plan.{Client, Dispatch, dispatches, in_order, order_of, unless, plan}
+use Rattle.cluster_calls.specs.Calls.Parts.{Part, result_then, unless}
+use Rattle.cluster_calls.specs.Calls.Plan.{Client, Dispatch, dispatches, in_order, order_of, plan}
 use Rattle.cluster_calls.specs.Calls.TaskParts.{task_parts}
 
 -- the parts of a call, their dispatches, and these in the order of sending

@@ -1,13 +1,13 @@
 -- Two plays of the same calls over devices that promise to refuse none.
 use Rattle.std.specs.List.{AllByRecursion}
 use Rattle.std.specs.Io.KnownBytes.{Appends, Consumes, IsAtEnd, prepend_known}
-use Rattle.std.proofs.Common.{◌≡◌, ◌≤◌, ◌⊎◌, ◌&&◌, ◌||◌, ℕ, suc, Bool, true, false, cond, List, [], ◌∷◌, ◌++◌, map, length, Option, Some, None, refl, sym, ap, ◌∙◌, subst, inl, inr, arith, append_assoc, append-nil}
+use Rattle.std.proofs.Common.{◌≡◌, ◌≢◌, ◌≤◌, ◌⊎◌, ◌&&◌, ◌||◌, ℕ, suc, Bool, true, false, cond, List, [], ◌∷◌, ◌++◌, map, length, Option, Some, None, refl, sym, ap, ◌∙◌, subst, inl, inr, arith, append_assoc, append-nil}
 use Rattle.std.proofs.lemmas.Bool.{false≢true}
 use Rattle.std.proofs.lemmas.List.Elements.{filter-append}
 use Rattle.resp_core.specs.Trees.{Tree}
 use Rattle.resp_core.specs.Counts.{counted}
 use Rattle.resp_core.specs.Errors.{by_cause}
-use Rattle.resp_core.specs.declared.errors.redis_error.Cause.TheVariants.{Io, Parse}
+use Rattle.resp_core.specs.declared.errors.redis_error.Cause.TheVariants.{Io, Parse, Memory}
 use Rattle.resp_core.specs.Incoming.{Reading, Takes, Awaits, SpelledInOrder}
 use Rattle.resp_core.specs.Promise.{MayRefuse}
 use Rattle.resp_core.specs.Standing.{BeginsFaulty, BeginsUnfinished}
@@ -20,23 +20,40 @@ use Rattle.cluster_routing.specs.Lists.{concat}
 use Rattle.cluster_calls.specs.Calls.Call.{Call}
 use Rattle.cluster_calls.specs.Links.Request.{Request, bytes_of}
 use Rattle.cluster_calls.specs.Links.Log.{Exchange, exchanges, has_lost, left_after, replies, reply_at, is_unanswered}
-use Rattle.cluster_calls.specs.Links.Faults.{LinkFault, io, grammar, refusal_by_fault}
-use Rattle.cluster_calls.specs.Links.Events.{Event, AllTo, FailsFrom, in_sending, in_receiving, Runs, log_of, taken_of, reply_count}
+use Rattle.cluster_calls.specs.Links.Faults.{LinkFault, io, grammar, no_memory, refusal_by_fault}
+use Rattle.cluster_calls.specs.Links.Events.{Event, Ending, answers, fails, AllTo, FailsFrom, in_sending, in_receiving, Runs, fault_by, faults_of, is_memory_ending, lack_memory, log_of, taken_of, reply_count}
 use Rattle.cluster_calls.specs.Links.Happened.{client_of}
 use Rattle.cluster_calls.specs.Links.Nodes.{IsSentFor, LostBy, NodeMade, is_in_sending}
 use Rattle.cluster_calls.specs.Links.Play.{Plays, Shown, shown_of}
-use Rattle.cluster_calls.specs.Links.Run.{HadMemory, whole_log, run_calls}
+use Rattle.cluster_calls.specs.Links.Run.{CallsMade, HadMemory, RunPlayed, whole_log, run_calls}
 use Rattle.cluster_calls.specs.Links.World.{Node, World, link_at}
 use Rattle.cluster_calls.specs.OneServer.Headline.{PlayedCall, IsPlayedFrom}
-use Rattle.cluster_calls.specs.OneServer.PromisedPlays.{IsPromised, ArePromised, HadRoom, SentSame}
+use Rattle.cluster_calls.specs.OneServer.PromisedPlays.{IsPromised, ArePromised, HadRoom, LinksHadMemory, SentSame}
 use Rattle.cluster_calls.proofs.LinkLaws.Addresses.{same_true}
-use Rattle.cluster_calls.proofs.LinkLaws.EndLaws.{fault_is_no_memory}
 use Rattle.cluster_calls.proofs.LinkLaws.LinkPlaces.{set_other}
-use Rattle.cluster_calls.proofs.LinkLaws.PlayedRuns.{calls_run, calls_log}
+use Rattle.cluster_calls.proofs.LinkLaws.LinkRuns.{had_memory}
+use Rattle.cluster_calls.proofs.LinkLaws.PlayedRuns.{calls_run, calls_log, run_faults, run_played}
 use Rattle.cluster_calls.proofs.LogLaws.OneRun.{IsFront, one_run, other_faults, more_replies}
 use Rattle.cluster_calls.proofs.LogLaws.OneSpelling.{SpellsAll, compared, all_first, all_same, used_up}
 
 -- ---- a link that was lost took all that its bytes spell
+
+had_memory_fault : (f : LinkFault) → is_memory_ending (fails f) ≡ false → refusal_by_fault f ≢ by_cause Memory
+had_memory_fault io m e = cc
+had_memory_fault grammar m e = cc
+had_memory_fault no_memory m e = absurd (false≢true (sym m))
+
+-- where no link call lacked memory no node has that fault
+node_had_memory : (xs : List Event) (a : Address) → lack_memory xs ≡ false → refusal_by_fault (faults_of xs a) ≢ by_cause Memory
+node_had_memory [] a m = λ e. cc
+node_had_memory (x ∷ xs) a m =
+    let had = had_memory x xs m in
+    by (same_address x.node a) x.ending had.0 (node_had_memory xs a had.1)
+  where
+    by : (b : Bool) (e : Ending) → is_memory_ending e ≡ false → refusal_by_fault (faults_of xs a) ≢ by_cause Memory → refusal_by_fault (cond b (fault_by e (faults_of xs a)) (faults_of xs a)) ≢ by_cause Memory
+    by true (answers replies) k later = later
+    by true (fails f) k later = had_memory_fault f k
+    by false e k later = later
 
 no_room_counted : (n m : ℕ) → n ≡ 0 → n ≡ counted m → ⊥
 no_room_counted n m e h = omega (arith, e, h)
@@ -44,12 +61,14 @@ no_room_counted n m e h = omega (arith, e, h)
 is_io : (f : LinkFault) → refusal_by_fault f ≡ by_cause Io → f ≡ io
 is_io io e = refl
 is_io grammar e = cc
+is_io no_memory e = cc
 
 is_grammar : (f : LinkFault) → refusal_by_fault f ≡ by_cause Parse → f ≡ grammar
 is_grammar io e = cc
 is_grammar grammar e = refl
+is_grammar no_memory e = cc
 
-module _ (a b : Seen) (calls : List (List Request)) (taken : List Tree) (fault : LinkFault) (w : Bool) (s : IsPromised a) (room : b.write_counts.no_room ≡ 0) (l : LostBy a b calls taken fault w) where
+module _ (a b : Seen) (calls : List (List Request)) (taken : List Tree) (fault : LinkFault) (w : Bool) (s : IsPromised a) (room : b.write_counts.no_room ≡ 0) (had : refusal_by_fault fault ≢ by_cause Memory) (l : LostBy a b calls taken fault w) where
   no_write_failed : SendFails l.mid b (bytes_of l.last) → ⊥
   no_write_failed f = elim f.sent.counted.cause [
     | inl more ↦ no_room_counted b.write_counts.no_room l.mid.write_counts.no_room room more
@@ -80,7 +99,7 @@ module _ (a b : Seen) (calls : List (List Request)) (taken : List Tree) (fault :
         let f = meets.0.faulty in
         let n = (used meets.0.seeks.takes).0 in
         spelled meets.0.seeks.takes (inr (is_grammar fault meets.1, (f.0, f.1 ++ n, f.2, ap (λ z. z ++ n) f.3 ∙ append_assoc f.0 f.1 n)))
-    | inr (inr memory) ↦ absurd (fault_is_no_memory fault memory.1)
+    | inr (inr memory) ↦ absurd (had memory.1)
   ]
     where
       used : (t : Takes (at_start l.mid) (behind r) r.lacks.ends.trees) → (n : List ℕ) × (b.left ≡ Some n) × (s.bytes ≡ (l.came.bytes ++ t.bytes) ++ (r.lacks.held ++ n)) × (length t.got ≤ length s.bytes)
@@ -128,7 +147,7 @@ not_lost : {A : Type 0} {b : Bool} → b ≡ false → b ≡ true → A
 not_lost e h = absurd (false≢true (sym e ∙ h))
 
 module _ (a b c : Seen) (calls calls' : List (List Request)) (ts us : List Tree) (lost lost' : Bool) (f g : LinkFault) (s : IsPromised a) (room : b.write_counts.no_room ≡ 0) (room' : c.write_counts.no_room ≡ 0)
-    (m : NodeMade a b calls ts lost f) (n : NodeMade a c calls' us lost' g) where
+    (had : refusal_by_fault f ≢ by_cause Memory) (had' : refusal_by_fault g ≢ by_cause Memory) (m : NodeMade a b calls ts lost f) (n : NodeMade a c calls' us lost' g) where
   left : (rest : List ℕ) × (s.bytes ≡ m.came.bytes ++ rest)
   left = front_of s.bytes m.came.bytes (prepend_known m.came.unread b.left) (subst (λ o. Consumes o (prepend_known m.came.unread b.left) m.came.bytes) s.known m.came.consumed)
 
@@ -140,16 +159,16 @@ module _ (a b c : Seen) (calls calls' : List (List Request)) (ts us : List Tree)
     where
       by : (x y : Bool) → lost ≡ x → lost' ≡ y → Both ts us lost lost' f g
       by true true e e' =
-          let p = (lost_all a b calls ts f m.write_failed s room (m.failed e).1).0 in
-          let q = (lost_all a c calls' us g n.write_failed s room' (n.failed e').1).0 in
+          let p = (lost_all a b calls ts f m.write_failed s room had (m.failed e).1).0 in
+          let q = (lost_all a c calls' us g n.write_failed s room' had' (n.failed e').1).0 in
           let same = all_same a.limit s.bytes ts us f g p q in
           record { queue = replies_of ts; fault = f; first = inl refl; second = inl (ap replies_of same.0); one = λ h. refl; other = λ h. sym same.1 }
       by true false e e' =
-          let p = (lost_all a b calls ts f m.write_failed s room (m.failed e).1).0 in
+          let p = (lost_all a b calls ts f m.write_failed s room had (m.failed e).1).0 in
           let k = all_first a.limit s.bytes n.came.bytes right.0 ts us f p right.1 n.came.spells in
           record { queue = replies_of ts; fault = f; first = inl refl; second = inr (e', (replies_of k.0, (fewer_replies us ts k.0 k.1).1)); one = λ h. refl; other = not_lost e' }
       by false true e e' =
-          let q = (lost_all a c calls' us g n.write_failed s room' (n.failed e').1).0 in
+          let q = (lost_all a c calls' us g n.write_failed s room' had' (n.failed e').1).0 in
           let k = all_first a.limit s.bytes m.came.bytes left.0 us ts g q left.1 m.came.spells in
           record { queue = replies_of us; fault = g; first = inr (e, (replies_of k.0, (fewer_replies ts us k.0 k.1).1)); second = inl refl; one = not_lost e; other = λ h. refl }
       by false false e e' = elim (compared a.limit ts us m.came.bytes n.came.bytes left.0 right.0 m.came.spells n.came.spells (sym left.1 ∙ right.1)) [
@@ -208,20 +227,31 @@ grown None xs bs h = absurd h
 grown (Some ys) xs bs h = ap (λ z. Some z) h
 
 -- what went out over a link
-went_out : (a b : Seen) (calls : List (List Request)) (ts : List Tree) (lost : Bool) (f : LinkFault) (s : IsPromised a) → b.write_counts.no_room ≡ 0 → NodeMade a b calls ts lost f → b.sent ≡ Some (s.sent ++ bytes_of (concat calls))
-went_out a b calls ts lost f s room m =
+went_out : (a b : Seen) (calls : List (List Request)) (ts : List Tree) (lost : Bool) (f : LinkFault) (s : IsPromised a) → b.write_counts.no_room ≡ 0 → refusal_by_fault f ≢ by_cause Memory → NodeMade a b calls ts lost f → b.sent ≡ Some (s.sent ++ bytes_of (concat calls))
+went_out a b calls ts lost f s room had m =
     let are : m.bytes ≡ bytes_of (concat calls) = subst (λ w. IsSentFor w calls m.bytes) (whole lost refl) m.are in
     grown b.sent s.sent m.bytes (subst (λ o. Appends o b.sent m.bytes) s.told m.sent) ∙ ap (λ z. Some (s.sent ++ z)) are
   where
     whole : (x : Bool) → lost ≡ x → m.write_failed ≡ false
-    whole true e = (lost_all a b calls ts f m.write_failed s room (m.failed e).1).1
+    whole true e = (lost_all a b calls ts f m.write_failed s room had (m.failed e).1).1
     whole false e = (m.kept e).0
 
 all_calls : {old new : World} {calls : List Call} {before after : List Shown} (p : Plays None old new calls before after true) → calls ≡ map (λ (t : PlayedCall). t.call) p.run
 all_calls p = p.first ∙ ap (λ z. map (λ (t : PlayedCall). t.call) p.run ++ z) (p.whole refl) ∙ append-nil (map (λ (t : PlayedCall). t.call) p.run)
 
+-- in a run as link calls make it the faults are theirs
+run_fault : (old new : World) (ts : List PlayedCall) (es : List Event) (r : CallsMade None old new ts es) (had : HadMemory ts) (a : Address) → lack_memory es ≡ false
+    → refusal_by_fault ((run_played None old new ts es r had).faults a) ≢ by_cause Memory
+run_fault old new ts es r had a m = subst (λ f. refusal_by_fault f ≢ by_cause Memory) (sym (run_faults None old new ts es r had a)) (node_had_memory es a m)
+
 module _ (old new new' : World) (calls : List Call) (before after after' : List Shown) (p : Plays None old new calls before after true) (q : Plays None old new' calls before after' true)
-    (promised : ArePromised old.nodes) (had : HadMemory p.run) (had' : HadMemory q.run) (room : HadRoom new.nodes) (room' : HadRoom new'.nodes) where
+    (promised : ArePromised old.nodes) (had : HadMemory p.run) (had' : HadMemory q.run) (links : LinksHadMemory p.is_run.events) (links' : LinksHadMemory q.is_run.events) (room : HadRoom new.nodes) (room' : HadRoom new'.nodes) where
+  abbrev one_play : RunPlayed None old new p.run (taken_of p.is_run.events)
+  one_play = run_played None old new p.run p.is_run.events p.is_run.calls had
+
+  abbrev other_play : RunPlayed None old new' q.run (taken_of q.is_run.events)
+  other_play = run_played None old new' q.run q.is_run.events q.is_run.calls had'
+
   abbrev lost_in : {z : World} {xs : List Shown} → Plays None old z calls before xs true → Address → Bool
   lost_in k a = has_lost a (exchanges (replies (taken_of k.is_run.events)) 0 (whole_log k.run))
 
@@ -231,26 +261,27 @@ module _ (old new new' : World) (calls : List Call) (before after after' : List 
       let log : whole_log k.run ≡ log_of k.is_run.events = calls_log None old z k.run k.is_run.events k.is_run.calls h in
       (gone.0, none_there a (whole_log k.run) (replies (taken_of k.is_run.events)) 0 (subst (AllElsewhere a) (sym log) gone.1))
 
-  both : (a : Address) → Both (taken_of p.is_run.events a) (taken_of q.is_run.events a) (lost_in p a) (lost_in q a) ((p.is_run.played had).faults a) ((q.is_run.played had').faults a)
+  both : (a : Address) → Both (taken_of p.is_run.events a) (taken_of q.is_run.events a) (lost_in p a) (lost_in q a) (one_play.faults a) (other_play.faults a)
   both a = by (link_at old.nodes a) refl
     where
-      by : (o : Option Seen) → link_at old.nodes a ≡ o → Both (taken_of p.is_run.events a) (taken_of q.is_run.events a) (lost_in p a) (lost_in q a) ((p.is_run.played had).faults a) ((q.is_run.played had').faults a)
+      by : (o : Option Seen) → link_at old.nodes a ≡ o → Both (taken_of p.is_run.events a) (taken_of q.is_run.events a) (lost_in p a) (lost_in q a) (one_play.faults a) (other_play.faults a)
       by None e =
           let x = nothing_at p had a e in
           let y = nothing_at q had' a e in
           record { queue = []; fault = io; first = inl (sym (ap replies_of x.0)); second = inl (sym (ap replies_of y.0)); one = not_lost x.1; other = not_lost y.1 }
       by (Some link) e =
-          let r = p.is_run.played had in
-          let s = q.is_run.played had' in
+          let r = one_play in
+          let s = other_play in
           let t = still_linked old.nodes new.nodes r.made.addresses a link e in
           let u = still_linked old.nodes new'.nodes s.made.addresses a link e in
           both_made link t.0 u.0 (run_calls p.run a) (run_calls q.run a) (taken_of p.is_run.events a) (taken_of q.is_run.events a) (lost_in p a) (lost_in q a) (r.faults a) (s.faults a)
-          (promised a link e) (room a t.0 t.1) (room' a u.0 u.1) (r.made.each a link t.0 e t.1) (s.made.each a link u.0 e u.1)
+          (promised a link e) (room a t.0 t.1) (room' a u.0 u.1)
+          (run_fault old new p.run p.is_run.events p.is_run.calls had a links) (run_fault old new' q.run q.is_run.events q.is_run.calls had' a links') (r.made.each a link t.0 e t.1) (s.made.each a link u.0 e u.1)
 
   same_run : p.run ≡ q.run
   same_run =
-      let r = p.is_run.played had in
-      let s = q.is_run.played had' in
+      let r = one_play in
+      let s = other_play in
       let queues : Address → List Tree = λ a. (both a).queue in
       let faults : Address → LinkFault = λ a. (both a).fault in
       let left = subst (IsPlayedFrom None (client_of old) faults) (more_replies p.run (replies (taken_of p.is_run.events)) queues 0 (λ a. (both a).first))
@@ -261,13 +292,13 @@ module _ (old new new' : World) (calls : List Call) (before after after' : List 
 
   same_sent : SentSame new.nodes new'.nodes
   same_sent a l m is is' =
-      let r = p.is_run.played had in
-      let s = q.is_run.played had' in
+      let r = one_play in
+      let s = other_play in
       let was = still_linked new.nodes old.nodes (sym r.made.addresses) a l is in
       let k = promised a was.0 was.1 in
-      went_out was.0 l (run_calls p.run a) (taken_of p.is_run.events a) (lost_in p a) (r.faults a) k (room a l is) (r.made.each a was.0 l was.1 is)
+      went_out was.0 l (run_calls p.run a) (taken_of p.is_run.events a) (lost_in p a) (r.faults a) k (room a l is) (run_fault old new p.run p.is_run.events p.is_run.calls had a links) (r.made.each a was.0 l was.1 is)
       ∙ ap (λ ts. Some (k.sent ++ bytes_of (concat (run_calls ts a)))) same_run
-      ∙ sym (went_out was.0 m (run_calls q.run a) (taken_of q.is_run.events a) (lost_in q a) (s.faults a) k (room' a m is') (s.made.each a was.0 m was.1 is'))
+      ∙ sym (went_out was.0 m (run_calls q.run a) (taken_of q.is_run.events a) (lost_in q a) (s.faults a) k (room' a m is') (run_fault old new' q.run q.is_run.events q.is_run.calls had' a links') (s.made.each a was.0 m was.1 is'))
 
   pub promised_plays : (after ≡ after') × SentSame new.nodes new'.nodes
   promised_plays = (p.shown ∙ ap (λ ts. before ++ map shown_of ts) same_run ∙ sym q.shown, same_sent)

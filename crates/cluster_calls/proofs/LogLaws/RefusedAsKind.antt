@@ -14,6 +14,7 @@ use Rattle.cluster_calls.specs.OneServer.Headline.{PlayedCall}
 use Rattle.cluster_calls.specs.OneServer.RefusedPlays.{IsRefusedByKind, AreRefusedByKind}
 use Rattle.cluster_calls.proofs.LinkLaws.FaultsAgree.{agrees}
 use Rattle.cluster_calls.proofs.LinkLaws.LinkRuns.{pairing}
+use Rattle.cluster_calls.proofs.LinkLaws.PlainAnswers.{refused_is}
 use Rattle.cluster_calls.proofs.ServerLaws.Runs.{kind_is}
 
 pub call_refused : (strategy : Option Strategy) (old new : World) (call : Call) (answer : Result Answer Refusal) (made : CallMade strategy old new call answer)
@@ -22,8 +23,9 @@ call_refused strategy old new call answer made = λ had.
     let a = made.answered had in
     let es = made.happened.events in
     let same : exchanges_of 0 es ≡ log_with_replies (taken_of es) new.log =
-    sym (ap (λ qs. exchanges (replies (taken_of es)) 0 qs) a.logged ∙ pairing old.nodes new.nodes es 0 a.memory made.happened.runs) in
-    ap refusal_in (a.answered (faults_of es) (agrees old.nodes new.nodes es made.happened.runs) 0 ∙ ap (λ xs. answer_of (client_of old) new.picked (faults_of es) call xs) same)
+    sym (ap (λ qs. exchanges (replies (taken_of es)) 0 qs) a.logged ∙ pairing old.nodes new.nodes es 0 made.happened.runs) in
+    refused_is (client_of old) new.picked (faults_of es) call (exchanges_of 0 es) answer (a.answered (faults_of es) (agrees old.nodes new.nodes es made.happened.runs) 0)
+    ∙ ap (λ xs. refusal_in (answer_of (client_of old) new.picked (faults_of es) call xs)) same
     ∙ kind_is (client_of old) new.picked (faults_of es) call (log_with_replies (taken_of es) new.log)
 
 pub calls_refused : (strategy : Option Strategy) (old new : World) (ts : List PlayedCall) (events : List Event) (made : CallsMade strategy old new ts events) → AreRefusedByKind strategy old new ts events made

@@ -9,7 +9,7 @@ use Rattle.cluster_calls.specs.Links.Request.{Request}
 use Rattle.cluster_calls.specs.Links.Reply.{Sort, Moved, Ask, Failed, Data, sort_of}
 use Rattle.cluster_calls.specs.Links.Log.{Exchange, is_answered}
 use Rattle.cluster_calls.specs.Calls.Call.{Call}
-use Rattle.cluster_calls.specs.Calls.Task.{Task, slot_map_of, one_command, pipeline_of, several_nodes, one_node, read_of, task_of, transaction_of}
+use Rattle.cluster_calls.specs.Calls.Task.{Task, slot_map_of, one_command, pipeline_of, positions_of, several_nodes, one_node, read_of, task_of, transaction_of}
 use Rattle.cluster_calls.specs.Calls.Plan.{Client, Dispatch, plan}
 use Rattle.cluster_calls.specs.Calls.Redirects.{Hop, Next, Stays, Lost, Goes, next_of, reply_next, sort_next, MatchNext, FollowsRedirects}
 use Rattle.cluster_calls.specs.Calls.Legal.{first_hop, PartByPart, AreMade, IsLegalCall}
@@ -73,6 +73,7 @@ made_in_parts client (one_command command number order) ds xs p m = m
 made_in_parts client (read_of options streams) ds xs p m = m
 made_in_parts client (slot_map_of node) ds xs p m = absurd (false≢true p)
 made_in_parts client (pipeline_of entries) ds xs p m = absurd (false≢true p)
+made_in_parts client (positions_of entries) ds xs p m = absurd (false≢true p)
 made_in_parts client (several_nodes command) ds xs p m = absurd (false≢true p)
 made_in_parts client (one_node node command) ds xs p m = absurd (false≢true p)
 made_in_parts client (transaction_of commands) ds xs p m = absurd (false≢true p)

@@ -23,22 +23,22 @@ use Rattle.stream_commands.specs.Settings.{ReadSettings}
 use Rattle.stream_commands.specs.Commands.{plain_command}
 use Rattle.cluster_calls.specs.Links.Request.{Request, requests_to}
 use Rattle.cluster_calls.specs.Links.Log.{Exchange, exchanges, left_after, left_after_all, reply_at, is_unanswered, last_of, has_lost}
-use Rattle.cluster_calls.specs.Calls.Call.{Stream, Xadd, Xtrim, Xread, Xrange, Xclaim, Xautoclaim, Xpending, XinfoStream, XinfoGroups, XinfoConsumers, XdelEx, Call, Refresh, Query, Ordered, Pipeline, FanOut, At, OnStreams, Transaction}
-use Rattle.cluster_calls.specs.Calls.Task.{Task, slot_map_of, one_command, pipeline_of, several_nodes, one_node, read_of, task_of, sentence, sentence_task, is_by_key, stream_keys, transaction_of}
-use Rattle.cluster_calls.specs.Calls.Parts.{result_then}
-use Rattle.cluster_calls.specs.Calls.Plan.{Client, plan, unless}
+use Rattle.cluster_calls.specs.Calls.Call.{Stream, Xadd, Xtrim, Xread, Xrange, Xclaim, Xautoclaim, Xpending, XinfoStream, XinfoGroups, XinfoConsumers, XdelEx, Call, Refresh, Query, Ordered, Pipeline, Each, FanOut, At, OnStreams, Transaction}
+use Rattle.cluster_calls.specs.Calls.Task.{Task, slot_map_of, one_command, pipeline_of, positions_of, several_nodes, one_node, read_of, task_of, sentence, sentence_task, is_by_key, stream_keys, transaction_of}
+use Rattle.cluster_calls.specs.Calls.Parts.{result_then, unless}
+use Rattle.cluster_calls.specs.Calls.Plan.{Client, plan}
 use Rattle.cluster_calls.specs.Calls.Legal.{IsLegalCall}
 use Rattle.cluster_calls.specs.Links.Faults.{LinkFault, refusal_by_fault}
 use Rattle.cluster_calls.specs.Calls.Replies.{outcome_by, outcomes, policy_in, reply_by_outcomes, in_pipeline_order, several_reply}
 use Rattle.cluster_calls.specs.Calls.Refusals.{refusal_in, direct_refusal, pipeline_refusal, errors_from, sent_refusal}
-use Rattle.cluster_calls.specs.Calls.Answer.{Answer, Read, Range, Claim, answer_in, task_answer, tree_in, answer_of}
+use Rattle.cluster_calls.specs.Calls.Answer.{Answer, Read, Range, Claim, answer_in, task_answer, tree_in, answer_of, Told}
 use Rattle.cluster_calls.specs.Calls.After.{map_after, links_after, client_after}
 use Rattle.cluster_calls.specs.OneServer.Headline.{PlayedCall, with_replies_from, IsPlayedFrom}
 use Rattle.cluster_calls.specs.OneServer.Respelling.{respelling, request_respellings, respellings, SayTheSame, stream_respelling}
 use Rattle.cluster_calls.proofs.LogLaws.Alike.{AlikeReply, replied, AlikeExchange, any_alike, both_replied, legal_alike, part_refusal_alike, reply_alike, rows_alike, exchanges_equal}
 use Rattle.cluster_calls.proofs.LinkLaws.Addresses.{same_refl}
 use Rattle.cluster_calls.proofs.LogLaws.SameLogs.{replies_determine_logs}
-use Rattle.cluster_calls.proofs.LogLaws.LostFaults.{AgreeWhereLost, commands_same}
+use Rattle.cluster_calls.proofs.LogLaws.LostFaults.{AgreeWhereLost, commands_same, each_same}
 use Rattle.cluster_calls.proofs.LogLaws.StreamTasks.{stream_tasks}
 
 -- ---- these commands are not split
@@ -125,6 +125,7 @@ exact_answers client picks faults faults' call xs ys h =
     refused (slot_map_of node) = refresh_same faults faults' xs fine
     refused (one_command command number order) = part_refusal_alike None client faults faults' xs xs itself
     refused (pipeline_of entries) = pipeline_same faults faults' xs (errors_from 0 (in_pipeline_order entries xs)) fine
+    refused (positions_of entries) = refl
     refused (several_nodes command) = ap refusal_in (several_same faults faults' command xs fine)
     refused (one_node node command) = refresh_same faults faults' xs fine
     refused (transaction_of commands) = ap refusal_in (commands_same faults faults' client commands xs (agree_replied faults faults' xs fine))
@@ -134,6 +135,7 @@ exact_answers client picks faults faults' call xs ys h =
     told_same (slot_map_of node) = refl
     told_same (one_command command number order) = refl
     told_same (pipeline_of entries) = refl
+    told_same (positions_of entries) = ap (λ os. Some (Told os)) (each_same faults faults' entries xs (agree_replied faults faults' xs fine))
     told_same (several_nodes command) = ap (λ r. option_and_then (answer_in call) (tree_in r)) (several_same faults faults' command xs fine)
     told_same (one_node node command) = refl
     told_same (transaction_of commands) = refl
@@ -154,6 +156,7 @@ answers_alike client picks faults faults' (Refresh node) xs ys h = exact_answers
 answers_alike client picks faults faults' (Query command number) xs ys h = exact_answers client picks faults faults' (Query command number) xs ys h
 answers_alike client picks faults faults' (Ordered command order number) xs ys h = exact_answers client picks faults faults' (Ordered command order number) xs ys h
 answers_alike client picks faults faults' (Pipeline entries) xs ys h = exact_answers client picks faults faults' (Pipeline entries) xs ys h
+answers_alike client picks faults faults' (Each entries) xs ys h = exact_answers client picks faults faults' (Each entries) xs ys h
 answers_alike client picks faults faults' (FanOut command) xs ys h = exact_answers client picks faults faults' (FanOut command) xs ys h
 answers_alike client picks faults faults' (At node command) xs ys h = exact_answers client picks faults faults' (At node command) xs ys h
 answers_alike client picks faults faults' (Transaction commands) xs ys h = exact_answers client picks faults faults' (Transaction commands) xs ys h
@@ -211,6 +214,7 @@ map_alike entries (Refresh node) xs ys h = ap (map_after entries (Refresh node))
 map_alike entries (Query command number) xs ys h = refl
 map_alike entries (Ordered command order number) xs ys h = refl
 map_alike entries (Pipeline es) xs ys h = refl
+map_alike entries (Each es) xs ys h = refl
 map_alike entries (FanOut command) xs ys h = refl
 map_alike entries (At node command) xs ys h = refl
 map_alike entries (Transaction commands) xs ys h = refl
@@ -265,6 +269,7 @@ exact_transactions (Refresh node) commands t = refl
 exact_transactions (Query command number) commands t = refl
 exact_transactions (Ordered command order number) commands t = refl
 exact_transactions (Pipeline entries) commands t = refl
+exact_transactions (Each entries) commands t = refl
 exact_transactions (FanOut command) commands t = refl
 exact_transactions (At node command) commands t = refl
 exact_transactions (Transaction all) commands t = refl

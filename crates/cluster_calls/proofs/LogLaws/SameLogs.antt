@@ -6,10 +6,11 @@ use Rattle.std.proofs.lemmas.List.{take-append-drop}
 use Rattle.resp_core.specs.Trees.{Tree}
 use Rattle.resp_core.specs.Errors.{Refusal}
 use Rattle.cluster_routing.specs.Address.{Address}
+use Rattle.cluster_routing.specs.Lists.{concat}
 use Rattle.cluster_calls.specs.Links.Request.{Request}
 use Rattle.cluster_calls.specs.Links.Log.{Exchange, requests, exchanges, left_after, reply_at, is_answered, is_unanswered, left_after_all}
 use Rattle.cluster_calls.specs.Calls.Call.{Call}
-use Rattle.cluster_calls.specs.Calls.Task.{Task, slot_map_of, one_command, pipeline_of, several_nodes, one_node, read_of, task_of, transaction_of}
+use Rattle.cluster_calls.specs.Calls.Task.{Task, slot_map_of, one_command, pipeline_of, positions_of, several_nodes, one_node, read_of, task_of, transaction_of}
 use Rattle.cluster_calls.specs.Calls.Plan.{Client, Dispatch, plan}
 use Rattle.cluster_calls.specs.Calls.Redirects.{Hop, Next, Stays, Lost, Goes, next_of, MatchNext, FollowsRedirects}
 use Rattle.cluster_calls.specs.Calls.Legal.{first_hop, direct, PartByPart, NodeByNode, node_groups, AreMade, IsLegalCall, AttemptAfterAttempt}
@@ -189,6 +190,7 @@ made_log : (client : Client) (task : Task) (ds : List Dispatch) → Determines (
 made_log client (slot_map_of node) ds = same_requests ds
 made_log client (one_command command number order) ds = parts_log client ds
 made_log client (pipeline_of entries) ds = nodes_log (node_groups ds)
+made_log client (positions_of entries) ds = same_requests (concat (node_groups ds))
 made_log client (several_nodes command) ds = same_requests ds
 made_log client (one_node node command) ds = same_requests ds
 made_log client (transaction_of commands) ds = transaction_log client (args_of commands) ds

@@ -12,7 +12,7 @@ use Rattle.cluster_routing.specs.Split.{Split, split_of}
 use Rattle.cluster_calls.specs.Links.Request.{Request}
 use Rattle.cluster_calls.specs.Links.Log.{Exchange, is_answered}
 use Rattle.cluster_calls.specs.Calls.Call.{Call, Stream}
-use Rattle.cluster_calls.specs.Calls.Task.{Task, slot_map_of, one_command, pipeline_of, several_nodes, one_node, read_of, task_of, transaction_of}
+use Rattle.cluster_calls.specs.Calls.Task.{Task, slot_map_of, one_command, pipeline_of, positions_of, several_nodes, one_node, read_of, task_of, transaction_of}
 use Rattle.cluster_calls.specs.Calls.Plan.{Client, Dispatch, plan}
 use Rattle.cluster_calls.specs.Calls.Redirects.{Hop, Next, Stays, Lost, Goes, next_of, MatchNext, FollowsRedirects}
 use Rattle.cluster_calls.specs.Calls.Replies.{args_slot}
@@ -129,6 +129,7 @@ parts_own_slots client picks call ds p e = by (task_of call) refl p
     by (read_of options streams) t p = subst (IsDistinct nat_eq) (sym (plan_reads options streams client picks call ds t e)) (firsts_distinct nat_eq (map (λ (s : Stream). hash_slot s.key) streams))
     by (slot_map_of node) t p = absurd (false≢true p)
     by (pipeline_of entries) t p = absurd (false≢true p)
+    by (positions_of entries) t p = absurd (false≢true p)
     by (several_nodes command) t p = absurd (false≢true p)
     by (one_node node command) t p = absurd (false≢true p)
     by (transaction_of commands) t p = absurd (false≢true p)

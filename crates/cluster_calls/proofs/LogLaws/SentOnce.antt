@@ -12,7 +12,7 @@ use Rattle.resp_args.specs.Packed.{sent}
 use Rattle.cluster_routing.specs.Address.{Address, same_address}
 use Rattle.cluster_routing.specs.AllNodes.{all_nodes, all_primaries, node_sets, node_list}
 use Rattle.cluster_routing.specs.Laws.{AddressesAscend}
-use Rattle.cluster_routing.specs.Lists.{Pairwise, among, IsDistinct}
+use Rattle.cluster_routing.specs.Lists.{Pairwise, among, IsDistinct, concat}
 use Rattle.cluster_routing.specs.Routing.{Destination, to_any_node, to_any_primary, to_route, to_address, to_all_nodes, to_all_primaries, to_parts, destination, route_to}
 use Rattle.cluster_routing.specs.SlotMap.{Nodes, SlotEntries}
 use Rattle.cluster_routing.specs.declared.route.SlotAddr.TheVariants.{Master}
@@ -21,7 +21,7 @@ use Rattle.cluster_calls.specs.Links.Log.{Exchange, requests, is_unanswered}
 use Rattle.cluster_calls.specs.Links.Request.{Request, slots_command, multi, exec}
 use Rattle.cluster_calls.specs.Links.World.{is_linked}
 use Rattle.cluster_calls.specs.Calls.Call.{Call, Entry}
-use Rattle.cluster_calls.specs.Calls.Task.{Task, slot_map_of, one_command, pipeline_of, several_nodes, one_node, read_of, task_of, transaction_of}
+use Rattle.cluster_calls.specs.Calls.Task.{Task, slot_map_of, one_command, pipeline_of, positions_of, several_nodes, one_node, read_of, task_of, transaction_of}
 use Rattle.cluster_calls.specs.Calls.Parts.{Part, part_to, at_node, at_slot, to_nodes, node_parts, with_whole, whole_part, reads_several_slots, if_one_slot, parts_of, pipeline_parts, result_then}
 use Rattle.cluster_calls.specs.Calls.Plan.{Client, Dispatch, with_first, dispatches, plan}
 use Rattle.cluster_calls.specs.Calls.Legal.{direct, nodes_in_use, node_groups, NodeByNode, AreMade, IsLegalCall, AttemptAfterAttempt, first_hop}
@@ -129,6 +129,18 @@ pipeline_bound client picks call entries ds xs t e h =
     let k = grouped_bound (nodes_in_use ds) (firsts_distinct same_address (map (λ (d : Dispatch). d.node) ds)) ds in
     omega (arith, a, b, c, g, k)
 
+concat_total : (groups : List (List Dispatch)) → length (concat groups) ≡ total groups
+concat_total [] = refl
+concat_total (group ∷ groups) = length-append group (concat groups) ∙ ap (λ n. length group + n) (concat_total groups)
+
+-- each part has one
+positions_bound : (ds : List Dispatch) (xs : List Exchange) → requests xs ≡ map direct (concat (node_groups ds)) → length xs ≤ length ds
+positions_bound ds xs h =
+    let sent = sent_length xs (concat (node_groups ds)) h in
+    let all = concat_total (node_groups ds) in
+    let k = grouped_bound (nodes_in_use ds) (firsts_distinct same_address (map (λ (d : Dispatch). d.node) ds)) ds in
+    omega (arith, sent, all, k)
+
 -- one part has one request
 one_part_bound : (client : Client) (picks : List Address) (task : Task) (ds : List Dispatch) (xs : List Exchange) (p : Planned client picks task ds) → length p.found ≡ length ds → (part : Part) → part ∷ [] ≡ p.parts
     → requests xs ≡ map direct ds → length xs ≤ 1
@@ -194,6 +206,7 @@ requests_are_bounded client picks call ds xs e legal = by (task_of call) refl (s
     by (slot_map_of node) t m = refresh_bound client picks call node ds xs t e m
     by (one_command command number order) t m = parts_bound client ds xs m
     by (pipeline_of entries) t m = pipeline_bound client picks call entries ds xs t e m
+    by (positions_of entries) t m = positions_bound ds xs m
     by (several_nodes command) t m = let s = sent_length xs ds m in omega (arith, s)
     by (one_node node command) t m = one_node_bound client picks call node command ds xs t e m
     by (transaction_of commands) t m = transaction_bound client picks call commands ds xs t e m

@@ -36,6 +36,7 @@ answers_by_one_read sent sent' out left left' got reads t ts goes comes spells s
   contract = record {
     was_open = refl;
     usable = refl;
+    owes = refl;
     flushed = refl;
     sent = record { written = goes; sound = record { promise = refl; refused = refl; no_room = refl; kept = tt } };
     allowed = 4294967295;
@@ -70,11 +71,12 @@ answers_by_one_read sent sent' out left left' got reads t ts goes comes spells s
 }
 
 -- one read gives nothing
-pub fails_by_no_bytes : (sent sent' out : List ℕ) (reads : ℕ) → sent' ≡ sent ++ out → FailsFrom (link sent [] reads) (ended_link sent' (reads + 1)) out 1 [] (by_cause Io)
-fails_by_no_bytes sent sent' out reads goes = in_receiving
+pub fails_by_no_bytes : (sent sent' out : List ℕ) (reads count : ℕ) → sent' ≡ sent ++ out → 1 ≤ count → FailsFrom (link sent [] reads) (ended_link sent' (reads + 1)) out count [] (by_cause Io)
+fails_by_no_bytes sent sent' out reads count goes some = in_receiving
     (record {
       was_open = refl;
       closed = refl;
+      owes = refl;
       flushed = refl;
       sent = record { written = goes; sound = record { promise = refl; refused = refl; no_room = refl; kept = tt } };
       limit = refl;
@@ -95,7 +97,7 @@ fails_by_no_bytes sent sent' out reads goes = in_receiving
           set_aside = refl;
           rest = refl;
         };
-        fewer = omega arith;
+        fewer = omega (arith, some);
       };
     })
     refl

@@ -1,5 +1,5 @@
 -- GET b: n1's link ends before a reply.
-use Rattle.std.proofs.Common.{◌≡◌, true, [], ◌∷◌, None, Err, refl, sym, ap, codes}
+use Rattle.std.proofs.Common.{◌≡◌, true, [], ◌∷◌, None, Err, refl, sym, ap, arith, codes}
 use Rattle.std.proofs.lemmas.Bool.{false≢true}
 use Rattle.std.specs.Fmt.{digits}
 use Rattle.std.specs.Str.{is_utf8, chars}
@@ -46,7 +46,7 @@ runs = (
     now = refl;
     some = λ none. cc;
     to_node = (refl, tt);
-    ends = fails_by_no_bytes (bytes_of (plain n1 get_a ∷ plain n1 (del (codes "b" ∷ [])) ∷ plain n1 get_b ∷ [])) (bytes_of to_n1) (bytes_of (plain n1 get_b ∷ [])) 3 refl;
+    ends = fails_by_no_bytes (bytes_of (plain n1 get_a ∷ plain n1 (del (codes "b" ∷ [])) ∷ plain n1 get_b ∷ [])) (bytes_of to_n1) (bytes_of (plain n1 get_b ∷ [])) 3 1 refl (omega arith);
   },
   refl,
 )
@@ -56,7 +56,7 @@ unfolding destination rule_of table hash_slot splitting_of digits first_error is
 happened = record {
   events = by_none;
   runs = runs;
-  stops = (λ lacks. refl, tt);
+  stops = λ e. (λ lacks. refl, tt);
   logged = refl;
   calls = link_calls_made piped.nodes here.nodes by_none (task_of get_b_lost.call) runs ((plain n1 get_b, refl), tt);
   picks = λ some. refl;
@@ -69,7 +69,7 @@ happened = record {
 answer : Answered None piped here get_b_lost.call by_none get_b_lost.answer
 unfolding destination rule_of table hash_slot splitting_of digits first_error is_utf8 chars encode server_kind
 answer = record {
-  memory = refl;
+  memory = λ e. refl;
   logged = refl;
   picks = refl;
   legal = λ place. (refl, refl);
@@ -84,7 +84,7 @@ get_b_made = (
   record {
     happened = happened;
     answered = λ had. answer;
-    played = λ had. played None piped here get_b_lost.call get_b_lost.answer happened answer;
+    played = λ told. played None piped here get_b_lost.call get_b_lost.answer happened answer told;
     memory = λ lacks refreshes. absurd (false≢true refreshes);
     unpicked = λ lacks none. refl;
   },

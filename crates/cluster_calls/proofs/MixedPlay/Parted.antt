@@ -79,7 +79,7 @@ unfolding destination rule_of table hash_slot splitting_of digits first_error is
 happened = record {
   events = by_parts;
   runs = runs;
-  stops = (λ lacks. absurd (false≢true lacks), (λ lacks. refl, tt));
+  stops = λ e. (λ lacks. absurd (false≢true lacks), (λ lacks. refl, tt));
   logged = refl;
   calls = link_calls_made redirected.nodes here.nodes by_parts (task_of del_refused.call) runs ((plain n2 (del (codes "a" ∷ [])), refl), ((plain n1 (del (codes "b" ∷ [])), refl), tt));
   picks = λ some. refl;
@@ -92,7 +92,7 @@ happened = record {
 answer : Answered None redirected here del_refused.call by_parts del_refused.answer
 unfolding destination rule_of table hash_slot splitting_of digits first_error is_utf8 chars encode server_kind
 answer = record {
-  memory = refl;
+  memory = λ e. refl;
   logged = refl;
   picks = refl;
   legal = λ place. (refl, (refl, refl));
@@ -107,7 +107,7 @@ del_made = (
   record {
     happened = happened;
     answered = λ had. answer;
-    played = λ had. played None redirected here del_refused.call del_refused.answer happened answer;
+    played = λ told. played None redirected here del_refused.call del_refused.answer happened answer told;
     memory = λ lacks refreshes. absurd (false≢true refreshes);
     unpicked = λ lacks none. refl;
   },

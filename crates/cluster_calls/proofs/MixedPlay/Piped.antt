@@ -89,7 +89,7 @@ unfolding destination rule_of table hash_slot splitting_of digits first_error is
 happened = record {
   events = by_nodes;
   runs = runs;
-  stops = (λ lacks. absurd (false≢true lacks), (λ lacks. refl, tt));
+  stops = λ e. (λ lacks. absurd (false≢true lacks), (λ lacks. refl, tt));
   logged = refl;
   calls = link_calls_made split.nodes here.nodes by_nodes (task_of pipeline_answered.call) runs (refl, (refl, tt));
   picks = λ some. refl;
@@ -102,7 +102,7 @@ happened = record {
 answer : Answered None split here pipeline_answered.call by_nodes pipeline_answered.answer
 unfolding destination rule_of table hash_slot splitting_of digits first_error is_utf8 chars encode server_kind
 answer = record {
-  memory = refl;
+  memory = λ e. refl;
   logged = refl;
   picks = refl;
   legal = λ place. (refl, (refl, refl));
@@ -117,7 +117,7 @@ pipeline_made = (
   record {
     happened = happened;
     answered = λ had. answer;
-    played = λ had. played None split here pipeline_answered.call pipeline_answered.answer happened answer;
+    played = λ told. played None split here pipeline_answered.call pipeline_answered.answer happened answer told;
     memory = λ lacks refreshes. absurd (false≢true refreshes);
     unpicked = λ lacks none. refl;
   },

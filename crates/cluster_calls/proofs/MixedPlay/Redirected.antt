@@ -79,7 +79,7 @@ unfolding destination rule_of table hash_slot splitting_of digits first_error is
 happened = record {
   events = by_moved;
   runs = runs;
-  stops = (λ lacks. absurd (false≢true lacks), (λ lacks. refl, tt));
+  stops = λ e. (λ lacks. absurd (false≢true lacks), (λ lacks. refl, tt));
   logged = refl;
   calls = link_calls_made at_first.nodes here.nodes by_moved (task_of get_a_redirected.call) runs ((plain n2 get_a, refl), ((plain n1 get_a, refl), tt));
   picks = λ some. refl;
@@ -92,7 +92,7 @@ happened = record {
 answer : Answered None at_first here get_a_redirected.call by_moved get_a_redirected.answer
 unfolding destination rule_of table hash_slot splitting_of digits first_error is_utf8 chars encode server_kind
 answer = record {
-  memory = refl;
+  memory = λ e. refl;
   logged = refl;
   picks = refl;
   legal = λ place. (refl, (refl, refl));
@@ -107,7 +107,7 @@ get_a_made = (
   record {
     happened = happened;
     answered = λ had. answer;
-    played = λ had. played None at_first here get_a_redirected.call get_a_redirected.answer happened answer;
+    played = λ told. played None at_first here get_a_redirected.call get_a_redirected.answer happened answer told;
     memory = λ lacks refreshes. absurd (false≢true refreshes);
     unpicked = λ lacks none. refl;
   },

@@ -10,3 +10,6 @@ spells_one got t e = let b = begins_with 100 got t [] e in (b.0, [], b.2, b.1, r
 
 pub spells_two : (got rest : List ℕ) (t u : Tree) → value_at 100 got ≡ Ok (t, rest) → value_at 100 rest ≡ Ok (u, []) → SpelledInOrder 100 got (t ∷ u ∷ [])
 spells_two got rest t u e f = let b = begins_with 100 got t rest e in (b.0, rest, b.2, b.1, spells_one rest u f)
+
+pub spells_three : (got second third : List ℕ) (t u v : Tree) → value_at 100 got ≡ Ok (t, second) → value_at 100 second ≡ Ok (u, third) → value_at 100 third ≡ Ok (v, []) → SpelledInOrder 100 got (t ∷ u ∷ v ∷ [])
+spells_three got second third t u v e f g = let b = begins_with 100 got t second e in (b.0, second, b.2, b.1, spells_two second third u v f g)

@@ -49,7 +49,7 @@ calls = (
 )
 
 had_memory : HadMemory four_calls
-had_memory = (λ e. cc, (λ e. cc, (λ e. cc, (λ e. cc, tt))))
+had_memory = ((λ e. cc, tt), ((λ e. cc, tt), ((λ e. cc, tt), ((λ e. cc, tt), tt))))
 
 abbrev four_played : Plays None at_first at_last (map (λ (t : PlayedCall). t.call) four_calls) [] (map shown_of four_calls) true
 four_played = record {

@@ -1,5 +1,5 @@
 -- A run is as good as one server where no one else uses the keys: that is the claim among others, with no step of others.
-use Rattle.std.proofs.Common.{◌≡◌, ℕ, suc, Bool, true, false, cond, ◌==◌, List, [], ◌∷◌, ◌++◌, map, length, Option, refl, sym, ap, ◌∙◌, subst, append-nil}
+use Rattle.std.proofs.Common.{◌≡◌, ℕ, Bool, true, false, cond, ◌==◌, List, [], ◌∷◌, ◌++◌, map, length, Option, refl, sym, ap, ◌∙◌, subst, append-nil}
 use Rattle.std.proofs.lemmas.List.{map-append}
 use Rattle.cluster_routing.specs.Address.{Address}
 use Rattle.cluster_routing.specs.Choice.{Strategy}
@@ -12,10 +12,11 @@ use Rattle.cluster_calls.specs.OneServer.Honest.{HonestRun}
 use Rattle.cluster_calls.specs.OneServer.Keyspace.{Keyspace, Step, History, on_slot}
 use Rattle.cluster_calls.specs.OneServer.Laws.{GapsNameNoKey}
 use Rattle.cluster_calls.specs.OneServer.Meaning.{Meaning, DoAll}
-use Rattle.cluster_calls.specs.OneServer.Operations.{Operation, Response}
+use Rattle.cluster_calls.specs.OneServer.Operations.{Response}
 use Rattle.cluster_calls.specs.OneServer.AmongOthers.{Turn, Own, Other, step_of, in_turn, turns_on, CallTurns, call_turns, run_turns, AreItsRequests, HonestAmongOthers, ServedCall, IsServed, AsOneServerAmongOthers}
 use Rattle.cluster_calls.proofs.ServerLaws.AmongOthers.{served_among_others, same_run}
 use Rattle.cluster_calls.proofs.ServerLaws.Histories.{history_same_slots}
+use Rattle.cluster_calls.proofs.ServerLaws.Pieces.{do_all-append, do_all_length}
 use Rattle.cluster_calls.proofs.ServerLaws.Runs.{AreOfCall, by_call, concat-append}
 
 -- a call while no one else does anything
@@ -114,22 +115,6 @@ honest_alone meaning done ts keys keys' honest =
 
 -- ---- one server
 
-do_all-append : (meaning : Meaning) (cs ds : List Operation) (ss rs : List (List Step)) (ts us : List Response) → DoAll meaning cs ss ts → DoAll meaning ds rs us → DoAll meaning (cs ++ ds) (ss ++ rs) (ts ++ us)
-do_all-append meaning [] ds [] rs [] us h k = k
-do_all-append meaning (c ∷ cs) ds (s ∷ ss) rs (t ∷ ts) us h k = (h.0, do_all-append meaning cs ds ss rs ts us h.1 k)
-do_all-append meaning [] ds [] rs (t ∷ ts) us h k = absurd h
-do_all-append meaning [] ds (s ∷ ss) rs ts us h k = absurd h
-do_all-append meaning (c ∷ cs) ds [] rs ts us h k = absurd h
-do_all-append meaning (c ∷ cs) ds (s ∷ ss) rs [] us h k = absurd h
-
-do_all_length : (meaning : Meaning) (cs : List Operation) (ss : List (List Step)) (ts : List Response) → DoAll meaning cs ss ts → length ts ≡ length cs
-do_all_length meaning [] [] [] h = refl
-do_all_length meaning (c ∷ cs) (s ∷ ss) (t ∷ ts) h = ap suc (do_all_length meaning cs ss ts h.1)
-do_all_length meaning [] [] (t ∷ ts) h = absurd h
-do_all_length meaning [] (s ∷ ss) ts h = absurd h
-do_all_length meaning (c ∷ cs) [] ts h = absurd h
-do_all_length meaning (c ∷ cs) (s ∷ ss) [] h = absurd h
-
 abbrev now_of : List ServedCall → List CallTurns
 now_of xs = map (λ (x : ServedCall). x.now) xs
 
@@ -152,7 +137,7 @@ all_counts meaning done [] (x ∷ xs) h = absurd h
 all_counts meaning done (t ∷ ts) [] h = absurd h
 all_counts meaning done (t ∷ ts) (x ∷ xs) h = (do_all_length meaning (counting done t.call t.answer t.log) x.now.own x.responses h.0.operations, all_counts meaning done ts xs h.1)
 
-all_answers : (meaning : Meaning) (done : ℕ → Bool) (ts : List RepliedCall) (xs : List ServedCall) → Pairwise (IsServed meaning done) ts xs → Pairwise (λ (t : RepliedCall) here. IsAnswerBy t.call t.answer here) ts (responses_of xs)
+all_answers : (meaning : Meaning) (done : ℕ → Bool) (ts : List RepliedCall) (xs : List ServedCall) → Pairwise (IsServed meaning done) ts xs → Pairwise (λ (t : RepliedCall) here. IsAnswerBy done t.call t.log t.answer here) ts (responses_of xs)
 all_answers meaning done [] [] h = tt
 all_answers meaning done [] (x ∷ xs) h = absurd h
 all_answers meaning done (t ∷ ts) [] h = absurd h

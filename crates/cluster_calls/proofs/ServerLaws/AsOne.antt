@@ -15,8 +15,8 @@ use Rattle.cluster_calls.specs.Calls.Answer.{Answer, Value, answer_in, answer_of
 use Rattle.cluster_calls.specs.Calls.Call.{Transaction}
 use Rattle.cluster_calls.specs.Calls.Legal.{AttemptAfterAttempt, IsLegalCall, first_hop}
 use Rattle.cluster_calls.specs.Calls.OneSlot.{args_of}
-use Rattle.cluster_calls.specs.Calls.Parts.{result_then}
-use Rattle.cluster_calls.specs.Calls.Plan.{Client, Dispatch, plan, unless}
+use Rattle.cluster_calls.specs.Calls.Parts.{result_then, unless}
+use Rattle.cluster_calls.specs.Calls.Plan.{Client, Dispatch, plan}
 use Rattle.cluster_calls.specs.Calls.Redirects.{Hop, Next, Stays, Lost, Goes, MatchNext}
 use Rattle.cluster_calls.specs.Calls.Refusals.{refusal_in}
 use Rattle.cluster_calls.specs.Calls.Replies.{transaction_reply}

@@ -1,5 +1,5 @@
 -- Each call of one command is as good as the command on one server.
-use Rattle.std.proofs.Common.{◌≡◌, ℕ, suc, Bool, true, false, cond, nat_eq, List, [], ◌∷◌, filter, length, Option, Some, None, Result, Ok, Err, refl, sym, ap, ◌∙◌, subst, MatchResult}
+use Rattle.std.proofs.Common.{◌≡◌, ℕ, Bool, true, false, cond, nat_eq, List, [], ◌∷◌, filter, length, Option, Some, None, Result, Ok, Err, refl, sym, ap, ◌∙◌, subst, MatchResult}
 use Rattle.std.specs.Prelude.{option_and_then}
 use Rattle.resp_core.specs.Trees.{Tree}
 use Rattle.resp_core.specs.Errors.{Refusal, by_cause}
@@ -14,8 +14,8 @@ use Rattle.cluster_routing.specs.Split.{Split, split_of}
 use Rattle.cluster_calls.specs.Links.Log.{Exchange, behind_answers}
 use Rattle.cluster_calls.specs.Calls.Call.{Call}
 use Rattle.cluster_calls.specs.Calls.Task.{Task, one_command, task_of, early_refusal}
-use Rattle.cluster_calls.specs.Calls.Parts.{Part, result_then, parts_of, fits_order, if_ordered}
-use Rattle.cluster_calls.specs.Calls.Plan.{Client, Dispatch, dispatches, in_order, order_of, unless, plan}
+use Rattle.cluster_calls.specs.Calls.Parts.{Part, result_then, parts_of, fits_order, if_ordered, unless}
+use Rattle.cluster_calls.specs.Calls.Plan.{Client, Dispatch, dispatches, in_order, order_of, plan}
 use Rattle.cluster_calls.specs.Calls.Legal.{PartByPart, AreMade, IsLegalCall}
 use Rattle.cluster_calls.specs.Links.Faults.{LinkFault}
 use Rattle.cluster_calls.specs.Calls.Replies.{part_replies, reply_of_parts}
@@ -24,10 +24,11 @@ use Rattle.cluster_calls.specs.Calls.Answer.{Answer, answer_in, task_answer, ans
 use Rattle.cluster_calls.specs.OneServer.Keyspace.{Step}
 use Rattle.cluster_calls.specs.OneServer.Meaning.{Meaning}
 use Rattle.cluster_calls.specs.OneServer.Honest.{is_counted}
-use Rattle.cluster_calls.specs.OneServer.Commands.{task_operations, kept_of, kept_by, split_with, task_kept, counting, IsAnswerBy, IsTaskAnswer}
+use Rattle.cluster_calls.specs.OneServer.Commands.{task_done, kept_of, kept_by, split_with, task_kept, counting, IsAnswerBy, IsTaskAnswer}
 use Rattle.cluster_calls.specs.OneServer.Operations.{Operation, RunCommand, Response, Reply, run_each}
 use Rattle.cluster_calls.specs.Calls.TaskParts.{task_parts}
 use Rattle.cluster_calls.proofs.ServerLaws.Draw.{pairwise-nil}
+use Rattle.cluster_calls.proofs.ServerLaws.Grouping.{pairwise-length}
 use Rattle.cluster_calls.proofs.ServerLaws.Pieces.{SamePieces, AccountsAs, HonestIn, ServedIn}
 use Rattle.cluster_calls.proofs.LogLaws.Plans.{IsFor, dispatches_for, sends_parts, role, split_parts_are, whole_part_is}
 use Rattle.cluster_calls.proofs.ServerLaws.Orders.{sends_ordered}
@@ -37,7 +38,7 @@ use Rattle.cluster_calls.proofs.ServerLaws.PartCall.{Sends, command_kept, comman
 pub record CallServed (meaning : Meaning) (done : ℕ → Bool) (call : Call) (answer : Result Answer Refusal) (xs : List Exchange) (moves : List (List Step)) : Type 0 where
   pub responses : List Response
   pub served : ServedIn meaning (counting done call answer xs) responses moves
-  pub answer_is : IsAnswerBy call answer responses
+  pub answer_is : IsAnswerBy done call xs answer responses
 
 -- no exchange, no change
 pub nothing_done : (meaning : Meaning) (moves : List (List Step)) (done : ℕ → Bool) (operation : List (List ℕ) → Operation) → HonestIn meaning done operation [] moves → SamePieces [] moves
@@ -50,7 +51,7 @@ filter_none split = by split.tuples
     by [] = refl
     by (t ∷ ts) = by ts
 
-kept_none : (args : List (List ℕ)) → kept_of args [] ≡ []
+pub kept_none : (args : List (List ℕ)) → kept_of args [] ≡ []
 kept_none args = by (split_of args)
   where
     by : (o : Option Split) → kept_by args o [] ≡ []
@@ -76,18 +77,12 @@ dispatches_send client picks command number parts ds p d = at_split (split_of (s
         sends_parts (sent command) split s (role client.settings.read_only command number parts) ds
         (subst (λ q. Pairwise IsFor q ds) (split_parts_are client.settings.read_only command number parts split s p) (dispatches_for client parts picks ds d))
 
-pairwise-length : (parts : List Part) (ds : List Dispatch) → Pairwise IsFor parts ds → length parts ≡ length ds
-pairwise-length [] [] h = refl
-pairwise-length [] (d ∷ ds) h = absurd h
-pairwise-length (p ∷ ps) [] h = absurd h
-pairwise-length (p ∷ ps) (d ∷ ds) h = ap suc (pairwise-length ps ds h.1)
-
 -- also in another order
 ordered_send : (client : Client) (picks : List Address) (command : Command) (number : ℕ) (order : Option (List ℕ)) (parts : List Part) (ds : List Dispatch)
     → parts_of client.settings.read_only command number ≡ Ok parts → fits_order order (length parts) ≡ true → dispatches client picks parts ≡ Ok ds → Sends (sent command) (in_order order ds) (split_of (sent command))
 ordered_send client picks command number None parts ds p f d = dispatches_send client picks command number parts ds p d
 ordered_send client picks command number (Some order) parts ds p f d =
-    sends_ordered (sent command) ds order (split_of (sent command)) (subst (λ m. is_permutation m order ≡ true) (pairwise-length parts ds (dispatches_for client parts picks ds d)) f)
+    sends_ordered (sent command) ds order (split_of (sent command)) (subst (λ m. is_permutation m order ≡ true) (pairwise-length IsFor parts ds (dispatches_for client parts picks ds d)) f)
     (dispatches_send client picks command number parts ds p d)
 
 -- the plan of a call of one command sends it
@@ -141,8 +136,8 @@ module _ (client : Client) (faults : Address → LinkFault) (meaning : Meaning) 
     answered : part_refusal client faults (behind_answers xs) ≡ None → (tree : Tree) → reply_of_parts (sent command) (part_replies xs) ≡ Some tree → (answer : Answer) → answer_in call tree ≡ Some answer → CallServed meaning done call (Ok answer) xs moves
     answered fine tree made answer e = record {
       responses = Reply tree ∷ [];
-      served = subst (λ t. ServedIn meaning (task_operations t) (Reply tree ∷ []) moves) (sym is_command) (command_told meaning done (sent command) moves client faults ds xs sends legal honest fine tree made);
-      answer_is = subst (λ t. IsTaskAnswer call t answer (Reply tree ∷ [])) (sym is_command) (tree, refl, e);
+      served = subst (λ t. ServedIn meaning (task_done done t xs) (Reply tree ∷ []) moves) (sym is_command) (command_told meaning done (sent command) moves client faults ds xs sends legal honest fine tree made);
+      answer_is = subst (λ t. IsTaskAnswer done call t xs answer (Reply tree ∷ [])) (sym is_command) (tree, refl, e);
     }
 
     by_answer : part_refusal client faults (behind_answers xs) ≡ None → (tree : Tree) → reply_of_parts (sent command) (part_replies xs) ≡ Some tree → (o : Option Answer) → answer_in call tree ≡ o → CallServed meaning done call (or_bad_reply o) xs moves

@@ -96,7 +96,7 @@ of_chain links budget hop args Behind (x ∷ xs) h = by (next_of links budget x.
 
 -- ---- counting
 
-passed_uncounted : (done : ℕ → Bool) (x : Exchange) → IsPassed x → is_counted done x ≡ false
+pub passed_uncounted : (done : ℕ → Bool) (x : Exchange) → IsPassed x → is_counted done x ≡ false
 passed_uncounted done x h = ap (λ b. b || (is_unanswered x && done x.place)) h.0 ∙ ap (λ b. b && done x.place) h.1
 
 pub counted_answer : (done : ℕ → Bool) (x : Exchange) → is_answered x ≡ true → is_counted done x ≡ true

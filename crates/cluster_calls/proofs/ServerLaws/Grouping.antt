@@ -1,5 +1,5 @@
 -- Lists by slot: filters, pairs, and what is draw.
-use Rattle.std.proofs.Common.{◌≡◌, ℕ, Bool, true, false, cond, ◌==◌, List, [], ◌∷◌, ◌++◌, map, filter, refl, sym, ap, ◌∙◌, eqb-true}
+use Rattle.std.proofs.Common.{◌≡◌, ℕ, suc, Bool, true, false, cond, ◌==◌, List, [], ◌∷◌, ◌++◌, map, filter, length, refl, sym, ap, ◌∙◌, eqb-true}
 use Rattle.std.specs.List.{AllByRecursion}
 use Rattle.std.proofs.lemmas.Bool.{false≢true}
 use Rattle.cluster_routing.specs.Lists.{Pairwise, draw, without_front_of, front, rest}
@@ -35,9 +35,24 @@ pairwise-join R [] us (x ∷ xs) ys h k = absurd h
 pairwise-join R (t ∷ ts) us [] ys h k = absurd h
 pairwise-join R (t ∷ ts) us (x ∷ xs) ys h k = (h.0, pairwise-join R ts us xs ys h.1 k)
 
+pub pairwise-length : {T X : Type 0} (R : T → X → Type 0) (ts : List T) (xs : List X) → Pairwise R ts xs → length ts ≡ length xs
+pairwise-length R [] [] h = refl
+pairwise-length R [] (x ∷ xs) h = absurd h
+pairwise-length R (t ∷ ts) [] h = absurd h
+pairwise-length R (t ∷ ts) (x ∷ xs) h = ap suc (pairwise-length R ts xs h.1)
+
+pub pairwise-split : {A X : Type 0} (R : A → X → Type 0) (as' bs : List A) (xs : List X) → Pairwise R (as' ++ bs) xs → (us : List X) × (vs : List X) × (xs ≡ us ++ vs) × Pairwise R as' us × Pairwise R bs vs
+pairwise-split R [] bs xs h = ([], xs, refl, tt, h)
+pairwise-split R (a ∷ as') bs [] h = absurd h
+pairwise-split R (a ∷ as') bs (x ∷ xs) h = let r = pairwise-split R as' bs xs h.1 in (x ∷ r.0, r.1, ap (λ q. x ∷ q) r.2, (h.0, r.3), r.4)
+
 pub all-append : {X : Type 0} (P : X → Type 0) (xs ys : List X) → AllByRecursion P xs → AllByRecursion P ys → AllByRecursion P (xs ++ ys)
 all-append P [] ys h k = k
 all-append P (x ∷ xs) ys h k = (h.0, all-append P xs ys h.1 k)
+
+pub all-halves : {X : Type 0} (P : X → Type 0) (xs ys : List X) → AllByRecursion P (xs ++ ys) → AllByRecursion P xs × AllByRecursion P ys
+all-halves P [] ys h = (tt, h)
+all-halves P (x ∷ xs) ys h = let r = all-halves P xs ys h.1 in ((h.0, r.0), r.1)
 
 -- elements whose queue is empty draw nothing
 pub drawn_skip : {X D : Type 0} (slot : D → ℕ) (q : D → Bool) (ds : List D) (f : ℕ → List X) → ((d : D) → q d ≡ false → f (slot d) ≡ []) → draw (map slot ds) f ≡ draw (map slot (filter q ds)) f

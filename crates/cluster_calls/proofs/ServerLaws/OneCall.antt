@@ -15,7 +15,7 @@ use Rattle.cluster_calls.proofs.ServerLaws.AmongOthers.{served_among_others}
 pub one_call_among : OneCallAmongOthers
 one_call_among = λ strategy old new call answer made had on meaning keys keys' done turns last honest.
     let p = made.played had in
-    let a = made.answered had in
+    let a = made.answered had.0 in
     let run = with_replies (taken_of made.happened.events) (run_of_one new call answer) in
     served_among_others strategy p.faults meaning done run (client_of old) keys keys' every_gap_names_no_key (on, tt) (a.picks, p.legal, p.answered, tt)
     (turns ∷ []) last honest

@@ -11,8 +11,8 @@ use Rattle.cluster_routing.specs.Routing.{name_of}
 use Rattle.cluster_calls.specs.Calls.Call.{Call}
 use Rattle.cluster_calls.specs.Calls.Legal.{AreMade, AttemptAfterAttempt, IsLegalCall, first_hop}
 use Rattle.cluster_calls.specs.Calls.OneSlot.{args_of, common_slot, is_outside, own_slot, part_slot, parts_at, transaction_parts, with_own}
-use Rattle.cluster_calls.specs.Calls.Parts.{Part, Target, at_slot, at_number, at_node, if_at_slot, if_one_slot, parts_of, reads_several_slots, result_then, whole_part}
-use Rattle.cluster_calls.specs.Calls.Plan.{Client, Dispatch, dispatches, in_order, order_of, plan, unless}
+use Rattle.cluster_calls.specs.Calls.Parts.{Part, Target, at_slot, at_number, at_node, if_at_slot, if_one_slot, parts_of, reads_several_slots, result_then, whole_part, unless}
+use Rattle.cluster_calls.specs.Calls.Plan.{Client, Dispatch, dispatches, in_order, order_of, plan}
 use Rattle.cluster_calls.specs.Calls.Redirects.{Hop}
 use Rattle.cluster_calls.specs.Calls.Replies.{args_slot}
 use Rattle.cluster_calls.specs.Calls.Task.{Task, early_refusal, task_of, transaction_of}

@@ -20,6 +20,7 @@ use Rattle.cluster_calls.specs.OneServer.Honest.{is_counted}
 use Rattle.cluster_calls.specs.OneServer.Commands.{kept_by, kept_of}
 use Rattle.cluster_calls.proofs.ServerLaws.Pieces.{SamePieces, IsDoneAs, HonestIn, ServedIn}
 use Rattle.cluster_calls.proofs.ServerLaws.Counted.{counted_steps, Begun, parts_begun, AllDone, parts_done}
+use Rattle.cluster_calls.proofs.ServerLaws.Grouping.{all-halves}
 use Rattle.cluster_calls.proofs.ServerLaws.Splits.{part_on_slot}
 use Rattle.cluster_calls.proofs.ServerLaws.SplitCall.{IsDispatchOf, part_done, parts_done_steps, Regrouped, regrouped, kept_served}
 use Rattle.cluster_calls.proofs.ServerLaws.Combined.{Tells, combined_told}
@@ -31,10 +32,6 @@ use Rattle.cluster_calls.specs.Calls.Refusals.{part_refusal}
 abbrev pub Sends : List (List ℕ) → List Dispatch → Option Split → Type 0
 Sends args ds None = (d : Dispatch) × (ds ≡ d ∷ []) × (d.args ≡ args)
 Sends args ds (Some split) = SendsParts split ds
-
-all-front : {X : Type 0} (P : X → Type 0) (xs ys : List X) → AllByRecursion P (xs ++ ys) → AllByRecursion P xs
-all-front P [] ys h = tt
-all-front P (x ∷ xs) ys h = (h.0, all-front P xs ys h.1)
 
 among-front : (k : ℕ) (xs ys : List Dispatch) → among nat_eq k (map (λ (d : Dispatch). (args_slot d.args)) (xs ++ ys)) ≡ false → among nat_eq k (map (λ (d : Dispatch). (args_slot d.args)) xs) ≡ false
 among-front k [] ys h = refl
@@ -65,7 +62,7 @@ reply_is meaning x steps a h = by x.reply a h.reply
 module _ (meaning : Meaning) (done : ℕ → Bool) (args : List (List ℕ)) (moves : List (List Step)) where
   -- ---- what is kept
 
-  whole_kept : (d : Dispatch) → d.args ≡ args → (begun later : List Dispatch) → d ∷ [] ≡ begun ++ later → (xs : List Exchange) → Pairwise (λ (d : Dispatch) (x : Exchange). x.request.args ≡ d.args) begun xs
+  pub whole_kept : (d : Dispatch) → d.args ≡ args → (begun later : List Dispatch) → d ∷ [] ≡ begun ++ later → (xs : List Exchange) → Pairwise (λ (d : Dispatch) (x : Exchange). x.request.args ≡ d.args) begun xs
       → (sts : List (List Step)) → Pairwise (IsDoneAs meaning RunCommand) xs sts → SamePieces sts moves → (responses : List Response) × ServedIn meaning (run_each (kept_by args None xs)) responses moves
   whole_kept d e begun later all [] p [] h c = ([], ([], tt, c))
   whole_kept d e begun later all [] p (st ∷ sts) h c = absurd h
@@ -78,6 +75,14 @@ module _ (meaning : Meaning) (done : ℕ → Bool) (args : List (List ℕ)) (mov
       let same : d ≡ d2 = cc in
       let is_args : x.request.args ≡ args = p.0 ∙ ap (λ (b : Dispatch). b.args) (sym same) ∙ e in
       (h.0.response ∷ [], (st ∷ [], (((h.0.done.0, h.0.done.1, subst (λ a. DoCommand a st h.0.done.0) is_args h.0.done.2), h.0.allowed), tt), c))
+
+  -- of counted parts
+  pub parts_kept : (split : Split) → split_of args ≡ Some split → (ds : List Dispatch) → AllByRecursion (IsDispatchOf split) ds → IsDistinct nat_eq (map (λ (d : Dispatch). (args_slot d.args)) ds)
+      → (xs : List Exchange) → Pairwise (λ (d : Dispatch) (x : Exchange). x.request.args ≡ d.args) ds xs → (sts : List (List Step)) → Pairwise (IsDoneAs meaning RunCommand) xs sts → SamePieces sts moves
+      → (responses : List Response) × ServedIn meaning (run_each (kept_by args (Some split) xs)) responses moves
+  parts_kept split e ds each distinct xs p sts h c =
+      kept_served meaning args split e moves (λ t. among nat_eq (tuple_slot t) (map exchange_slot xs)) sts
+      (regrouped meaning args split e moves ds xs sts distinct (parts_done_steps meaning args split e ds each xs p sts h) c)
 
   pub command_kept : (client : Client) (ds : List Dispatch) (xs : List Exchange) → Sends args ds (split_of args) → PartByPart client ds xs → HonestIn meaning done RunCommand xs moves
       → (responses : List Response) × ServedIn meaning (run_each (kept_of args (filter (is_counted done) xs))) responses moves
@@ -95,11 +100,9 @@ module _ (meaning : Meaning) (done : ℕ → Bool) (args : List (List ℕ)) (mov
       by : (o : Option Split) → split_of args ≡ o → Sends args ds o → (responses : List Response) × ServedIn meaning (run_each (kept_by args o (filter (is_counted done) xs))) responses moves
       by None e s = whole_kept s.0 s.2 begun.begun begun.later (sym s.1 ∙ begun.all) (filter (is_counted done) xs) begun.args steps.0 steps.1 same
       by (Some split) e s =
-          let parts = parts_done_steps meaning args split e begun.begun (all-front (IsDispatchOf split) begun.begun begun.later (subst (AllByRecursion (IsDispatchOf split)) begun.all s.each))
-          (filter (is_counted done) xs) begun.args steps.0 steps.1 in
-          kept_served meaning args split e moves (λ t. among nat_eq (tuple_slot t) (map exchange_slot (filter (is_counted done) xs))) steps.0
-          (regrouped meaning args split e moves begun.begun (filter (is_counted done) xs) steps.0
-          (distinct-front begun.begun begun.later (subst (λ q. IsDistinct nat_eq (map (λ (d : Dispatch). (args_slot d.args)) q)) begun.all s.distinct)) parts same)
+          parts_kept split e begun.begun (all-halves (IsDispatchOf split) begun.begun begun.later (subst (AllByRecursion (IsDispatchOf split)) begun.all s.each)).0
+          (distinct-front begun.begun begun.later (subst (λ q. IsDistinct nat_eq (map (λ (d : Dispatch). (args_slot d.args)) q)) begun.all s.distinct))
+          (filter (is_counted done) xs) begun.args steps.0 steps.1 same
 
   -- ---- what is told
 
@@ -120,7 +123,7 @@ module _ (meaning : Meaning) (done : ℕ → Bool) (args : List (List ℕ)) (mov
         tells split e ds w.1 xs p.1 a.1 sts h.1,
       )
 
-  split_told : (split : Split) (e : split_of args ≡ Some split) (ds : List Dispatch) → SendsParts split ds → (xs : List Exchange) → AllDone done ds xs → (sts : List (List Step)) → Pairwise (IsDoneAs meaning RunCommand) (filter (is_counted done) xs) sts
+  pub split_told : (split : Split) (e : split_of args ≡ Some split) (ds : List Dispatch) → SendsParts split ds → (xs : List Exchange) → AllDone done ds xs → (sts : List (List Step)) → Pairwise (IsDoneAs meaning RunCommand) (filter (is_counted done) xs) sts
       → SamePieces sts moves → (tree : Tree) → reply_by_split (Some split) (part_replies xs) ≡ Some tree → ServedIn meaning (run_each (args ∷ [])) (Reply tree ∷ []) moves
   split_told split e ds s xs all sts h c tree told =
       let counted = filter (is_counted done) xs in
@@ -144,7 +147,7 @@ module _ (meaning : Meaning) (done : ℕ → Bool) (args : List (List ℕ)) (mov
         g.pieces_are,
       )
 
-  whole_told : (d : Dispatch) → d.args ≡ args → (xs : List Exchange) → AllDone done (d ∷ []) xs → (sts : List (List Step)) → Pairwise (IsDoneAs meaning RunCommand) (filter (is_counted done) xs) sts
+  pub whole_told : (d : Dispatch) → d.args ≡ args → (xs : List Exchange) → AllDone done (d ∷ []) xs → (sts : List (List Step)) → Pairwise (IsDoneAs meaning RunCommand) (filter (is_counted done) xs) sts
       → SamePieces sts moves → (tree : Tree) → reply_by_split None (part_replies xs) ≡ Some tree → ServedIn meaning (run_each (args ∷ [])) (Reply tree ∷ []) moves
   whole_told d e xs all sts h c tree told =
       by (filter (is_counted done) xs) all.args all.answered sts h c (subst (λ q. reply_by_split None (map (λ x. record { slot = exchange_slot x; tree = reply_or_nil x }) q) ≡ Some tree) all.answers told)

@@ -1,5 +1,5 @@
 -- Lists of steps slot by slot, each list's steps together: what a request does on one slot stays unparted.
-use Rattle.std.proofs.Common.{◌≡◌, ℕ, Bool, true, false, cond, ◌||◌, ◌==◌, nat_eq, List, [], ◌∷◌, ◌++◌, map, filter, refl, sym, ap, ◌∙◌, append-nil, eqb-true}
+use Rattle.std.proofs.Common.{◌≡◌, ℕ, Bool, true, false, cond, ◌||◌, ◌==◌, nat_eq, List, [], ◌∷◌, ◌++◌, map, filter, length, suc, refl, sym, ap, ◌∙◌, append-nil, eqb-true}
 use Rattle.std.specs.Prelude.{MatchBool}
 use Rattle.std.specs.List.{AllByRecursion}
 use Rattle.std.proofs.lemmas.Bool.{false≢true}
@@ -41,6 +41,42 @@ HonestIn meaning done operation xs moves =
 -- one server that is given the operations may respond so, by steps with these pieces
 abbrev pub ServedIn : Meaning → List Operation → List Response → List (List Step) → Type 0
 ServedIn meaning operations responses moves = (steps : List (List Step)) × DoAll meaning operations steps responses × SamePieces steps moves
+
+-- ---- served one after another
+
+pub do_all-append : (meaning : Meaning) (cs ds : List Operation) (ss rs : List (List Step)) (ts us : List Response) → DoAll meaning cs ss ts → DoAll meaning ds rs us → DoAll meaning (cs ++ ds) (ss ++ rs) (ts ++ us)
+do_all-append meaning [] ds [] rs [] us h k = k
+do_all-append meaning (c ∷ cs) ds (s ∷ ss) rs (t ∷ ts) us h k = (h.0, do_all-append meaning cs ds ss rs ts us h.1 k)
+do_all-append meaning [] ds [] rs (t ∷ ts) us h k = absurd h
+do_all-append meaning [] ds (s ∷ ss) rs ts us h k = absurd h
+do_all-append meaning (c ∷ cs) ds [] rs ts us h k = absurd h
+do_all-append meaning (c ∷ cs) ds (s ∷ ss) rs [] us h k = absurd h
+
+pub do_all_length : (meaning : Meaning) (cs : List Operation) (ss : List (List Step)) (ts : List Response) → DoAll meaning cs ss ts → length ts ≡ length cs
+do_all_length meaning [] [] [] h = refl
+do_all_length meaning (c ∷ cs) (s ∷ ss) (t ∷ ts) h = ap suc (do_all_length meaning cs ss ts h.1)
+do_all_length meaning [] [] (t ∷ ts) h = absurd h
+do_all_length meaning [] (s ∷ ss) ts h = absurd h
+do_all_length meaning (c ∷ cs) [] ts h = absurd h
+do_all_length meaning (c ∷ cs) (s ∷ ss) [] h = absurd h
+
+append_some : {X : Type 0} (xs : List X) (yss zss : List (List X)) → with_some xs yss ++ zss ≡ with_some xs (yss ++ zss)
+append_some [] yss zss = refl
+append_some (x ∷ xs) yss zss = refl
+
+pub pieces-append : (slot : ℕ) (xss yss : List (List Step)) → pieces slot (xss ++ yss) ≡ pieces slot xss ++ pieces slot yss
+pieces-append slot [] yss = refl
+pieces-append slot (xs ∷ xss) yss = ap (with_some (on_slot slot xs)) (pieces-append slot xss yss) ∙ sym (append_some (on_slot slot xs) (pieces slot xss) (pieces slot yss))
+
+-- what is served is served one after another too
+pub served-append : (meaning : Meaning) (cs ds : List Operation) (ts us : List Response) (moves later : List (List Step)) → ServedIn meaning cs ts moves → ServedIn meaning ds us later → ServedIn meaning (cs ++ ds) (ts ++ us) (moves ++ later)
+served-append meaning cs ds ts us moves later h k = (
+  h.0 ++ k.0,
+  do_all-append meaning cs ds h.0 k.0 ts us h.1 k.1,
+  λ slot. pieces-append slot h.0 k.0 ∙ ap (λ q. q ++ pieces slot k.0) (h.2 slot) ∙ ap (λ q. pieces slot moves ++ q) (k.2 slot) ∙ sym (pieces-append slot moves later),
+)
+
+-- ---- steps of a slot
 
 concat_some : {X : Type 0} (xs : List X) (xss : List (List X)) → concat (with_some xs xss) ≡ xs ++ concat xss
 concat_some [] xss = refl

@@ -13,11 +13,11 @@ use Rattle.cluster_routing.specs.Address.{Address, same_address}
 use Rattle.cluster_routing.proofs.Recut.{all-filter}
 use Rattle.cluster_routing.proofs.SplitWords.{filter-const}
 use Rattle.cluster_calls.specs.OneServer.Keyspace.{Step}
-use Rattle.cluster_calls.specs.Calls.Parts.{Part}
+use Rattle.cluster_calls.specs.Calls.Parts.{Part, unless}
 use Rattle.cluster_calls.specs.OneServer.Meaning.{Meaning, DoCommand, DoAll}
 use Rattle.cluster_calls.specs.Links.Log.{Exchange, requests, is_answered, is_unanswered, is_data_reply}
 use Rattle.cluster_calls.specs.Links.Request.{Request}
-use Rattle.cluster_calls.specs.Calls.Plan.{Client, Dispatch, dispatches, unless}
+use Rattle.cluster_calls.specs.Calls.Plan.{Client, Dispatch, dispatches}
 use Rattle.cluster_calls.specs.Calls.Call.{Pipeline, Entry}
 use Rattle.cluster_calls.specs.Links.Faults.{LinkFault, refusal_by_fault}
 use Rattle.cluster_calls.specs.Calls.Legal.{IsLegalCall, NodeByNode, node_groups, nodes_in_use, direct}
@@ -42,7 +42,7 @@ use Rattle.cluster_calls.proofs.LogLaws.PipePlans.{IsOneSlot, IsWholePart, pipel
 
 -- ---- the nodes that were reached
 
-pub any-front : {X : Type 0} (p : X → Bool) (xs ys : List X) → list_any p (xs ++ ys) ≡ false → (list_any p xs ≡ false) × (list_any p ys ≡ false)
+any-front : {X : Type 0} (p : X → Bool) (xs ys : List X) → list_any p (xs ++ ys) ≡ false → (list_any p xs ≡ false) × (list_any p ys ≡ false)
 any-front p [] ys h = (refl, h)
 any-front p (x ∷ xs) ys h = by (p x) h (λ g. any-front p xs ys g)
   where
@@ -61,14 +61,14 @@ sent_pairs (d ∷ ds) [] e = cc
 sent_pairs (d ∷ ds) (x ∷ xs) e = let a : x.request ≡ direct d = cc in let b : requests xs ≡ map direct ds = cc in (a, sent_pairs ds xs b)
 
 -- the log is that of the first nodes, whole; of all of them where nothing was left unanswered
-pub record Reached (ds : List Dispatch) (nodes : List Address) (xs : List Exchange) : Type 0 where
-  pub first : List Address
-  pub later : List Address
-  pub all : nodes ≡ first ++ later
-  pub pairs : Pairwise IsSent (group_by_group same_address (λ (d : Dispatch). d.node) first ds) xs
-  pub whole : list_any is_unanswered xs ≡ false → later ≡ []
+record Reached (ds : List Dispatch) (nodes : List Address) (xs : List Exchange) : Type 0 where
+  first : List Address
+  later : List Address
+  all : nodes ≡ first ++ later
+  pairs : Pairwise IsSent (group_by_group same_address (λ (d : Dispatch). d.node) first ds) xs
+  whole : list_any is_unanswered xs ≡ false → later ≡ []
 
-pub reached : (ds : List Dispatch) (nodes : List Address) (xs : List Exchange) → NodeByNode (map (λ node. filter (λ (d : Dispatch). same_address d.node node) ds) nodes) xs → Reached ds nodes xs
+reached : (ds : List Dispatch) (nodes : List Address) (xs : List Exchange) → NodeByNode (map (λ node. filter (λ (d : Dispatch). same_address d.node node) ds) nodes) xs → Reached ds nodes xs
 reached ds [] xs h = record { first = []; later = []; all = refl; pairs = subst (Pairwise IsSent []) (sym h) tt; whole = λ n. refl }
 reached ds (node ∷ nodes) xs h = by (list_any is_unanswered own) refl h.1 (λ g. reached ds nodes rest_of g)
   where
@@ -169,7 +169,7 @@ facts_of meaning done Q (d ∷ ds) (z ∷ zs) h =
 among-front : {A : Type 0} (eq : A → A → Bool) (k : A) (xs ys : List A) → among eq k (xs ++ ys) ≡ false → among eq k xs ≡ false
 among-front eq k xs ys h = (any-front (λ x. eq k x) xs ys h).0
 
-pub distinct-front : {A : Type 0} (eq : A → A → Bool) (xs ys : List A) → IsDistinct eq (xs ++ ys) → IsDistinct eq xs
+distinct-front : {A : Type 0} (eq : A → A → Bool) (xs ys : List A) → IsDistinct eq (xs ++ ys) → IsDistinct eq xs
 distinct-front eq [] ys h = tt
 distinct-front eq (x ∷ xs) ys h = (among-front eq x xs ys h.0, distinct-front eq xs ys h.1)
 
@@ -266,7 +266,7 @@ counted_trees meaning (c ∷ cs) (t ∷ ts) h =
     let r = counted_trees meaning cs ts h.1 in
     (h.0.done.0 ∷ r.0, (((h.0.done.0, refl, h.0.done.2), h.0.allowed), r.1), λ a. ap (λ q. q ∷ map reply_or_nil cs) (reply_is meaning c t a.0 h.0) ∙ ap (λ q. h.0.done.0 ∷ q) (r.2 a.1))
 
-drawn_none : (ks : List ℕ) (f : ℕ → List Exchange) → ((s : ℕ) → f s ≡ []) → draw ks f ≡ []
+pub drawn_none : (ks : List ℕ) (f : ℕ → List Exchange) → ((s : ℕ) → f s ≡ []) → draw ks f ≡ []
 drawn_none [] f h = refl
 drawn_none (k ∷ ks) f h = ap (λ q. front q ++ draw ks (without_front_of k f)) (h k) ∙ drawn_none ks (without_front_of k f) (λ s. by s (s == k))
   where
@@ -287,12 +287,12 @@ dispatch_facts client (e ∷ es) (p ∷ ps) (d ∷ ds) w f n =
     ((record { slot = refl; one = subst IsOneSlot (sym args) w.0.one; node = n.0 }, r.0), (record { args = args; slot = ap args_slot args }, r.1))
 
 -- the log in pipeline order
-record InOrder (meaning : Meaning) (done : ℕ → Bool) (Q : Exchange → Type 0) (entries : List Entry) (going : List Dispatch) (moves : List (List Step)) (xs : List Exchange) : Type 0 where
-  honest : HonestIn meaning done RunCommand (in_pipeline_order entries xs) moves
-  args : map (λ (x : Exchange). x.request.args) (in_pipeline_order entries xs) ≡ map (λ (d : Dispatch). d.args) going
-  facts : AllByRecursion Q (in_pipeline_order entries xs)
+pub record InOrder (meaning : Meaning) (done : ℕ → Bool) (Q : Exchange → Type 0) (entries : List Entry) (going : List Dispatch) (moves : List (List Step)) (xs : List Exchange) : Type 0 where
+  pub honest : HonestIn meaning done RunCommand (in_pipeline_order entries xs) moves
+  pub args : map (λ (x : Exchange). x.request.args) (in_pipeline_order entries xs) ≡ map (λ (d : Dispatch). d.args) going
+  pub facts : AllByRecursion Q (in_pipeline_order entries xs)
 
-log_in_order : (client : Client) (meaning : Meaning) (done : ℕ → Bool) (Q : Exchange → Type 0) (entries : List Entry) (ds : List Dispatch) → AllByRecursion (IsPipeDispatch client) ds → Pairwise IsEntryDispatch entries ds
+pub log_in_order : (client : Client) (meaning : Meaning) (done : ℕ → Bool) (Q : Exchange → Type 0) (entries : List Entry) (ds : List Dispatch) → AllByRecursion (IsPipeDispatch client) ds → Pairwise IsEntryDispatch entries ds
     → (first : List Address) → IsDistinct same_address first → (xs : List Exchange) → Pairwise IsSent (group_by_group same_address (λ (d : Dispatch). d.node) first ds) xs → AllByRecursion Q xs
     → (moves : List (List Step)) → HonestIn meaning done RunCommand xs moves
     → InOrder meaning done Q entries (filter (λ (d : Dispatch). among same_address (primary_of client (args_slot d.args)) first) ds) moves xs
@@ -339,7 +339,7 @@ no_errors_answered position (y ∷ ys) e h = by (first_error (reply_or_nil y)) r
     by None g e ih = (replied y.reply h.0 g, ih e)
     by (Some err) g e ih = cc
 
-pub nodes_reached : (client : Client) (ds es : List Dispatch) → AllByRecursion (IsPipeDispatch client) es → ((a : Address) → among same_address a (map (λ (d : Dispatch). d.node) es) ≡ true → among same_address a (nodes_in_use ds) ≡ true)
+nodes_reached : (client : Client) (ds es : List Dispatch) → AllByRecursion (IsPipeDispatch client) es → ((a : Address) → among same_address a (map (λ (d : Dispatch). d.node) es) ≡ true → among same_address a (nodes_in_use ds) ≡ true)
     → AllByRecursion (λ (d : Dispatch). among same_address (primary_of client (args_slot d.args)) (nodes_in_use ds) ≡ true) es
 nodes_reached client ds [] h k = tt
 nodes_reached client ds (e ∷ es) h k = (
@@ -353,11 +353,11 @@ entry_args [] (d ∷ ds) h = absurd h
 entry_args (e ∷ es) [] h = absurd h
 entry_args (e ∷ es) (d ∷ ds) h = ap (λ a. a ∷ map (λ (d : Dispatch). d.args) ds) h.0.args ∙ ap (λ q. sent e.command ∷ q) (entry_args es ds h.1)
 
-all_true : (xs : List Exchange) → AllByRecursion (λ x. Unit {0}) xs
+pub all_true : (xs : List Exchange) → AllByRecursion (λ x. Unit {0}) xs
 all_true [] = tt
 all_true (x ∷ xs) = (tt, all_true xs)
 
-all_counted : (done : ℕ → Bool) (xs : List Exchange) → AllByRecursion (λ x. is_answered x ≡ true) xs → AllByRecursion (λ x. is_counted done x ≡ true) xs
+pub all_counted : (done : ℕ → Bool) (xs : List Exchange) → AllByRecursion (λ x. is_answered x ≡ true) xs → AllByRecursion (λ x. is_counted done x ≡ true) xs
 all_counted done [] h = tt
 all_counted done (x ∷ xs) h = (counted_answer done x h.0, all_counted done xs h.1)
 

@@ -16,14 +16,14 @@ use Rattle.stream_commands.specs.Settings.{ReadSettings}
 use Rattle.cluster_calls.specs.Calls.Answer.{Answer, Read, task_answer, answer_of}
 use Rattle.cluster_calls.specs.Calls.Call.{Stream, Call}
 use Rattle.cluster_calls.specs.Calls.Legal.{IsLegalCall, AreMade, PartByPart}
-use Rattle.cluster_calls.specs.Calls.Parts.{result_then}
-use Rattle.cluster_calls.specs.Calls.Plan.{Client, Dispatch, plan, unless}
+use Rattle.cluster_calls.specs.Calls.Parts.{result_then, unless}
+use Rattle.cluster_calls.specs.Calls.Plan.{Client, Dispatch, plan}
 use Rattle.cluster_calls.specs.Calls.Reads.{stream_slots, streams_at, key_places, read_slot, readings, joined, read_rows}
 use Rattle.cluster_calls.specs.Calls.Refusals.{part_refusal, sent_refusal}
 use Rattle.cluster_calls.specs.Calls.Task.{Task, read_of, task_of, stream_keys, are_of_one_slot}
 use Rattle.cluster_calls.specs.Links.Faults.{LinkFault}
 use Rattle.cluster_calls.specs.Links.Log.{Exchange, is_answered, behind_answers}
-use Rattle.cluster_calls.specs.OneServer.Commands.{task_operations, task_kept, streams_with, IsTaskAnswer}
+use Rattle.cluster_calls.specs.OneServer.Commands.{task_done, task_kept, streams_with, IsTaskAnswer}
 use Rattle.cluster_calls.specs.OneServer.Honest.{is_counted}
 use Rattle.cluster_calls.specs.OneServer.Keyspace.{Step, on_slot}
 use Rattle.cluster_calls.specs.OneServer.Meaning.{Meaning, DoesRead, rows_of_steps}
@@ -145,9 +145,9 @@ module _ (client : Client) (faults : Address → LinkFault) (meaning : Meaning) 
       told : (rows : List Row) → rows_of_steps whole_again.steps ≡ Some rows → CallServed meaning done call (Ok (Read rows)) xs moves
       told rows e = record {
         responses = Rows (Some rows) ∷ [];
-        served = subst (λ t. ServedIn meaning (task_operations t) (Rows (Some rows) ∷ []) moves) (sym is_read)
+        served = subst (λ t. ServedIn meaning (task_done done t xs) (Rows (Some rows) ∷ []) moves) (sym is_read)
             (subst (λ o. ServedIn meaning (ReadKeys options streams ∷ []) (Rows o ∷ []) moves) e (one_read options streams meaning moves streams steps.0 whole_again));
-        answer_is = subst (λ t. IsTaskAnswer call t (Read rows) (Rows (Some rows) ∷ [])) (sym is_read) (rows, refl, refl);
+        answer_is = subst (λ t. IsTaskAnswer done call t xs (Read rows) (Rows (Some rows) ∷ [])) (sym is_read) (rows, refl, refl);
       }
 
       parts_told : (replies : List (List Row)) → readings (filter is_answered xs) ≡ Some replies → rows_of_steps (concat steps.0) ≡ Some (all_rows replies)

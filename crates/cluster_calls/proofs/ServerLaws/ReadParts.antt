@@ -10,8 +10,8 @@ use Rattle.cluster_routing.specs.Parts.{tuple_slot}
 use Rattle.cluster_routing.specs.declared.route.SlotAddr.{SlotAddr}
 use Rattle.stream_commands.specs.Settings.{ReadSettings}
 use Rattle.cluster_calls.specs.Calls.Call.{Stream, Call}
-use Rattle.cluster_calls.specs.Calls.Parts.{result_then, read_part, read_parts}
-use Rattle.cluster_calls.specs.Calls.Plan.{Client, Dispatch, dispatches, in_order, order_of, unless, plan}
+use Rattle.cluster_calls.specs.Calls.Parts.{result_then, read_part, read_parts, unless}
+use Rattle.cluster_calls.specs.Calls.Plan.{Client, Dispatch, dispatches, in_order, order_of, plan}
 use Rattle.cluster_calls.specs.Calls.Reads.{stream_slots, streams_at, read_head, read_slot}
 use Rattle.cluster_calls.specs.Calls.Task.{Task, read_of, task_of, early_refusal, stream_keys, stream_ids}
 use Rattle.cluster_calls.specs.Links.Log.{Exchange}

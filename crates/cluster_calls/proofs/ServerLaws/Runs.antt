@@ -10,10 +10,10 @@ use Rattle.cluster_routing.specs.Lists.{concat, is_distinct, Pairwise}
 use Rattle.cluster_routing.specs.Policies.{or_bad_reply}
 use Rattle.stream_commands.specs.Settings.{ReadSettings}
 use Rattle.cluster_calls.specs.Links.Log.{Exchange}
-use Rattle.cluster_calls.specs.Calls.Call.{Stream, Xadd, Xtrim, Xread, Xrange, Xclaim, Xautoclaim, Xpending, XinfoStream, XinfoGroups, XinfoConsumers, XdelEx, Call, Refresh, Query, Ordered, Pipeline, FanOut, At, OnStreams, Transaction}
+use Rattle.cluster_calls.specs.Calls.Call.{Stream, Xadd, Xtrim, Xread, Xrange, Xclaim, Xautoclaim, Xpending, XinfoStream, XinfoGroups, XinfoConsumers, XdelEx, Call, Refresh, Query, Ordered, Pipeline, Each, FanOut, At, OnStreams, Transaction}
 use Rattle.cluster_calls.specs.Calls.Task.{read_of, task_of, sentence_task, is_by_key, stream_keys}
-use Rattle.cluster_calls.specs.Calls.Parts.{result_then}
-use Rattle.cluster_calls.specs.Calls.Plan.{Client, Dispatch, plan, unless}
+use Rattle.cluster_calls.specs.Calls.Parts.{result_then, unless}
+use Rattle.cluster_calls.specs.Calls.Plan.{Client, Dispatch, plan}
 use Rattle.cluster_calls.specs.Calls.Legal.{IsLegalCall}
 use Rattle.cluster_calls.specs.Links.Faults.{LinkFault}
 use Rattle.cluster_calls.specs.Calls.Refusals.{refusal_in, sent_refusal}
@@ -27,20 +27,17 @@ use Rattle.cluster_calls.specs.OneServer.Operations.{task_operation}
 use Rattle.cluster_calls.specs.OneServer.Headline.{RepliedCall, task_log, command_log, command_logs, IsPlayedFrom, AreOnSlots, RefusedByKind}
 use Rattle.cluster_calls.specs.OneServer.Laws.{GapsNameNoKey}
 use Rattle.cluster_calls.proofs.LogLaws.StreamTasks.{stream_tasks}
+use Rattle.cluster_calls.proofs.ServerLaws.Grouping.{pairwise-split}
 use Rattle.cluster_calls.proofs.ServerLaws.Pieces.{HonestIn}
 use Rattle.cluster_calls.proofs.ServerLaws.Calls.{CallServed, command_served, nothing_done}
 use Rattle.cluster_calls.proofs.ServerLaws.ReadCall.{read_served}
 use Rattle.cluster_calls.proofs.ServerLaws.Pipes.{pipeline_served}
+use Rattle.cluster_calls.proofs.ServerLaws.Positions.{each_served}
 use Rattle.cluster_calls.proofs.ServerLaws.AsOne.{transaction_served}
 
 pub concat-append : {X : Type 0} (xss yss : List (List X)) → concat (xss ++ yss) ≡ concat xss ++ concat yss
 concat-append [] yss = refl
 concat-append (xs ∷ xss) yss = ap (λ q. xs ++ q) (concat-append xss yss) ∙ sym (append_assoc xs (concat xss) (concat yss))
-
-pairwise-split : {A X : Type 0} (R : A → X → Type 0) (as' bs : List A) (xs : List X) → Pairwise R (as' ++ bs) xs → (us : List X) × (vs : List X) × (xs ≡ us ++ vs) × Pairwise R as' us × Pairwise R bs vs
-pairwise-split R [] bs xs h = ([], xs, refl, tt, h)
-pairwise-split R (a ∷ as') bs [] h = absurd h
-pairwise-split R (a ∷ as') bs (x ∷ xs) h = let r = pairwise-split R as' bs xs h.1 in (x ∷ r.0, r.1, ap (λ q. x ∷ q) r.2, (h.0, r.3), r.4)
 
 -- steps that account for a call's requests
 abbrev pub AreOfCall : Meaning → (ℕ → Bool) → RepliedCall → List (List Step) → Type 0
@@ -69,6 +66,7 @@ reads_differ (Refresh node) options streams t = cc
 reads_differ (Query command number) options streams t = cc
 reads_differ (Ordered command order number) options streams t = cc
 reads_differ (Pipeline entries) options streams t = cc
+reads_differ (Each entries) options streams t = cc
 reads_differ (FanOut command) options streams t = cc
 reads_differ (At node command) options streams t = cc
 reads_differ (Transaction commands) options streams t = cc
@@ -100,6 +98,7 @@ call_served client faults meaning moves done picks (OnStreams call) xs gaps s le
     (λ command number order t h. command_served client faults meaning moves done picks (OnStreams call) command number order t xs h legal)
     (λ options streams t h. read_served client faults meaning moves done picks options streams (reads_differ (OnStreams call) options streams t) (OnStreams call) t xs h legal) call refl honest
 call_served client faults meaning moves done picks (Pipeline entries) xs gaps s legal honest = pipeline_served client faults meaning moves done picks entries xs gaps legal honest
+call_served client faults meaning moves done picks (Each entries) xs gaps s legal honest = each_served client faults meaning moves done picks entries xs gaps legal honest
 call_served client faults meaning moves done picks (FanOut command) xs gaps s legal honest = absurd (false≢true s)
 call_served client faults meaning moves done picks (At node command) xs gaps s legal honest = absurd (false≢true s)
 call_served client faults meaning moves done picks (Transaction commands) xs gaps s legal honest = transaction_served client faults meaning moves done picks commands xs legal honest

@@ -12,7 +12,7 @@ use Rattle.cluster_routing.specs.Lists.{concat, Pairwise}
 use Rattle.cluster_routing.specs.Split.{Split, split_of}
 use Rattle.cluster_calls.specs.Links.Log.{Exchange}
 use Rattle.cluster_calls.specs.Calls.Call.{Call}
-use Rattle.cluster_calls.specs.Calls.Task.{Task, slot_map_of, one_command, pipeline_of, several_nodes, one_node, read_of, task_of, transaction_of}
+use Rattle.cluster_calls.specs.Calls.Task.{Task, slot_map_of, one_command, pipeline_of, positions_of, several_nodes, one_node, read_of, task_of, transaction_of}
 use Rattle.cluster_calls.specs.Calls.After.{client_after}
 use Rattle.cluster_calls.specs.Calls.Plan.{Client, Dispatch, plan}
 use Rattle.cluster_calls.specs.Links.Faults.{LinkFault}
@@ -129,6 +129,7 @@ unsplit_on_one client meaning done picks call xs own unsplit legal accounts = by
     by (one_command command number order) t u h = one_is_on_one (concat own) (command_alone client meaning done picks call command number order xs own t u legal h)
     by (slot_map_of node) t u h = one_is_on_one (concat own) (none_alone meaning done call [] own refl h)
     by (pipeline_of entries) t u h = absurd (false≢true u)
+    by (positions_of entries) t u h = absurd (false≢true u)
     by (several_nodes command) t u h = absurd (false≢true u)
     by (one_node node command) t u h = absurd (false≢true u)
     by (transaction_of commands) t u h =

@@ -6,7 +6,7 @@ use Rattle.cluster_routing.specs.Address.{Address}
 use Rattle.cluster_routing.specs.SlotMap.{SlotEntries, put_all}
 use Rattle.cluster_routing.specs.SlotsReply.{ranges}
 use Rattle.cluster_calls.specs.Links.Log.{Exchange, is_answered, is_unanswered, is_moved, has_lost}
-use Rattle.cluster_calls.specs.Calls.Call.{Call, Refresh, Pipeline, Transaction}
+use Rattle.cluster_calls.specs.Calls.Call.{Call, Refresh, Pipeline, Each, Transaction}
 use Rattle.cluster_calls.specs.Calls.OneSlot.{args_of}
 use Rattle.cluster_calls.specs.Calls.Plan.{Client}
 use Rattle.cluster_calls.specs.Calls.Transactions.{in_sizes, size}
@@ -35,6 +35,7 @@ abbrev pub flag_after : Bool → Call → List Exchange → Bool
 flag_after flag (Refresh node) (x ∷ []) = if is_answered x then false else flag
 flag_after flag (Refresh node) _ = flag
 flag_after flag (Pipeline entries) xs = flag || some_moved xs
+flag_after flag (Each entries) xs = flag || some_moved xs
 flag_after flag (Transaction commands) xs = flag
     || list_any is_moved_whole (in_sizes (size (args_of commands)) xs)
 flag_after flag _ xs = flag || list_any is_moved xs

@@ -1,20 +1,19 @@
--- What a pipeline tells of each of its positions: its reply, or the error that it is; by what the link call of
--- its node was refused; or that its node was not asked.
+-- What a pipeline tells of each of its positions: its reply, or the error that it is; or by what the link call
+-- of its node was refused.
 -- Source: the Redis protocol specification (a server answers the requests of a connection in their order).
-use Rattle.std.specs.Prelude.{if◌then◌else◌, List, [], ◌∷◌, map, filter, Option, Some, None, Result, Ok, Err}
+use Rattle.std.specs.Prelude.{if◌then◌else◌, List, [], ◌∷◌, ◌++◌, map, filter, Option, Some, None, Result, Ok, Err}
 use Rattle.resp_core.specs.Trees.{Tree, nil, server_error}
-use Rattle.resp_core.specs.Errors.{Refusal, by_cause, by_server, server_kind}
-use Rattle.resp_core.specs.declared.errors.redis_error.Cause.{Cause}
-use Rattle.resp_core.specs.declared.errors.redis_error.Cause.TheVariants.{NotAsked}
+use Rattle.resp_core.specs.Errors.{Refusal, by_server, server_kind}
 use Rattle.resp_core.specs.declared.errors.server_error.ServerErrorKind.{ServerErrorKind}
 use Rattle.resp_core.specs.declared.errors.server_error.ServerErrorKind.TheVariants as kinds
 use Rattle.cluster_routing.specs.Address.{Address, same_address}
-use Rattle.cluster_routing.specs.Lists.{rest}
+use Rattle.cluster_routing.specs.Lists.{front, rest}
 use Rattle.cluster_calls.specs.Links.Log.{Exchange, has_lost}
 use Rattle.cluster_calls.specs.Links.PipeReplies.{pipeline_result}
 use Rattle.cluster_calls.specs.Calls.Call.{Entry}
-use Rattle.cluster_calls.specs.Calls.Plan.{Dispatch, unless}
-use Rattle.cluster_calls.specs.Calls.Replies.{reply_or_nil}
+use Rattle.cluster_calls.specs.Calls.Parts.{unless}
+use Rattle.cluster_calls.specs.Calls.Plan.{Dispatch}
+use Rattle.cluster_calls.specs.Calls.Replies.{in_pipeline_order, reply_or_nil}
 use Rattle.cluster_calls.specs.Calls.Task.{first_refusal}
 
 -- ---- the exchange of each position
@@ -23,25 +22,20 @@ use Rattle.cluster_calls.specs.Calls.Task.{first_refusal}
 abbrev pub exchanges_with : List Exchange → Address → List Exchange
 exchanges_with xs node = filter (λ (x : Exchange). same_address x.request.node node) xs
 
-abbrev pub first_exchange : List Exchange → Option Exchange
-first_exchange [] = None
-first_exchange (x ∷ xs) = Some x
-
 abbrev pub without_first_with : Address → (Address → List Exchange) → Address → List Exchange
 without_first_with node queues a = if same_address node a then rest (queues a) else queues a
 
--- for each node the next exchange with it, or none
-abbrev pub each_exchange : List Address → (Address → List Exchange) → List (Option Exchange)
-each_exchange [] queues = []
-each_exchange (node ∷ nodes) queues = first_exchange (queues node)
-    ∷ each_exchange nodes (without_first_with node queues)
+-- for each of these nodes the next exchange with it
+abbrev pub by_nodes : List Address → (Address → List Exchange) → List Exchange
+by_nodes [] queues = []
+by_nodes (node ∷ nodes) queues = front (queues node) ++ by_nodes nodes (without_first_with node queues)
 
 abbrev pub nodes_of : List Dispatch → List Address
 nodes_of ds = map (λ (d : Dispatch). d.node) ds
 
--- for each position the exchange of its request, where its node was asked
-abbrev pub position_exchanges : List Dispatch → List Exchange → List (Option Exchange)
-position_exchanges ds xs = each_exchange (nodes_of ds) (exchanges_with xs)
+-- the exchanges in the order of the positions
+abbrev pub position_exchanges : List Dispatch → List Exchange → List Exchange
+position_exchanges ds xs = by_nodes (nodes_of ds) (exchanges_with xs)
 
 -- ---- the outcome of each position
 
@@ -51,12 +45,15 @@ reply_outcome (server_error e) = Err (by_server e)
 reply_outcome tree = Ok tree
 
 -- of a node with a lost request no reply is told
-abbrev pub outcome_of : (Address → Refusal) → List Exchange → Option Exchange → Result Tree Refusal
-outcome_of refusals xs None = Err (by_cause NotAsked)
-outcome_of refusals xs (Some x) = if has_lost x.request.node xs then Err (refusals x.request.node)
+abbrev pub outcome_of : (Address → Refusal) → List Exchange → Exchange → Result Tree Refusal
+outcome_of refusals xs x = if has_lost x.request.node xs then Err (refusals x.request.node)
     else reply_outcome (reply_or_nil x)
 
--- by the dispatches in the order of the positions, the log, and by what the link calls were refused
+-- by the commands in order, the log, and by what the link calls were refused
+abbrev pub told_each : (Address → Refusal) → List Entry → List Exchange → List (Result Tree Refusal)
+told_each refusals entries xs = map (outcome_of refusals xs) (in_pipeline_order entries xs)
+
+-- the same by the dispatches of the commands
 abbrev pub each_of : (Address → Refusal) → List Dispatch → List Exchange → List (Result Tree Refusal)
 each_of refusals ds xs = map (outcome_of refusals xs) (position_exchanges ds xs)
 
@@ -67,8 +64,6 @@ pub data Fate : Type 0 where
   answered : Fate
   -- its node sent it on to another, where it was not sent
   redirected : Fate
-  -- no request went to its node
-  not_asked : Fate
   -- its request was written down, and its link call was refused: it may have been done, or not
   lost : Fate
 
@@ -77,14 +72,9 @@ fate_by_kind (Some kinds.Moved) = redirected
 fate_by_kind (Some kinds.Ask) = redirected
 fate_by_kind _ = answered
 
-abbrev pub fate_by_cause : Cause → Fate
-fate_by_cause NotAsked = not_asked
-fate_by_cause _ = lost
-
 abbrev pub fate_of : Result Tree Refusal → Fate
 fate_of (Ok tree) = answered
 fate_of (Err (by_server e)) = fate_by_kind (server_kind e.code)
-fate_of (Err (by_cause cause)) = fate_by_cause cause
 fate_of (Err _) = lost
 
 -- ---- the one answer of the whole pipeline

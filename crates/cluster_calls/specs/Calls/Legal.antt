@@ -3,11 +3,11 @@
 use Rattle.std.specs.Prelude.{◌≡◌, ℕ, false, List, [], ◌∷◌, map, filter, length, take, drop, MatchBool, MatchResult}
 use Rattle.std.specs.List.{list_any}
 use Rattle.cluster_routing.specs.Address.{Address, same_address}
-use Rattle.cluster_routing.specs.Lists.{firsts}
+use Rattle.cluster_routing.specs.Lists.{concat, firsts}
 use Rattle.cluster_calls.specs.Links.Request.{Request}
 use Rattle.cluster_calls.specs.Links.Log.{Exchange, requests, is_answered, is_unanswered}
 use Rattle.cluster_calls.specs.Calls.Call.{Call}
-use Rattle.cluster_calls.specs.Calls.Task.{Task, slot_map_of, one_command, pipeline_of, several_nodes, one_node, read_of, transaction_of, task_of}
+use Rattle.cluster_calls.specs.Calls.Task.{Task, slot_map_of, one_command, pipeline_of, positions_of, several_nodes, one_node, read_of, transaction_of, task_of}
 use Rattle.cluster_calls.specs.Calls.Plan.{Client, Dispatch, plan}
 use Rattle.cluster_calls.specs.Calls.OneSlot.{args_of}
 use Rattle.cluster_calls.specs.Calls.Redirects.{Hop, FollowsRedirects}
@@ -47,12 +47,14 @@ AttemptAfterAttempt client commands [] xs = xs ≡ []
 AttemptAfterAttempt client commands (d ∷ ds) xs =
     FollowsAttempts client.links client.settings.budget (first_hop d) commands xs
 
--- the exchanges are those that a task makes, from its dispatches on; a refresh, a command to several nodes
--- and one to a node that is named follow no redirect
+-- The exchanges are those that a task makes, from its dispatches on. A refresh, a command to several nodes and
+-- one to a node that is named follow no redirect. Where each position is told by itself, each node gets its
+-- commands in one go, whatever becomes of the others.
 abbrev pub AreMade : Client → Task → List Dispatch → List Exchange → Type 0
 AreMade client (slot_map_of node) ds xs = requests xs ≡ map direct ds
 AreMade client (one_command command number order) ds xs = PartByPart client ds xs
 AreMade client (pipeline_of entries) ds xs = NodeByNode (node_groups ds) xs
+AreMade client (positions_of entries) ds xs = requests xs ≡ map direct (concat (node_groups ds))
 AreMade client (several_nodes command) ds xs = requests xs ≡ map direct ds
 AreMade client (one_node node command) ds xs = requests xs ≡ map direct ds
 AreMade client (read_of options streams) ds xs = PartByPart client ds xs

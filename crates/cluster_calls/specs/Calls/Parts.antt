@@ -41,6 +41,11 @@ abbrev pub result_then : {A B E : Type 0} → Result A E → (A → Result B E) 
 result_then (Ok a) f = f a
 result_then (Err e) f = Err e
 
+-- a result, unless something was refused before
+abbrev pub unless : {A : Type 0} → Option Refusal → Result A Refusal → Result A Refusal
+unless None result = result
+unless (Some refusal) result = Err refusal
+
 -- ---- one command
 
 abbrev pub is_gap : Arg (List ℕ) → Bool

@@ -12,7 +12,7 @@ use Rattle.cluster_routing.specs.declared.route.SlotAddr.TheVariants.{Master}
 use Rattle.cluster_calls.specs.Links.World.{Settings, is_linked}
 use Rattle.cluster_calls.specs.Calls.Call.{Call}
 use Rattle.cluster_calls.specs.Calls.Task.{Task, one_command, early_refusal, task_of}
-use Rattle.cluster_calls.specs.Calls.Parts.{Target, at_slot, at_number, at_node, Part, result_then}
+use Rattle.cluster_calls.specs.Calls.Parts.{Target, at_slot, at_number, at_node, Part, result_then, unless}
 use Rattle.cluster_calls.specs.Calls.TaskParts.{task_parts}
 
 -- what a client goes by: its settings, its slot map and its open links
@@ -92,11 +92,6 @@ dispatches client picks (part ∷ parts) =
     (λ left. dispatches client left parts)
 
 -- ---- plans
-
--- a result, unless something was refused before
-abbrev pub unless : {A : Type 0} → Option Refusal → Result A Refusal → Result A Refusal
-unless None result = result
-unless (Some refusal) result = Err refusal
 
 -- the parts of a call, or the first check that is not met before any node is looked for
 abbrev pub call_parts : Client → Call → Result (List Part) Refusal

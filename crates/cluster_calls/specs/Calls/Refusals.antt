@@ -6,7 +6,7 @@ use Rattle.resp_core.specs.Parts.{first_error}
 use Rattle.resp_core.specs.declared.errors.redis_error.Cause.TheVariants.{NoLink}
 use Rattle.cluster_routing.specs.Address.{Address}
 use Rattle.cluster_calls.specs.Links.Log.{Exchange, is_unanswered, last_of, behind_answers}
-use Rattle.cluster_calls.specs.Calls.Task.{Task, slot_map_of, one_command, pipeline_of, several_nodes, one_node, read_of, transaction_of}
+use Rattle.cluster_calls.specs.Calls.Task.{Task, slot_map_of, one_command, pipeline_of, positions_of, several_nodes, one_node, read_of, transaction_of}
 use Rattle.cluster_calls.specs.Calls.Plan.{Client}
 use Rattle.cluster_calls.specs.Calls.Redirects.{Next, Lost, next_of}
 use Rattle.cluster_calls.specs.Calls.Transactions.{commands_answer}
@@ -74,6 +74,7 @@ sent_refusal client faults (one_command command number order) xs = part_refusal 
     (behind_answers xs)
 sent_refusal client faults (pipeline_of entries) xs = pipeline_refusal faults xs
     (errors_from 0 (in_pipeline_order entries xs))
+sent_refusal client faults (positions_of entries) xs = None
 sent_refusal client faults (several_nodes command) xs = refusal_in (several_reply faults command xs)
 sent_refusal client faults (one_node node command) xs = only_refusal faults xs
 sent_refusal client faults (read_of options streams) xs = part_refusal client faults (behind_answers xs)

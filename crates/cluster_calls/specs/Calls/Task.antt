@@ -12,7 +12,7 @@ use Rattle.cluster_routing.specs.Lists.{firsts, is_distinct}
 use Rattle.stream_commands.specs.Settings.{GroupNames, ReadSettings}
 use Rattle.stream_commands.specs.Commands as commands
 use Rattle.stream_commands.specs.Commands.{plain_command}
-use Rattle.cluster_calls.specs.Calls.Call.{Entry, Stream, StreamCall, Xadd, Xtrim, Xread, Xrange, Xclaim, Xautoclaim, Xpending, XinfoStream, XinfoGroups, XinfoConsumers, XdelEx, Call, Refresh, Query, Ordered, Pipeline, FanOut, At, Transaction, OnStreams}
+use Rattle.cluster_calls.specs.Calls.Call.{Entry, Stream, StreamCall, Xadd, Xtrim, Xread, Xrange, Xclaim, Xautoclaim, Xpending, XinfoStream, XinfoGroups, XinfoConsumers, XdelEx, Call, Refresh, Query, Ordered, Pipeline, Each, FanOut, At, Transaction, OnStreams}
 
 -- ---- sentences of calls on streams
 
@@ -85,6 +85,8 @@ pub data Task : Type 0 where
   -- in parts, sent in an order of their numbers, or as they first appear
   one_command : (command : Command) → (number : ℕ) → (order : Option (List ℕ)) → Task
   pipeline_of : (entries : List Entry) → Task
+  -- commands of which each is told by itself, split ones in their parts
+  positions_of : (entries : List Entry) → Task
   several_nodes : (command : Command) → Task
   -- as it is, to a node that the caller names
   one_node : (node : Address) → (command : Command) → Task
@@ -107,6 +109,7 @@ task_of (Refresh node) = slot_map_of node
 task_of (Query command number) = one_command command number None
 task_of (Ordered command order number) = one_command command number (Some order)
 task_of (Pipeline entries) = pipeline_of entries
+task_of (Each entries) = positions_of entries
 task_of (FanOut command) = several_nodes command
 task_of (At node command) = one_node node command
 task_of (Transaction commands) = transaction_of commands

@@ -15,7 +15,8 @@ use Rattle.cluster_calls.specs.Links.Log.{Exchange, requests, is_unanswered, las
 use Rattle.cluster_calls.specs.Links.Reply.{Sort, Moved, Ask, sort_of}
 use Rattle.cluster_calls.specs.Links.Request.{Request, multi, exec}
 use Rattle.cluster_calls.specs.Calls.OneSlot.{args_of}
-use Rattle.cluster_calls.specs.Calls.Plan.{Client, Dispatch, unless}
+use Rattle.cluster_calls.specs.Calls.Parts.{unless}
+use Rattle.cluster_calls.specs.Calls.Plan.{Client, Dispatch}
 use Rattle.cluster_calls.specs.Calls.Redirects.{Hop, Next, Stays, Lost, MatchNext, next_of, request_of}
 
 -- ---- one attempt

@@ -1,18 +1,23 @@
 -- A call whose one reply is read as a type: the call, and the conversion of its reply.
-use Rattle.std.specs.Prelude.{◌≡◌, Option, Some, None, Result, Ok, Err}
+use Rattle.std.specs.Prelude.{◌≡◌, List, Option, Some, None, Result, Ok, Err}
 use Rattle.resp_core.specs.Trees.{Tree}
 use Rattle.resp_core.specs.Errors.{Refusal}
 use Rattle.cluster_routing.specs.Choice.{Strategy}
 use Rattle.cluster_routing.specs.Policies.{bad_reply}
 use Rattle.cluster_calls.specs.Links.World.{World}
 use Rattle.cluster_calls.specs.Calls.Call.{Call}
-use Rattle.cluster_calls.specs.Calls.Answer.{Answer, Refreshed, Value}
+use Rattle.cluster_calls.specs.Calls.Answer.{Answer, Refreshed, Value, Told}
 use Rattle.cluster_calls.specs.Links.Happened.{CallMade}
 
 -- a reply, or why there is none, as an answer
 abbrev pub value_answer : Result Tree Refusal → Result Answer Refusal
 value_answer (Ok tree) = Ok (Value tree)
 value_answer (Err refusal) = Err refusal
+
+-- the outcomes of a pipeline's positions, or why nothing was sent, as an answer
+abbrev pub told_answer : Result (List (Result Tree Refusal)) Refusal → Result Answer Refusal
+told_answer (Ok outcomes) = Ok (Told outcomes)
+told_answer (Err refusal) = Err refusal
 
 -- that a refresh was accepted, or why it was not, as an answer
 abbrev pub refresh_answer : {A : Type 0} → Result A Refusal → Result Answer Refusal

@@ -4,20 +4,19 @@ use Rattle.std.specs.Prelude.{◌≡◌, ◌≢◌, ℕ, suc, ◌+◌, ◌&&◌,
 use Rattle.std.specs.List.{list_any}
 use Rattle.resp_core.specs.Trees.{Tree}
 use Rattle.resp_core.specs.Errors.{Refusal, by_cause}
-use Rattle.resp_core.specs.declared.errors.redis_error.Cause.TheVariants.{Io, Memory}
+use Rattle.resp_core.specs.declared.errors.redis_error.Cause.TheVariants.{Io}
 use Rattle.resp_link.specs.Replies.{replies_of}
 use Rattle.resp_link.specs.Call.{Seen, Answers, SendFails, ReadFails}
 use Rattle.cluster_routing.specs.Address.{Address, same_address}
 use Rattle.cluster_calls.specs.Links.Request.{Request, bytes_of, skipped}
 use Rattle.cluster_calls.specs.Links.Log.{Exchange, is_moved}
 use Rattle.cluster_calls.specs.Links.World.{Node, link_at, set_link}
-use Rattle.cluster_calls.specs.Links.Faults.{LinkFault, io, refusal_by_fault}
+use Rattle.cluster_calls.specs.Links.Faults.{LinkFault, io, no_memory, refusal_by_fault}
 
--- how a link call ended: with replies, by the link's fault, or for want of memory
+-- how a link call ended: with replies, or by what it failed
 pub data Ending : Type 0 where
   answers : (replies : List Tree) → Ending
   fails : LinkFault → Ending
-  lacks_memory : Ending
 
 -- a link call: its node, its requests, the values that it took, and how it ended
 pub record Event : Type 0 where
@@ -55,8 +54,6 @@ abbrev pub EndsBy : Seen → Seen → List Request → List Tree → Ending → 
 EndsBy old new qs taken (answers replies) = AnswersFrom old new (bytes_of qs) (reply_count qs) taken replies
 EndsBy old new qs taken (fails fault) = FailsFrom old new (bytes_of qs) (reply_count qs) taken
     (refusal_by_fault fault)
-EndsBy old new qs taken lacks_memory = FailsFrom old new (bytes_of qs) (reply_count qs) taken
-    (by_cause Memory)
 
 abbrev pub AllTo : Address → List Request → Type 0
 AllTo node [] = ⊤
@@ -126,7 +123,7 @@ faults_of (x ∷ xs) a = if same_address x.node a then fault_by x.ending (faults
 
 -- whether a link call lacked memory
 abbrev pub is_memory_ending : Ending → Bool
-is_memory_ending lacks_memory = true
+is_memory_ending (fails no_memory) = true
 is_memory_ending _ = false
 
 abbrev pub lack_memory : List Event → Bool

@@ -9,13 +9,13 @@ use Rattle.cluster_routing.specs.Choice.{Strategy}
 use Rattle.cluster_calls.specs.Links.Request.{Request, requests_to}
 use Rattle.cluster_calls.specs.Links.Log.{Exchange, exchanges, replies}
 use Rattle.cluster_calls.specs.Links.World.{World, open_links}
-use Rattle.cluster_calls.specs.Calls.Call.{Call, Refresh}
+use Rattle.cluster_calls.specs.Calls.Call.{Call, Refresh, Each}
 use Rattle.cluster_calls.specs.Calls.Task.{task_of}
 use Rattle.cluster_calls.specs.Calls.Plan.{Client}
 use Rattle.cluster_calls.specs.Calls.Picks.{ArePicks}
 use Rattle.cluster_calls.specs.Calls.Legal.{IsLegalCall}
 use Rattle.cluster_calls.specs.Links.Faults.{LinkFault}
-use Rattle.cluster_calls.specs.Calls.Answer.{Answer, answer_of}
+use Rattle.cluster_calls.specs.Calls.Answer.{Answer, answer_of, IsAnswerOf, TellsNoMemory}
 use Rattle.cluster_calls.specs.Calls.After.{map_after, flag_after}
 use Rattle.cluster_calls.specs.Links.Events.{Event, Runs, log_of, taken_of, calls_of, exchanges_of, Agrees, lack_memory, StopsAtMemory, answered_moved}
 use Rattle.cluster_calls.specs.Links.Nodes.{NodesMade, link_calls}
@@ -28,6 +28,10 @@ abbrev pub is_refresh : Call → Bool
 is_refresh (Refresh node) = true
 is_refresh _ = false
 
+abbrev pub is_each : Call → Bool
+is_each (Each entries) = true
+is_each _ = false
+
 -- ---- always
 
 -- these exchanges begin a legal log of the call
@@ -37,11 +41,11 @@ pub record BeginsLegal (client : Client) (picks : List Address) (call : Call)
   pub legal : IsLegalCall client picks call (xs ++ later)
 
 -- A call's link calls, also where memory was refused: the log has their requests, and begins a legal one. The
--- call goes on to no other link behind one that lacked memory.
+-- call goes on to no other link behind one that lacked memory, unless it tells of each position.
 pub record Happened (strategy : Option Strategy) (old new : World) (call : Call) : Type 0 where
   pub events : List Event
   pub runs : Runs old.nodes new.nodes events
-  pub stops : StopsAtMemory events
+  pub stops : is_each call ≡ false → StopsAtMemory events
   pub logged : new.log ≡ log_of events
   pub calls : (node : Address)
       → calls_of events node ≡ link_calls (task_of call) (requests_to node (log_of events))
@@ -58,12 +62,12 @@ pub record Happened (strategy : Option Strategy) (old new : World) (call : Call)
 -- in a run
 pub record Answered (strategy : Option Strategy) (old new : World) (call : Call) (events : List Event)
     (answer : Result Answer Refusal) : Type 0 where
-  pub memory : lack_memory events ≡ false
+  pub memory : is_each call ≡ false → lack_memory events ≡ false
   pub logged : new.log ≡ log_of events
   pub picks : ArePicks strategy (client_of old) call new.picked
   pub legal : (place : ℕ) → IsLegalCall (client_of old) new.picked call (exchanges_of place events)
   pub answered : (faults : Address → LinkFault) → Agrees faults events → (place : ℕ)
-      → answer ≡ answer_of (client_of old) new.picked faults call (exchanges_of place events)
+      → IsAnswerOf (client_of old) new.picked faults call (exchanges_of place events) answer
   pub entries : (place : ℕ) → new.entries ≡ map_after old.entries call (exchanges_of place events)
   pub flag : (place : ℕ) → new.needs_refresh ≡ flag_after old.needs_refresh call (exchanges_of place events)
 
@@ -94,6 +98,6 @@ pub record CallMade (strategy : Option Strategy) (old new : World) (call : Call)
     (answer : Result Answer Refusal) : Type 0 where
   pub happened : Happened strategy old new call
   pub answered : answer ≢ Err (by_cause Memory) → Answered strategy old new call happened.events answer
-  pub played : answer ≢ Err (by_cause Memory) → Played old new call (taken_of happened.events) answer
+  pub played : TellsNoMemory answer → Played old new call (taken_of happened.events) answer
   pub memory : answer ≡ Err (by_cause Memory) → is_refresh call ≡ true → LeavesMap old new
   pub unpicked : answer ≡ Err (by_cause Memory) → new.log ≡ [] → new.picked ≡ []

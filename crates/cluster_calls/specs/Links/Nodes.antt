@@ -13,7 +13,7 @@ use Rattle.cluster_calls.specs.Links.Request.{Request, bytes_of}
 use Rattle.cluster_calls.specs.Links.Log.{Exchange, has_lost}
 use Rattle.cluster_calls.specs.Links.World.{Node, link_at}
 use Rattle.cluster_calls.specs.Calls.OneSlot.{args_of}
-use Rattle.cluster_calls.specs.Calls.Task.{Task, pipeline_of, transaction_of}
+use Rattle.cluster_calls.specs.Calls.Task.{Task, pipeline_of, positions_of, transaction_of}
 use Rattle.cluster_calls.specs.Calls.Transactions.{in_sizes, size}
 use Rattle.cluster_calls.specs.Links.Faults.{LinkFault, refusal_by_fault}
 use Rattle.cluster_calls.specs.Links.Events.{reply_count, FailsFrom, in_sending, in_receiving}
@@ -28,6 +28,7 @@ in_one (q ∷ qs) = (q ∷ qs) ∷ []
 
 abbrev pub link_calls : Task → List Request → List (List Request)
 link_calls (pipeline_of entries) qs = in_one qs
+link_calls (positions_of entries) qs = in_one qs
 link_calls (transaction_of commands) qs = in_sizes (size (args_of commands)) qs
 link_calls _ qs = map (λ q. q ∷ []) qs
 

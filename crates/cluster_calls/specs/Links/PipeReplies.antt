@@ -7,7 +7,7 @@ use Rattle.cluster_routing.specs.Combine.{array_of}
 use Rattle.cluster_calls.specs.Calls.Call.{Entry}
 use Rattle.cluster_calls.specs.Calls.Refusals.{with_error, errors_refusal}
 use Rattle.cluster_calls.specs.Calls.Replies.{not_ignored}
-use Rattle.cluster_calls.specs.Calls.Plan.{unless}
+use Rattle.cluster_calls.specs.Calls.Parts.{unless}
 
 -- the first error of each reply that holds one, with its position
 abbrev pub errors_in : ℕ → List Tree → List (ℕ × ErrorText)

@@ -1,14 +1,13 @@
 -- Runs of calls, as `play` makes them: the calls one after another, and what the whole run comes to.
-use Rattle.std.specs.Prelude.{◌≡◌, ◌≢◌, List, [], ◌∷◌, ◌++◌, map, Option, Err}
+use Rattle.std.specs.Prelude.{◌≡◌, List, [], ◌∷◌, ◌++◌, map, Option}
 use Rattle.std.specs.List.{AllByRecursion}
 use Rattle.resp_core.specs.Trees.{Tree}
-use Rattle.resp_core.specs.Errors.{by_cause}
-use Rattle.resp_core.specs.declared.errors.redis_error.Cause.TheVariants.{Memory}
 use Rattle.cluster_routing.specs.Address.{Address}
 use Rattle.cluster_routing.specs.Choice.{Strategy}
 use Rattle.cluster_routing.specs.Lists.{concat}
 use Rattle.cluster_calls.specs.Links.Request.{Request, requests_to}
 use Rattle.cluster_calls.specs.Links.World.{World}
+use Rattle.cluster_calls.specs.Calls.Answer.{TellsNoMemory}
 use Rattle.cluster_calls.specs.Calls.Task.{task_of}
 use Rattle.cluster_calls.specs.Links.Faults.{LinkFault}
 use Rattle.cluster_calls.specs.Links.Events.{Event, taken_of}
@@ -42,9 +41,9 @@ link_calls_to node t = link_calls (task_of t.call) (requests_to node t.log)
 abbrev pub run_calls : List PlayedCall → Address → List (List Request)
 run_calls ts node = concat (map (link_calls_to node) ts)
 
--- no call was refused for want of memory
+-- no call was refused for want of memory, and no position of a pipeline
 abbrev pub HadMemory : List PlayedCall → Type 0
-HadMemory ts = AllByRecursion (λ (t : PlayedCall). t.answer ≢ Err (by_cause Memory)) ts
+HadMemory ts = AllByRecursion (λ (t : PlayedCall). TellsNoMemory t.answer) ts
 
 -- the run as a reader sees it: every call is legal and answers what its replies make, and each node was sent
 -- its requests

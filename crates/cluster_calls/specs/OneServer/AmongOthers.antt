@@ -18,7 +18,7 @@ use Rattle.cluster_routing.specs.Lists.{concat, front, rest, Pairwise}
 use Rattle.cluster_routing.specs.Split.{split_of}
 use Rattle.cluster_calls.specs.Links.Faults.{LinkFault}
 use Rattle.cluster_calls.specs.Calls.Call.{Call}
-use Rattle.cluster_calls.specs.Calls.Task.{Task, slot_map_of, one_command, pipeline_of, several_nodes, one_node, read_of, transaction_of, task_of, stream_keys, are_of_one_slot}
+use Rattle.cluster_calls.specs.Calls.Task.{Task, slot_map_of, one_command, pipeline_of, positions_of, several_nodes, one_node, read_of, transaction_of, task_of, stream_keys, are_of_one_slot}
 use Rattle.cluster_calls.specs.Calls.Plan.{Client}
 use Rattle.cluster_calls.specs.OneServer.Commands.{counting, IsAnswerBy}
 use Rattle.cluster_calls.specs.OneServer.Headline.{RepliedCall, task_log, IsPlayedFrom, AreOnSlots}
@@ -107,7 +107,7 @@ pub record IsServed (meaning : Meaning) (done : ℕ → Bool) (t : RepliedCall) 
   -- an operation
   pub operations : DoAll meaning (counting done t.call t.answer t.log) s.now.own s.responses
   -- the answer is what the responses say
-  pub answer : IsAnswerBy t.call t.answer s.responses
+  pub answer : IsAnswerBy done t.call t.log t.answer s.responses
   -- what others did before the call stays before it
   pub before : s.now.before ≡ s.was.before
   -- on each slot all stays as it was: the same steps, own and others', in the same order
@@ -153,6 +153,7 @@ abbrev pub is_unsplit_task : Task → Bool
 is_unsplit_task (slot_map_of node) = true
 is_unsplit_task (one_command command number order) = is_none (split_of (sent command))
 is_unsplit_task (pipeline_of entries) = false
+is_unsplit_task (positions_of entries) = false
 is_unsplit_task (several_nodes command) = false
 is_unsplit_task (one_node node command) = false
 is_unsplit_task (transaction_of commands) = true

@@ -1,11 +1,12 @@
 -- The operations of a call, its commands unsplit, and what of them counts where the call is refused.
-use Rattle.std.specs.Prelude.{◌≡◌, ℕ, nat_eq, ⊤, Bool, true, false, not, List, [], ◌∷◌, map, filter, Option, Some, None, Result, Ok, Err}
-use Rattle.resp_core.specs.Trees.{Tree}
+use Rattle.std.specs.Prelude.{◌≡◌, ℕ, nat_eq, ⊤, Bool, true, false, not, List, [], ◌∷◌, map, filter, take, drop, length, Option, Some, None, Result, Ok, Err}
+use Rattle.resp_core.specs.Trees.{Tree, ErrorText}
+use Rattle.resp_core.specs.Parts.{first_error}
 use Rattle.resp_core.specs.Errors.{Refusal}
 use Rattle.resp_args.specs.Command.{Command}
 use Rattle.resp_args.specs.Packed.{sent}
 use Rattle.cluster_routing.specs.HashSlot.{hash_slot}
-use Rattle.cluster_routing.specs.Lists.{among}
+use Rattle.cluster_routing.specs.Lists.{among, concat}
 use Rattle.cluster_routing.specs.Parts.{Tuple, tuple_slot}
 use Rattle.cluster_routing.specs.Routing.{Destination, to_any_node, destination}
 use Rattle.cluster_routing.specs.Split.{Split, split_of, join_split}
@@ -14,10 +15,12 @@ use Rattle.stream_commands.specs.ReadReply.{Row}
 use Rattle.stream_commands.specs.Settings.{ReadSettings}
 use Rattle.cluster_calls.specs.Links.Log.{Exchange}
 use Rattle.cluster_calls.specs.Calls.Call.{Entry, Stream, Call}
-use Rattle.cluster_calls.specs.Calls.Task.{Task, slot_map_of, one_command, pipeline_of, several_nodes, one_node, read_of, transaction_of, task_of}
+use Rattle.cluster_calls.specs.Calls.Each.{Fate, redirected, fate_of}
+use Rattle.cluster_calls.specs.Calls.InParts.{in_parts, part_count, split_at}
+use Rattle.cluster_calls.specs.Calls.Task.{Task, slot_map_of, one_command, pipeline_of, positions_of, several_nodes, one_node, read_of, transaction_of, task_of}
 use Rattle.cluster_calls.specs.Calls.Reads.{read_slot}
 use Rattle.cluster_calls.specs.Calls.Replies.{exchange_slot, in_pipeline_order, not_ignored}
-use Rattle.cluster_calls.specs.Calls.Answer.{Answer, Value, Refreshed, Read, answer_in}
+use Rattle.cluster_calls.specs.Calls.Answer.{Answer, Value, Refreshed, Read, Told, answer_in}
 use Rattle.cluster_calls.specs.Calls.OneSlot.{args_of}
 use Rattle.cluster_calls.specs.Calls.Transactions.{attempt_log, last_attempt}
 use Rattle.cluster_calls.specs.OneServer.Honest.{counts, is_counted}
@@ -34,6 +37,7 @@ is_task_on_slots (one_command command number order) = not (is_any_node (destinat
 is_task_on_slots (several_nodes command) = false
 is_task_on_slots (one_node node command) = false
 is_task_on_slots (pipeline_of entries) = true
+is_task_on_slots (positions_of entries) = true
 is_task_on_slots (slot_map_of node) = true
 is_task_on_slots (read_of options streams) = true
 is_task_on_slots (transaction_of commands) = true
@@ -46,6 +50,7 @@ is_on_slots call = is_task_on_slots (task_of call)
 abbrev pub task_operations : Task → List Operation
 task_operations (one_command command number order) = run_each (sent command ∷ [])
 task_operations (pipeline_of entries) = run_each (map (λ (e : Entry). sent e.command) entries)
+task_operations (positions_of entries) = run_each (map (λ (e : Entry). sent e.command) entries)
 task_operations (read_of options streams) = ReadKeys options streams ∷ []
 task_operations (transaction_of commands) = RunAsOne (args_of commands) ∷ []
 task_operations _ = []
@@ -88,12 +93,25 @@ abbrev pub as_one_kept : (ℕ → Bool) → List Command → List Exchange → L
 as_one_kept done commands xs = map (λ (x : Exchange). task_operation (transaction_of commands) x.request.args)
     (filter (λ (x : Exchange). counts done (task_operation (transaction_of commands) x.request.args) x) xs)
 
+-- Of the positions of a pipeline, each by so many of the exchanges, in their order: of a command what its counted
+-- requests did.
+abbrev pub positions_kept : (ℕ → Bool) → List Entry → List Exchange → List (List Operation)
+positions_kept done [] xs = []
+positions_kept done (e ∷ es) xs =
+    run_each (kept_of (sent e.command) (filter (is_counted done) (take (part_count (split_at e)) xs)))
+    ∷ positions_kept done es (drop (part_count (split_at e)) xs)
+
+-- what counts of each position
+abbrev pub by_position : (ℕ → Bool) → List Entry → List Exchange → List (List Operation)
+by_position done entries xs = positions_kept done entries (in_pipeline_order (in_parts entries) xs)
+
 -- what counts of a refused call
 abbrev pub task_kept : (ℕ → Bool) → Task → List Exchange → List Operation
 task_kept done (one_command command number order) xs = run_each
     (kept_of (sent command) (filter (is_counted done) xs))
 task_kept done (pipeline_of entries) xs = run_each
     (map (λ (x : Exchange). x.request.args) (filter (is_counted done) (in_pipeline_order entries xs)))
+task_kept done (positions_of entries) xs = concat (by_position done entries xs)
 task_kept done (read_of options streams) xs = read_kept options streams (filter (is_counted done) xs)
 task_kept done (transaction_of commands) xs = as_one_kept done commands
     (attempt_log (last_attempt (args_of commands) xs))
@@ -102,27 +120,55 @@ task_kept done _ xs = []
 abbrev pub kept : (ℕ → Bool) → Call → List Exchange → List Operation
 kept done call xs = task_kept done (task_of call) xs
 
+-- what counts of an answered call: all of it, but of a pipeline that tells of each position what counts of each
+abbrev pub task_done : (ℕ → Bool) → Task → List Exchange → List Operation
+task_done done (positions_of entries) xs = concat (by_position done entries xs)
+task_done done task xs = task_operations task
+
 -- the operations that count: all of an answered call, and what is kept of a refused one
 abbrev pub counting : (ℕ → Bool) → Call → Result Answer Refusal → List Exchange → List Operation
-counting done call (Ok answer) xs = operations call
+counting done call (Ok answer) xs = task_done done (task_of call) xs
 counting done call (Err refusal) xs = kept done call xs
 
 -- ---- answers
 
+-- A value that holds no error is the one response to what counts of its position, and of one that was sent on
+-- nothing counts. Of any other outcome the responses say nothing.
+abbrev pub IsValueBy : Tree → Option ErrorText → List Response → Type 0
+IsValueBy tree None responses = responses ≡ Reply tree ∷ []
+IsValueBy tree (Some e) responses = ⊤
+
+abbrev pub IsRefusedBy : Fate → List Response → Type 0
+IsRefusedBy redirected responses = responses ≡ []
+IsRefusedBy fate responses = ⊤
+
+abbrev pub IsOutcomeBy : Result Tree Refusal → List Response → Type 0
+IsOutcomeBy (Ok tree) responses = IsValueBy tree (first_error tree) responses
+IsOutcomeBy (Err refusal) responses = IsRefusedBy (fate_of (Err refusal)) responses
+
+-- position by position, each with as many of the responses as operations of it count
+abbrev pub AreOutcomesBy : List (List Operation) → List (Result Tree Refusal) → List Response → Type 0
+AreOutcomesBy [] [] responses = responses ≡ []
+AreOutcomesBy (os ∷ counted) (outcome ∷ outcomes) responses =
+    IsOutcomeBy outcome (take (length os) responses) × AreOutcomesBy counted outcomes (drop (length os) responses)
+AreOutcomesBy _ _ responses = ⊥
+
 -- the answer is what the responses to the call's operations say
-abbrev pub IsTaskAnswer : Call → Task → Answer → List Response → Type 0
-IsTaskAnswer call (slot_map_of node) answer responses = (answer ≡ Refreshed) × (responses ≡ [])
-IsTaskAnswer call (one_command command number order) answer responses = (tree : Tree)
+abbrev pub IsTaskAnswer : (ℕ → Bool) → Call → Task → List Exchange → Answer → List Response → Type 0
+IsTaskAnswer done call (slot_map_of node) xs answer responses = (answer ≡ Refreshed) × (responses ≡ [])
+IsTaskAnswer done call (one_command command number order) xs answer responses = (tree : Tree)
     × (responses ≡ Reply tree ∷ []) × (answer_in call tree ≡ Some answer)
-IsTaskAnswer call (pipeline_of entries) answer responses = (trees : List Tree) × (responses ≡ map Reply trees)
+IsTaskAnswer done call (pipeline_of entries) xs answer responses = (trees : List Tree) × (responses ≡ map Reply trees)
     × (answer ≡ Value (array_of (not_ignored entries trees)))
-IsTaskAnswer call (several_nodes command) answer responses = ⊥
-IsTaskAnswer call (one_node node command) answer responses = ⊥
-IsTaskAnswer call (transaction_of commands) answer responses = (tree : Tree)
+IsTaskAnswer done call (positions_of entries) xs answer responses = (outcomes : List (Result Tree Refusal))
+    × (answer ≡ Told outcomes) × AreOutcomesBy (by_position done entries xs) outcomes responses
+IsTaskAnswer done call (several_nodes command) xs answer responses = ⊥
+IsTaskAnswer done call (one_node node command) xs answer responses = ⊥
+IsTaskAnswer done call (transaction_of commands) xs answer responses = (tree : Tree)
     × (responses ≡ Reply tree ∷ []) × (answer ≡ Value tree)
-IsTaskAnswer call (read_of options streams) answer responses = (rows : List Row)
+IsTaskAnswer done call (read_of options streams) xs answer responses = (rows : List Row)
     × (responses ≡ Rows (Some rows) ∷ []) × (answer ≡ Read rows)
 
-abbrev pub IsAnswerBy : Call → Result Answer Refusal → List Response → Type 0
-IsAnswerBy call (Ok answer) responses = IsTaskAnswer call (task_of call) answer responses
-IsAnswerBy call (Err refusal) responses = ⊤
+abbrev pub IsAnswerBy : (ℕ → Bool) → Call → List Exchange → Result Answer Refusal → List Response → Type 0
+IsAnswerBy done call xs (Ok answer) responses = IsTaskAnswer done call (task_of call) xs answer responses
+IsAnswerBy done call xs (Err refusal) responses = ⊤

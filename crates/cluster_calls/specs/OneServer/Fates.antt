@@ -1,23 +1,27 @@
--- What a pipeline that tells of each position lets its caller know: of each position whether it was done, was
--- not done, or may have been done; and that the one answer of `query` follows from these outcomes.
-use Rattle.std.specs.Prelude.{◌≡◌, ℕ, Bool, true, false, List, [], ◌∷◌, take, drop, filter_map, length, Option, Some, None, Result, Ok, ⊤}
-use Rattle.std.specs.List.{AllByRecursion}
+-- What a pipeline that tells of each position lets its caller know: of each position whether it was answered, was
+-- not done, or may have been done; and that, where no link call failed, the one answer of `query` follows from
+-- these outcomes.
+use Rattle.std.specs.Prelude.{◌≡◌, ℕ, Bool, true, false, List, [], ◌∷◌, map, take, drop, length, Option, Some, None, Result, Ok, ⊤}
+use Rattle.std.specs.List.{list_any, AllByRecursion}
 use Rattle.resp_core.specs.Trees.{Tree}
 use Rattle.resp_core.specs.Errors.{Refusal}
 use Rattle.cluster_routing.specs.Address.{Address}
 use Rattle.cluster_routing.specs.Choice.{Strategy}
+use Rattle.cluster_routing.specs.Lists.{concat}
 use Rattle.cluster_routing.specs.Split.{Split}
-use Rattle.cluster_calls.specs.Links.Converted.{value_answer}
-use Rattle.cluster_calls.specs.Links.EachMade.{EachMade, refusals_of, told_of}
+use Rattle.cluster_calls.specs.Links.Converted.{told_answer, value_answer}
+use Rattle.cluster_calls.specs.Links.EachMade.{EachMade, refusals_of}
+use Rattle.cluster_calls.specs.Links.Events.{exchanges_of}
 use Rattle.cluster_calls.specs.Links.Faults.{LinkFault, refusal_by_fault}
-use Rattle.cluster_calls.specs.Links.Log.{Exchange, requests, has_lost}
-use Rattle.cluster_calls.specs.Links.Request.{requests_to}
+use Rattle.cluster_calls.specs.Links.Happened.{CallMade}
+use Rattle.cluster_calls.specs.Links.Log.{Exchange, requests, has_lost, is_unanswered}
 use Rattle.cluster_calls.specs.Links.World.{World, link_at, is_usable}
 use Rattle.cluster_calls.specs.Calls.Answer.{answer_of}
-use Rattle.cluster_calls.specs.Calls.Call.{Entry, Pipeline}
-use Rattle.cluster_calls.specs.Calls.Each.{Fate, answered, redirected, not_asked, lost, fate_of, reply_outcome, exchanges_with, position_exchanges, each_of, answer_of_each}
-use Rattle.cluster_calls.specs.Calls.EachInParts.{AreOutcomesOf, first_unplaced, in_parts, part_count, splits_in}
-use Rattle.cluster_calls.specs.Calls.Legal.{IsLegalCall, direct}
+use Rattle.cluster_calls.specs.Calls.Call.{Each, Entry, Pipeline}
+use Rattle.cluster_calls.specs.Calls.Each.{Fate, answered, redirected, lost, fate_of, reply_outcome, exchanges_with, position_exchanges, each_of, answer_of_each}
+use Rattle.cluster_calls.specs.Calls.EachInParts.{AreOutcomesOf}
+use Rattle.cluster_calls.specs.Calls.InParts.{first_unplaced, in_parts, part_count, splits_in}
+use Rattle.cluster_calls.specs.Calls.Legal.{IsLegalCall, direct, node_groups}
 use Rattle.cluster_calls.specs.Calls.Parts.{Part, pipeline_parts}
 use Rattle.cluster_calls.specs.Calls.Plan.{Client, Dispatch, plan}
 use Rattle.cluster_calls.specs.OneServer.Laws.{is_redirected}
@@ -25,47 +29,33 @@ use Rattle.cluster_calls.specs.OneServer.Laws.{is_redirected}
 -- ---- what each fate says of a part's dispatch and exchange
 
 -- its request has this reply, and the outcome is that reply
-pub record IsReplied (xs : List Exchange) (d : Dispatch) (its : Option Exchange) (outcome : Result Tree Refusal)
+pub record IsReplied (xs : List Exchange) (d : Dispatch) (its : Exchange) (outcome : Result Tree Refusal)
     (sent_on : Bool) : Type 0 where
-  pub exchange : Exchange
   pub reply : Tree
-  pub is_its : its ≡ Some exchange
-  pub request : exchange.request ≡ direct d
-  pub replied : exchange.reply ≡ Some reply
+  pub request : its.request ≡ direct d
+  pub replied : its.reply ≡ Some reply
   pub outcome_is : outcome ≡ reply_outcome reply
-  pub redirect : is_redirected exchange ≡ sent_on
+  pub redirect : is_redirected its ≡ sent_on
   pub link_answered : has_lost d.node xs ≡ false
 
 -- its request stands in the log, and the link call of its node was refused, which closed the link
-pub record IsLost (new : World) (xs : List Exchange) (d : Dispatch) (its : Option Exchange) : Type 0 where
-  pub exchange : Exchange
-  pub is_its : its ≡ Some exchange
-  pub request : exchange.request ≡ direct d
+pub record IsLost (new : World) (xs : List Exchange) (d : Dispatch) (its : Exchange) : Type 0 where
+  pub request : its.request ≡ direct d
   pub link_refused : has_lost d.node xs ≡ true
   pub closed : is_usable (link_at new.nodes d.node) ≡ false
 
--- the log has no request to its node
-pub record IsNotAsked (new : World) (d : Dispatch) (its : Option Exchange) : Type 0 where
-  pub none : its ≡ None
-  pub unasked : requests_to d.node new.log ≡ []
-
-abbrev pub FateSays : World → List Exchange → Dispatch → Option Exchange → Result Tree Refusal → Fate → Type 0
+abbrev pub FateSays : World → List Exchange → Dispatch → Exchange → Result Tree Refusal → Fate → Type 0
 FateSays new xs d its outcome answered = IsReplied xs d its outcome false
 FateSays new xs d its outcome redirected = IsReplied xs d its outcome true
-FateSays new xs d its outcome not_asked = IsNotAsked new d its
 FateSays new xs d its outcome lost = IsLost new xs d its
 
 -- part by part
-abbrev pub HaveFates : World → List Exchange → List Dispatch → List (Option Exchange)
-    → List (Result Tree Refusal) → Type 0
+abbrev pub HaveFates : World → List Exchange → List Dispatch → List Exchange → List (Result Tree Refusal)
+    → Type 0
 HaveFates new xs [] [] [] = ⊤
 HaveFates new xs (d ∷ ds) (its ∷ more) (outcome ∷ outcomes) =
     FateSays new xs d its outcome (fate_of outcome) × HaveFates new xs ds more outcomes
 HaveFates _ _ _ _ _ = ⊥
-
--- the exchanges that parts have, in the order of the parts
-abbrev pub exchanges_in : List (Option Exchange) → List Exchange
-exchanges_in its = filter_map (λ x. x) its
 
 -- each part has its fate; the log has the requests of the exchanges and no other; and each exchange with a
 -- node is that of one part, in their order
@@ -73,8 +63,7 @@ pub record PartsAreKnown (new : World) (parts : List Entry) (ds : List Dispatch)
     (told : List (Result Tree Refusal)) : Type 0 where
   pub fates : HaveFates new xs ds (position_exchanges ds xs) told
   pub log : requests xs ≡ new.log
-  pub own : (node : Address)
-      → exchanges_with (exchanges_in (position_exchanges ds xs)) node ≡ exchanges_with xs node
+  pub own : (node : Address) → exchanges_with (position_exchanges ds xs) node ≡ exchanges_with xs node
   pub whole : length told ≡ length parts
 
 -- ---- what the fate of a position says of its parts
@@ -99,14 +88,15 @@ pub record PositionsAreKnown (new : World) (entries : List Entry) (ds : List Dis
   pub positions : AreFatesOfParts (splits_in entries) told outcomes
   pub whole : length outcomes ≡ length entries
 
--- From what a call ensures alone it is known of each position whether it was done (`answered`), was not done
--- (`redirected`, `not_asked`), or may have been done (`lost`), also where memory is refused.
+-- From what a call ensures alone it is known of each position whether all its parts were answered (`answered`; a part
+-- whose answer is an error need not have been done), none was done (`redirected`), or it may have been done (`lost`),
+-- also where memory is refused.
 abbrev pub EachPositionHasItsFate : Type 0
 EachPositionHasItsFate = (strategy : Option Strategy) (old new : World) (entries : List Entry)
     (outcomes : List (Result Tree Refusal)) → (made : EachMade strategy old new entries (Ok outcomes))
     → (place : ℕ)
-    → PositionsAreKnown new entries made.told.dispatches (told_of place made.happened.events)
-    (each_of (refusals_of made.happened.events) made.told.dispatches (told_of place made.happened.events))
+    → PositionsAreKnown new entries made.told.dispatches (exchanges_of place made.happened.events)
+    (each_of (refusals_of made.happened.events) made.told.dispatches (exchanges_of place made.happened.events))
     outcomes
 
 -- ---- the parts of a pipeline
@@ -123,10 +113,19 @@ WholesStayWhole = (entries : List Entry) (parts : List Part) → pipeline_parts 
     × ((told outcomes : List (Result Tree Refusal)) → AreOutcomesOf (splits_in entries) told outcomes
     → told ≡ outcomes)
 
--- The answer of `query` is a function of the outcomes.
+-- Where no link call failed, the exchanges are those of `query`, and its answer is a function of the outcomes.
 abbrev pub OutcomesMakeTheAnswer : Type 0
 OutcomesMakeTheAnswer = (client : Client) (picks : List Address) (faults : Address → LinkFault)
     (entries : List Entry) (ds : List Dispatch) (xs : List Exchange)
-    → plan client picks (Pipeline entries) ≡ Ok ds → IsLegalCall client picks (Pipeline entries) xs
-    → answer_of client picks faults (Pipeline entries) xs
-    ≡ value_answer (answer_of_each entries (each_of (λ node. refusal_by_fault (faults node)) ds xs))
+    → plan client picks (Pipeline entries) ≡ Ok ds → requests xs ≡ map direct (concat (node_groups ds))
+    → list_any is_unanswered xs ≡ false
+    → IsLegalCall client picks (Pipeline entries) xs
+    × (answer_of client picks faults (Pipeline entries) xs
+    ≡ value_answer (answer_of_each entries (each_of (λ node. refusal_by_fault (faults node)) ds xs)))
+
+-- What a pipeline that tells of each position ensures makes it a call like any other, of which all laws of calls
+-- hold.
+abbrev pub EachIsACall : Type 0
+EachIsACall = (strategy : Option Strategy) (old new : World) (entries : List Entry)
+    (result : Result (List (Result Tree Refusal)) Refusal) → EachMade strategy old new entries result
+    → CallMade strategy old new (Each entries) (told_answer result)

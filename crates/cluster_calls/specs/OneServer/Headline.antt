@@ -82,7 +82,8 @@ abbrev pub all_counting : (ℕ → Bool) → List RepliedCall → List Operation
 all_counting done ts = concat (map (λ (t : RepliedCall). counting done t.call t.answer t.log) ts)
 
 -- The answers and the keyspace are those of one server that is given the operations that count, one after
--- another. Of a call that was answered all operations count; of one that was refused those that were done.
+-- another. Of a call that was answered all operations count; of one that was refused those that were done, and so
+-- of one that tells of each position.
 pub record AsOneServer (meaning : Meaning) (keys : Keyspace) (done : ℕ → Bool) (ts : List RepliedCall)
     (keys' : Keyspace) : Type 0 where
   -- what the server responds, call by call
@@ -93,7 +94,7 @@ pub record AsOneServer (meaning : Meaning) (keys : Keyspace) (done : ℕ → Boo
   -- given all these operations, the server may respond so, and it leaves these keys
   pub served : OneServer meaning keys (all_counting done ts) (concat responses) keys'
   -- the answer of each call that was not refused is what its responses say
-  pub answers : Pairwise (λ (t : RepliedCall) here. IsAnswerBy t.call t.answer here) ts responses
+  pub answers : Pairwise (λ (t : RepliedCall) here. IsAnswerBy done t.call t.log t.answer here) ts responses
 
 abbrev pub AreOnSlots : List RepliedCall → Type 0
 AreOnSlots ts = AllByRecursion (λ (t : RepliedCall). is_on_slots t.call ≡ true) ts

@@ -1,7 +1,9 @@
 -- Laws of calls and runs, each as one statement over the definitions.
-use Rattle.std.specs.Prelude.{◌≡◌, ◌↔◌, ◌≤◌, ◌*◌, ℕ, suc, Bool, true, false, not, nat_eq, bytes_eq, ⊤, List, [], ◌∷◌, map, filter, length, Contains, Option, Some, None, option_and_then, Ok, MatchBool}
+use Rattle.std.specs.Prelude.{◌≡◌, ◌↔◌, ◌≤◌, ◌*◌, ℕ, suc, Bool, true, false, not, nat_eq, bytes_eq, ⊤, List, [], ◌∷◌, map, filter, length, Contains, Option, Some, None, option_and_then, Result, Ok, MatchBool}
 use Rattle.std.specs.List.{AllByRecursion}
 use Rattle.resp_core.specs.Trees.{Tree}
+use Rattle.resp_core.specs.Parts.{first_error}
+use Rattle.resp_core.specs.Errors.{Refusal}
 use Rattle.resp_args.specs.Command.{Command}
 use Rattle.resp_args.specs.Convert.{traverse}
 use Rattle.resp_args.specs.Packed.{sent}
@@ -18,13 +20,13 @@ use Rattle.stream_commands.specs.Settings.{ReadSettings}
 use Rattle.cluster_calls.specs.Links.Reply.{Sort, Moved, Ask, sort_of}
 use Rattle.cluster_calls.specs.Links.Log.{Exchange, is_answered}
 use Rattle.cluster_calls.specs.Calls.Call.{Call, Query, Ordered, Stream}
-use Rattle.cluster_calls.specs.Calls.Task.{Task, slot_map_of, one_command, pipeline_of, several_nodes, one_node, read_of, transaction_of, task_of, stream_keys}
+use Rattle.cluster_calls.specs.Calls.Task.{Task, slot_map_of, one_command, pipeline_of, positions_of, several_nodes, one_node, read_of, transaction_of, task_of, stream_keys}
 use Rattle.cluster_calls.specs.Calls.Reads.{stream_slots, key_places}
 use Rattle.cluster_calls.specs.Calls.Plan.{Client, Dispatch, plan}
 use Rattle.cluster_calls.specs.Calls.Legal.{IsLegalCall}
 use Rattle.cluster_calls.specs.Links.Faults.{LinkFault}
 use Rattle.cluster_calls.specs.Calls.Refusals.{sent_refusal}
-use Rattle.cluster_calls.specs.Calls.Answer.{Answer}
+use Rattle.cluster_calls.specs.Calls.Answer.{Answer, outcomes_in}
 use Rattle.cluster_calls.specs.OneServer.Keyspace.{Keyspace, Step, History, Leads, on_slot}
 use Rattle.cluster_calls.specs.OneServer.Meaning.{Meaning, DoesRead, rows_of_steps, OneServer}
 use Rattle.cluster_calls.specs.OneServer.Honest.{HonestRun}
@@ -37,6 +39,7 @@ abbrev pub request_bound : ℕ → ℕ → Task → ℕ
 request_bound budget parts (slot_map_of node) = 1
 request_bound budget parts (one_command command number order) = parts * suc budget
 request_bound budget parts (pipeline_of entries) = length entries
+request_bound budget parts (positions_of entries) = parts
 request_bound budget parts (several_nodes command) = parts
 request_bound budget parts (one_node node command) = 1
 request_bound budget parts (read_of options streams) = parts * suc budget
@@ -153,8 +156,13 @@ OneServerIsDetermined = (meaning : Meaning) (keys left right : Keyspace) (operat
     → OneServer meaning keys operations ts left → OneServer meaning keys operations us right → (ts ≡ us)
     × ((slot : ℕ) → left slot ≡ right slot)
 
+-- a value that holds no error
+abbrev pub IsGiven : Result Tree Refusal → Type 0
+IsGiven outcome = (tree : Tree) × (outcome ≡ Ok tree) × (first_error tree ≡ None)
+
+-- the call was answered, and each position of a pipeline that tells of each
 abbrev pub IsAnswered : RepliedCall → Type 0
-IsAnswered t = (answer : Answer) × (t.answer ≡ Ok answer)
+IsAnswered t = (answer : Answer) × (t.answer ≡ Ok answer) × AllByRecursion IsGiven (outcomes_in t.answer)
 
 -- the call without the order of its parts, and without the number of a node
 abbrev pub in_any_order : Call → Call

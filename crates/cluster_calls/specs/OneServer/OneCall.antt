@@ -1,9 +1,8 @@
 -- One call over honest nodes, from what its own contract says: where others use the keys too, and where no
 -- one else does.
-use Rattle.std.specs.Prelude.{◌≡◌, ◌≢◌, ℕ, Bool, true, List, [], ◌∷◌, Option, Result, Err}
+use Rattle.std.specs.Prelude.{◌≡◌, ℕ, Bool, true, List, [], ◌∷◌, Option, Result}
 use Rattle.resp_core.specs.Trees.{Tree}
-use Rattle.resp_core.specs.Errors.{Refusal, by_cause}
-use Rattle.resp_core.specs.declared.errors.redis_error.Cause.TheVariants.{Memory}
+use Rattle.resp_core.specs.Errors.{Refusal}
 use Rattle.cluster_routing.specs.Address.{Address}
 use Rattle.cluster_routing.specs.Choice.{Strategy}
 use Rattle.cluster_calls.specs.Links.Request.{Request}
@@ -14,7 +13,7 @@ use Rattle.cluster_calls.specs.Links.Happened.{CallMade}
 use Rattle.cluster_calls.specs.Calls.Call.{Call}
 use Rattle.cluster_calls.specs.Calls.Plan.{Client}
 use Rattle.cluster_calls.specs.Calls.Legal.{IsLegalCall}
-use Rattle.cluster_calls.specs.Calls.Answer.{Answer}
+use Rattle.cluster_calls.specs.Calls.Answer.{Answer, TellsNoMemory}
 use Rattle.cluster_calls.specs.OneServer.AmongOthers.{CallTurns, HonestAmongOthers, AsOneServerAmongOthers}
 use Rattle.cluster_calls.specs.OneServer.Keyspace.{Keyspace, Step}
 use Rattle.cluster_calls.specs.OneServer.Meaning.{Meaning}
@@ -31,7 +30,7 @@ run_of_one new call answer = record { call = call; picks = new.picked; answer = 
 abbrev pub OneCallAmongOthers : Type 0
 OneCallAmongOthers = (strategy : Option Strategy) (old new : World) (call : Call)
     (answer : Result Answer Refusal)
-    (made : CallMade strategy old new call answer) → answer ≢ Err (by_cause Memory) → is_on_slots call ≡ true
+    (made : CallMade strategy old new call answer) → TellsNoMemory answer → is_on_slots call ≡ true
     → (meaning : Meaning) (keys keys' : Keyspace) (done : ℕ → Bool) (turns : CallTurns) (last : List Step)
     → HonestAmongOthers meaning keys done
     (with_replies (taken_of made.happened.events) (run_of_one new call answer)) (turns ∷ []) last keys'
@@ -42,7 +41,7 @@ OneCallAmongOthers = (strategy : Option Strategy) (old new : World) (call : Call
 abbrev pub OneCallAsOnOneServer : Type 0
 OneCallAsOnOneServer = (strategy : Option Strategy) (old new : World) (call : Call)
     (answer : Result Answer Refusal) (made : CallMade strategy old new call answer)
-    → answer ≢ Err (by_cause Memory) → is_on_slots call ≡ true
+    → TellsNoMemory answer → is_on_slots call ≡ true
     → (meaning : Meaning) (keys keys' : Keyspace) (done : ℕ → Bool)
     → HonestRun meaning keys done
     (command_logs (with_replies (taken_of made.happened.events) (run_of_one new call answer))) keys'

@@ -53,6 +53,7 @@ link sent left reads = record {
   write_counts = no_writes nothing;
   flushed = true;
   usable = true;
+  owes = false;
   limit = 100;
 }
 
@@ -67,6 +68,7 @@ ended_link sent reads = record {
   write_counts = no_writes nothing;
   flushed = true;
   usable = false;
+  owes = false;
   limit = 100;
 }
 

@@ -197,7 +197,7 @@ they_are_served = (
 )
 
 pub they_are_the_answers : Pairwise
-    (λ (t : RepliedCall) here. IsAnswerBy t.call t.answer here) silent all_for_the_first
+    (λ (t : RepliedCall) here. IsAnswerBy none_done t.call t.log t.answer here) silent all_for_the_first
 they_are_the_answers = ((text (codes "1") ∷ text (codes "2") ∷ [], refl, refl), (([], refl, refl), tt))
 
 pub they_do_not_count : Pairwise
@@ -217,7 +217,7 @@ a_silent_pipeline_is_no_servers keys keys' may h = by h.responses h.counts h.ans
 
     by : (rs : List (List Response))
         → Pairwise (λ (t : RepliedCall) here. length here ≡ length (counting none_done t.call t.answer t.log))
-        silent rs → Pairwise (λ (t : RepliedCall) here. IsAnswerBy t.call t.answer here) silent rs → ⊥
+        silent rs → Pairwise (λ (t : RepliedCall) here. IsAnswerBy none_done t.call t.log t.answer here) silent rs → ⊥
     by [] c a = absurd c
     by (r ∷ []) c a = absurd c.1
     by (r ∷ r2 ∷ rs) c a = no_trees a.1.0.0 (sym c.1.0 ∙ ap length a.1.0.1) a.1.0.2

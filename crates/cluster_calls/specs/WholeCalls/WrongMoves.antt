@@ -33,14 +33,14 @@ use Rattle.cluster_calls.specs.WholeCalls.WrongServers.{reply_byte}
 pub record WithoutBefore (meaning : Meaning) (done : ℕ → Bool) (t : RepliedCall)
     (s : ServedCall) : Type 0 where
   pub operations : DoAll meaning (counting done t.call t.answer t.log) s.now.own s.responses
-  pub answer : IsAnswerBy t.call t.answer s.responses
+  pub answer : IsAnswerBy done t.call t.log t.answer s.responses
   pub same : (slot : ℕ) → turns_on slot (while_made s.now) ≡ turns_on slot (while_made s.was)
   pub in_place : are_on_one_slot (concat s.was.own) ≡ true → while_made s.now ≡ while_made s.was
 
 -- nothing says that all stays as it was on each slot
 pub record WithoutSame (meaning : Meaning) (done : ℕ → Bool) (t : RepliedCall) (s : ServedCall) : Type 0 where
   pub operations : DoAll meaning (counting done t.call t.answer t.log) s.now.own s.responses
-  pub answer : IsAnswerBy t.call t.answer s.responses
+  pub answer : IsAnswerBy done t.call t.log t.answer s.responses
   pub before : s.now.before ≡ s.was.before
   pub in_place : are_on_one_slot (concat s.was.own) ≡ true → while_made s.now ≡ while_made s.was
 
@@ -48,7 +48,7 @@ pub record WithoutSame (meaning : Meaning) (done : ℕ → Bool) (t : RepliedCal
 pub record WithoutInPlace (meaning : Meaning) (done : ℕ → Bool) (t : RepliedCall)
     (s : ServedCall) : Type 0 where
   pub operations : DoAll meaning (counting done t.call t.answer t.log) s.now.own s.responses
-  pub answer : IsAnswerBy t.call t.answer s.responses
+  pub answer : IsAnswerBy done t.call t.log t.answer s.responses
   pub before : s.now.before ≡ s.was.before
   pub same : (slot : ℕ) → turns_on slot (while_made s.now) ≡ turns_on slot (while_made s.was)
 
@@ -64,7 +64,7 @@ pub record ServedBy (Rule : RepliedCall → ServedCall → Type 0) (keys : Keysp
 -- a call does its operations and has its answer
 abbrev pub DoesAndAnswers : Meaning → (ℕ → Bool) → RepliedCall → ServedCall → Type 0
 DoesAndAnswers meaning done t s = DoAll meaning (counting done t.call t.answer t.log) s.now.own s.responses
-    × IsAnswerBy t.call t.answer s.responses
+    × IsAnswerBy done t.call t.log t.answer s.responses
 
 -- on each slot all stays as it was over the whole run, but not call by call
 pub record SameOverTheRun (meaning : Meaning) (keys : Keyspace) (done : ℕ → Bool) (ts : List RepliedCall)

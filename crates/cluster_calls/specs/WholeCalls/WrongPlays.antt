@@ -6,7 +6,8 @@ use Rattle.resp_core.specs.Trees.{int}
 use Rattle.cluster_routing.specs.Choice.{Strategy}
 use Rattle.cluster_routing.specs.Examples.{first_node as n1, second_node as n2}
 use Rattle.cluster_calls.specs.Calls.Call.{Call}
-use Rattle.cluster_calls.specs.Links.Events.{Event, answers, lacks_memory, StopsAtMemory}
+use Rattle.cluster_calls.specs.Links.Events.{Event, answers, fails, StopsAtMemory}
+use Rattle.cluster_calls.specs.Links.Faults.{no_memory}
 use Rattle.cluster_calls.specs.Links.Play.{Plays, Shown}
 use Rattle.cluster_calls.specs.Links.Run.{CallsMade, IsMovedOut}
 use Rattle.cluster_calls.specs.Links.World.{World}
@@ -35,7 +36,7 @@ all_made_is_not_refused strategy old new calls before after p none = p.cut refl 
 -- the second node asked behind a first that lacked memory
 abbrev pub both_asked : List Event
 both_asked =
-    record { node = n1; requests = plain n1 (word (codes "DBSIZE")) ∷ []; taken = []; ending = lacks_memory }
+    record { node = n1; requests = plain n1 (word (codes "DBSIZE")) ∷ []; taken = []; ending = fails no_memory }
     ∷ record {
       node = n2;
       requests = plain n2 (word (codes "DBSIZE")) ∷ [];

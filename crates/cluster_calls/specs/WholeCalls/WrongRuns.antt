@@ -180,10 +180,10 @@ a_closed_link_is_not_asked old new q taken lost fault closed made = false≢true
 -- ---- what is supposed: memory, and calls on slots
 
 pub three_had_memory : HadMemory three_calls
-three_had_memory = (λ e. cc, (λ e. cc, (λ e. cc, tt)))
+three_had_memory = ((λ e. cc, tt), ((λ e. cc, tt), ((λ e. cc, tt), tt)))
 
 pub a_call_without_memory_breaks_it : HadMemory (played get_a (Err (by_cause Memory)) [] ∷ []) → ⊥
-a_call_without_memory_breaks_it h = h.0 refl
+a_call_without_memory_breaks_it h = h.0.0 refl
 
 pub a_keyed_call_is_on_slots : is_on_slots (query get_a) ≡ true
 unfolding destination rule_of table hash_slot splitting_of digits

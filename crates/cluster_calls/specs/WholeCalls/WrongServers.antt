@@ -1,6 +1,6 @@
 -- Runs over nodes gone wrong, and runs with wrong answers: no clause of the claim lets them pass. Beside each
 -- stands the right one.
-use Rattle.std.specs.Prelude.{◌≡◌, ◌==◌, ℕ, zero, suc, true, List, [], ◌∷◌, ◌++◌, Some, None, Ok, Err, Contains, MatchOption, codes, refl}
+use Rattle.std.specs.Prelude.{◌≡◌, ◌==◌, ℕ, zero, suc, Bool, true, List, [], ◌∷◌, ◌++◌, Some, None, Ok, Err, Contains, MatchOption, codes, refl}
 use Rattle.std.specs.List.{AllByRecursion}
 use Rattle.std.proofs.Common.{ap, sym, ◌∙◌, subst, not-suc-le-zero, le_of_suc-le-suc}
 use Rattle.std.proofs.lemmas.Bool.{false≢true}
@@ -12,6 +12,7 @@ use Rattle.cluster_routing.specs.Split.{split_of, splitting_of}
 use Rattle.cluster_routing.specs.Table.{rule_of, table}
 use Rattle.cluster_routing.specs.Lists.{concat, Pairwise}
 use Rattle.cluster_routing.specs.Examples.{first_node as n1, second_node as n2}
+use Rattle.cluster_calls.specs.Links.Log.{Exchange}
 use Rattle.cluster_calls.specs.Calls.Answer.{Value}
 use Rattle.cluster_calls.specs.OneServer.Operations.{RunCommand, Response, Reply}
 use Rattle.cluster_calls.specs.OneServer.Keyspace.{Keyspace, Deed, Whole, Step, History}
@@ -100,9 +101,10 @@ swapped = with_replies (taken (text (codes "2") ∷ []) (text (codes "1") ∷ []
     (answered get_a (text (codes "2")) (plain n2 get_a ∷ [])
     ∷ answered get_b (text (codes "1")) (plain n1 get_b ∷ []) ∷ [])
 
-pub response_of : (args : List (List ℕ)) (tree : Tree) (responses : List Response)
-    → IsAnswerBy (query args) (Ok (Value tree)) responses → responses ≡ Reply tree ∷ []
-response_of args tree responses h =
+pub response_of : (done : ℕ → Bool) (args : List (List ℕ)) (xs : List Exchange) (tree : Tree)
+    (responses : List Response)
+    → IsAnswerBy done (query args) xs (Ok (Value tree)) responses → responses ≡ Reply tree ∷ []
+response_of done args xs tree responses h =
     let e : Some (Value h.0) ≡ Some (Value tree) = h.2 in
     let same : h.0 ≡ tree = cc in
     h.1 ∙ ap (λ t. Reply t ∷ []) same
@@ -132,12 +134,12 @@ swapped_answers_are_no_servers keys' h = by h.responses h.answers h.served
         (Reply (text (codes "2"))) get_a_is_whole none a.0.0 a.0.1
 
     by : (rs : List (List Response))
-        → Pairwise (λ (t : RepliedCall) here. IsAnswerBy t.call t.answer here) swapped rs
+        → Pairwise (λ (t : RepliedCall) here. IsAnswerBy none_done t.call t.log t.answer here) swapped rs
         → OneServer meaning a_and_b (RunCommand get_a ∷ RunCommand get_b ∷ []) (concat rs) keys' → ⊥
     by [] a s = absurd a
     by (r ∷ rs) a s = at_first s.0 (concat rs)
         (subst (λ q. DoAll meaning (RunCommand get_a ∷ RunCommand get_b ∷ []) s.0 (q ++ concat rs))
-        (response_of get_a (text (codes "2")) r a.0) s.1)
+        (response_of none_done get_a [] (text (codes "2")) r a.0) s.1)
 
 -- ---- a node that answered and did nothing
 
