@@ -14,7 +14,7 @@ HOW = {
     "node": "node ADDR PIECE BYTES", "fault": "fault ADDR read N, or fault ADDR write N",
     "readonly": "readonly NAME", "budget": "budget N", "levels": "levels N",
     "refresh": "refresh ADDR", "query": "query NUMBER BYTES..", "order": "order I,J,.. BYTES..", "fan": "fan BYTES..",
-    "at": "at ADDR BYTES..", "pipe": "pipe", "multi": "multi",
+    "at": "at ADDR BYTES..", "pipe": "pipe", "each": "each", "multi": "multi",
     "cmd": "cmd BYTES..", "skip": "skip BYTES..", "run": "run", "xrange": "xrange KEY START END",
     "xread": "xread KEY,.. ID,..",
 }
@@ -98,12 +98,12 @@ class Reader:
         self.has_call |= word not in SETTINGS
 
     def stands_here(self, word):
-        if self.began == "pipe" and word not in ("cmd", "skip", "run"):
-            raise Bad("between `pipe` and `run` stand `cmd` and `skip` lines alone")
+        if self.began in ("pipe", "each") and word not in ("cmd", "skip", "run"):
+            raise Bad(f"between `{self.began}` and `run` stand `cmd` and `skip` lines alone")
         if self.began == "multi" and word not in ("cmd", "run"):
             raise Bad("between `multi` and `run` stand `cmd` lines alone")
         if not self.began and word in ("cmd", "skip", "run"):
-            behind = "`pipe`" if word == "skip" else "`pipe` or `multi`"
+            behind = "`pipe` or `each`" if word == "skip" else "`pipe`, `each` or `multi`"
             raise Bad(f"a `{word}` line stands behind {behind} alone, up to the next `run`")
 
     def fitting(self, word, args):
@@ -170,6 +170,9 @@ class Reader:
 
     def pipe(self, place):
         self.begin(place, "pipe")
+
+    def each(self, place):
+        self.begin(place, "each")
 
     def multi(self, place):
         self.begin(place, "multi")

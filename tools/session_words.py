@@ -16,7 +16,7 @@ ESCAPES = {"\n": "n", "\r": "r", "\t": "t", "\a": "a", "\b": "b", '"': '"', "\\"
 NAMED = {"n": "\n", "r": "\r", "t": "\t", "a": "\a", "b": "\b"}
 # How many words of a line stand as they are, behind its first; then words that are bytes, or lists of them.
 WORDS = {"query": 1, "order": 1, "fan": 0, "at": 1, "cmd": 0, "skip": 0, "xrange": 0}
-AS_THEY_ARE = ("fault", "readonly", "budget", "levels", "refresh", "pipe", "multi", "run")
+AS_THEY_ARE = ("fault", "readonly", "budget", "levels", "refresh", "pipe", "each", "multi", "run")
 
 
 class Unreadable(Exception):
@@ -335,13 +335,17 @@ def printed_line(line, place):
     words = iter(line.split(" "))
     try:
         word = next(words)
-        if word == "ok" and line != "ok":
+        if line.startswith("ok each "):
+            found = [word, next(words), next(words)]
+        elif line.startswith("each ok "):
+            found = [word, next(words), *answer(words)]
+        elif word == "ok" and line != "ok":
             found = [word, *answer(words)]
         elif word == "asked":
             found = [word, next(words), next(words), *(data(it) for it in words)]
         elif word == "sent":
             found = [word, next(words), data(next(words))]
-        elif word in ("", "ok", "err", "fault"):
+        elif word in ("", "ok", "err", "fault") or line.startswith("each err "):
             return line
         else:
             raise Unreadable(place, f"`play` prints no line that begins with `{word}`")

@@ -166,6 +166,79 @@ class SendsLaterParts(Client):
             raise
 
 
+class TellsRepliesOfLost(Client):
+    """Of a node that failed it tells the replies that had come, and nil for the others."""
+
+    def take(self, node, count):
+        link = self.links[node]
+        taken = link.taken
+        came = super().take(node, count)
+        if isinstance(came, Refused):
+            had_come = [tree for tree, _ in link.values[taken:link.taken]]
+            return [*had_come, *[NIL] * (count - len(had_come))]
+        return came
+
+
+class LogsSentAlone(Client):
+    """The requests to a node whose write failed are not in the log."""
+
+    def send(self, node, requests):
+        log = self.log[:]
+        refused = super().send(node, requests)
+        if refused:
+            self.log = log
+        return refused
+
+
+class LogsAnsweredAlone(Client):
+    """The requests to a node that did not answer are not in the log."""
+
+    def take(self, node, count):
+        came = super().take(node, count)
+        if isinstance(came, Refused):
+            self.log = [request for request in self.log if request.node != node]
+        return came
+
+
+class StopsBehindLost(Client):
+    """Behind a node that failed the replies of the later ones are left."""
+
+    def each(self, commands):
+        self.lost = None
+        return super().each(commands)
+
+    def take(self, node, count):
+        came = self.lost or super().take(node, count)
+        self.lost = came if isinstance(came, Refused) else None
+        return came
+
+
+class RefusesAll(Client):
+    """Where a link fails, the whole pipeline is refused."""
+
+    def take(self, node, count):
+        came = super().take(node, count)
+        if isinstance(came, Refused):
+            raise came
+        return came
+
+
+class TellsFirstRefusal(Client):
+    """A command in parts is told by the first that has no value, whatever became of the others."""
+
+    def joined(self, args, parts, outcomes):
+        refused = next((it for it in outcomes if isinstance(it, Refused)), None)
+        return refused or super().joined(args, parts, outcomes)
+
+
+class ForgetsLostParts(Client):
+    """A command in parts is made of those that were answered."""
+
+    def joined(self, args, parts, outcomes):
+        there = [it for it in zip(parts, outcomes) if not isinstance(it[1], Refused)]
+        return super().joined(args, *map(list, zip(*there))) if there else outcomes[0]
+
+
 def by(part):
     """Runs with this wrong link or client."""
     name = "make_link" if issubclass(part, Link) else "make_client"
@@ -174,10 +247,12 @@ def by(part):
 
 FAULTS = [by(it) for it in (
     LeavesLinkOpen, WritesAgain, ReadsOnceMore, ForgetsReplies, LogsBehindSend, ClearsMap, ClosesAll, AnswersNil,
-    ChecksLinksLate, AsksAgain, SendsLaterParts,
+    ChecksLinksLate, AsksAgain, SendsLaterParts, TellsRepliesOfLost, LogsSentAlone, LogsAnsweredAlone,
+    StopsBehindLost, RefusesAll, TellsFirstRefusal, ForgetsLostParts,
 )]
 MEMORY = [by(it) for it in (
     LeavesLinkOpen, ForgetsReplies, LogsBehindSend, ClearsMap, ClosesAll, AsksAgain, SendsLaterParts,
+    TellsRepliesOfLost, LogsAnsweredAlone, StopsBehindLost, RefusesAll, ForgetsLostParts,
 )]
 # Each with limits of levels by which it has to be told from a right run.
 LEVELS = [(by(it), limits) for it, limits in (

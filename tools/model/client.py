@@ -34,6 +34,20 @@ def without_error(tree):
     return tree
 
 
+def reply_outcome(tree):
+    """A reply, or the refusal by the error that it is; one deeper inside is a part of the value."""
+    return by_server(tree) if tree[0] == "error" else tree
+
+
+def fate(outcome):
+    """What became of a command: it was answered, sent on by a redirect, or lost with its link."""
+    if not isinstance(outcome, Refused):
+        return "answered"
+    if str(outcome) in ("Server(Moved)", "Server(Ask)"):
+        return "redirected"
+    return "lost" if str(outcome) in ("Io", "Parse", "Memory") else "answered"
+
+
 def words(text):
     for space in ASCII_SPACE:
         text = text.replace(space, " ")
@@ -157,6 +171,63 @@ class Client:
         for reply in replies:
             without_error(reply)
         return ("array", [reply for reply, (_, ignored) in zip(replies, commands) if not ignored])
+
+    def position_parts(self, args):
+        """What goes out for a command of a pipeline that tells of each: its parts, or the command itself."""
+        try:
+            parts = routing.parts(args)
+        except routing.NoRoute:
+            raise CLIENT from None
+        return parts if len(parts) > 1 else [routing.Part(args, self.whole_slot(args))]
+
+    def send(self, node, requests):
+        """Writes the requests to the log and sends them; it answers why the link refused them, if it did."""
+        self.log += requests
+        try:
+            self.links[node].send(b"".join(request.data() for request in requests))
+        except Refused as refused:
+            return refused
+        return None
+
+    def take(self, node, count):
+        """The replies of a node that was sent its requests, or why the link has none."""
+        self.memory.begin_step()
+        try:
+            return self.links[node].take(0, count, self.memory)
+        except Refused as refused:
+            return refused
+
+    def joined(self, args, parts, outcomes):
+        """The outcome of a command in parts, by what became of each of them."""
+        if len(set(map(fate, outcomes))) > 1:
+            return next((it for it in outcomes if fate(it) == "lost"), combine.UNEXPECTED)
+        refused = next((it for it in outcomes if isinstance(it, Refused)), None)
+        if refused:
+            return refused
+        self.memory.begin_step()
+        try:
+            self.memory.at("made")
+            return combine.of_parts(args, parts, outcomes)
+        except Refused as refused:
+            return refused
+
+    def each(self, commands):
+        """What became of each command: its reply, or why there is none."""
+        positions = [self.position_parts(args) for args, _ in commands]
+        parts = [part for those in positions for part in those]
+        nodes = [self.linked(primary(self.entries, part.slot)) for part in parts]
+        groups = {node: [] for node in nodes}
+        for node, part in zip(nodes, parts):
+            groups[node].append(Request(node, part.args))
+        refused = {node: self.send(node, requests) for node, requests in groups.items()}
+        came = {node: refused[node] or self.take(node, len(requests)) for node, requests in groups.items()}
+        queues = {node: iter(it) for node, it in came.items() if not isinstance(it, Refused)}
+        told = iter([reply_outcome(next(queues[node])) if node in queues else came[node] for node in nodes])
+        outcomes = []
+        for (args, _), those in zip(commands, positions):
+            here = [next(told) for _ in those]
+            outcomes.append(self.joined(args, those, here) if len(those) > 1 else here[0])
+        return outcomes
 
     def transaction(self, commands):
         """What EXEC replies behind MULTI and the commands, sent again where nothing was done."""

@@ -52,14 +52,22 @@ class Link:
             pass
         return tree
 
-    def call(self, data, offset, count, memory):
-        """Writes the bytes, drops `offset` replies, and takes `count`. Refused, it is closed."""
+    def send(self, data):
+        """Writes the bytes, whose replies are owed then. It is not open until they are taken."""
         self.is_open = False
         self.write(data)
+
+    def take(self, offset, count, memory):
+        """Drops `offset` replies that are owed, and takes `count`. Refused, it stays closed."""
         memory.at("sent")
         replies = [self.next_reply() for _ in range(offset + count)][offset:]
         self.is_open = True
         return replies
+
+    def call(self, data, offset, count, memory):
+        """Writes the bytes, drops `offset` replies, and takes `count`. Refused, it is closed."""
+        self.send(data)
+        return self.take(offset, count, memory)
 
 
 class Request:

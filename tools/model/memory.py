@@ -10,10 +10,17 @@ takes their replies. It may lack memory
     "taken"   when the replies were taken: the link is open, and the next reply is that to the next request
 
 The call is refused then and does nothing more. The slot map stays, and so do all other links.
+
+A pipeline that tells of each command is refused so when it begins alone. Then it may lack memory
+
+    "sent"    when the bytes went out and the replies of a node are not taken: that link is closed
+    "made"    when one value is made of the replies to a command's parts
+
+and tells it of the commands that this concerns. All else goes on.
 """
 from .combine import Refused
 
-PLACES = ("before", "logged", "sent", "taken")
+PLACES = ("before", "logged", "sent", "taken", "made")
 
 
 class Memory:
@@ -28,6 +35,10 @@ class Memory:
         self.call += 1
         self.exchange = -1
         self.at("call")
+
+    def begin_step(self):
+        """What follows is counted as the next exchange, but is none that refuses the call."""
+        self.exchange += 1
 
     def begin_exchange(self):
         self.exchange += 1

@@ -4,7 +4,7 @@ from .combine import Refused
 from .links import Link
 from .memory import PLACES, Memory
 from .script import BadLine, script
-from .text import shown_entries, shown_request, shown_sent, shown_streams, shown_tree
+from .text import shown_entries, shown_outcomes, shown_request, shown_sent, shown_streams, shown_tree
 
 SHOWN = {"refresh": lambda _: [], "xrange": shown_entries, "xread": shown_streams}
 
@@ -34,16 +34,18 @@ class Run:
     def call(self, name, *args):
         self.client.log = []
         answered = self.answer(name, args)
-        return [answered, *map(shown_request, self.client.log)]
+        return [*answered, *map(shown_request, self.client.log)]
 
     def answer(self, name, args):
-        """The line of a call's answer."""
+        """The lines of a call's answer."""
         try:
             self.memory.begin_call()
             found = getattr(self.client, name)(*args)
         except Refused as refused:
-            return f"err {refused}"
-        return " ".join(["ok", *SHOWN.get(name, shown_tree)(found)])
+            return [f"err {refused}"]
+        if name == "each":
+            return shown_outcomes(found)
+        return [" ".join(["ok", *SHOWN.get(name, shown_tree)(found)])]
 
 
 def play(session):

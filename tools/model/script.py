@@ -6,6 +6,8 @@ from .slots import address
 
 LARGEST_PIECE = (1 << 32) - 1
 MOST_LEVELS = 512
+# What begins a pipeline, and the call that this becomes.
+WAYS = {"pipe": "pipeline", "each": "each"}
 
 
 class BadLine(Exception):
@@ -53,6 +55,8 @@ class Script:
     def __init__(self):
         self.nodes, self.failing = {}, {}
         self.budget = self.levels = self.pipeline = self.transaction = None
+        # The name of the call that the pipeline becomes.
+        self.way = "pipeline"
         self.calls = []
 
     def node(self, at, piece, bytes_word):
@@ -94,8 +98,8 @@ class Script:
         self.add("xread", keys, ids)
 
     def outside(self, word, words, later):
-        if word == "pipe" and not words and b"run" in later:
-            self.pipeline = []
+        if word in WAYS and not words and b"run" in later:
+            self.pipeline, self.way = [], WAYS[word]
         elif word == "multi" and not words and b"run" in later:
             self.transaction = []
         elif word == "refresh":
@@ -117,7 +121,7 @@ class Script:
 
     def inside(self, word, words):
         if word == "run" and not words:
-            self.add("pipeline", self.pipeline)
+            self.add(self.way, self.pipeline)
             self.pipeline = None
         elif word in ("cmd", "skip"):
             self.pipeline.append((some(words, data), word == "skip"))

@@ -1,4 +1,5 @@
 """What is printed."""
+from .combine import Refused
 from .slots import shown
 
 
@@ -44,6 +45,15 @@ def shown_streams(streams):
     for key, entries in streams:
         words += ["key", hexed(key), *shown_entries(entries)]
     return words
+
+
+def shown_outcome(outcome):
+    return f"err {outcome}" if isinstance(outcome, Refused) else " ".join(["ok", *shown_tree(outcome)])
+
+
+def shown_outcomes(outcomes):
+    """The lines of an answer that tells of each command."""
+    return [f"ok each {len(outcomes)}", *(f"each {shown_outcome(it)}" for it in outcomes)]
 
 
 def shown_request(request):

@@ -1,186 +1,223 @@
--- Groups of requests, one link call after another, each with the queue of its place.
-use Rattle.std.specs.Prelude.{nat_eq, ◌||◌, unwrap_or}
-use Rattle.std.specs.List.{AllByRecursion}
-use Rattle.std.proofs.Common.{◌≡◌, ◌≢◌, ℕ, ◌+◌, ◌==◌, Bool, true, false, cond, List, [], ◌∷◌, ◌++◌, map, length, Some, None, Ok, Err, refl, sym, ap, ◌∙◌, subst, inl, inr, append-nil, append_assoc, eqb-true, eq-eqb, arith}
-use Rattle.std.proofs.lemmas.Bool.{false≢true}
+-- Groups of requests that all went out: the replies of one after another are taken, whatever became of the others.
+use Rattle.std.specs.Prelude.{nat_eq, ◌||◌, ◌&&◌}
+use Rattle.std.specs.List.{list_any, AllByRecursion}
+use Rattle.std.proofs.Common.{◌≡◌, ◌≢◌, ◌<◌, ℕ, ◌+◌, Bool, true, false, List, [], ◌∷◌, ◌++◌, map, length, Option, Some, None, Result, Ok, Err, refl, sym, ap, ◌∙◌, subst, append-nil, append_assoc, arith}
+use Rattle.std.proofs.lemmas.List.{length-map, map-append}
 use Rattle.resp_core.specs.Trees.{Tree}
-use Rattle.resp_core.specs.Errors.{Refusal, by_cause, by_server, by_servers, at_position, cause_of}
+use Rattle.resp_core.specs.Errors.{Refusal, by_cause}
 use Rattle.resp_core.specs.declared.errors.redis_error.Cause.{Cause}
-use Rattle.resp_core.specs.declared.errors.redis_error.Cause.TheVariants.{Io, NotAsked}
-use Rattle.cluster_routing.specs.Lists.{among, IsDistinct}
-use Rattle.cluster_calls.specs.Links.EachMade.{told_at, told_of}
-use Rattle.cluster_calls.specs.Links.Events.{Event, Ending, answers, fails, lacks_memory, exchanges_of, log_of}
-use Rattle.cluster_calls.specs.Links.World.{World}
-use Rattle.cluster_steps.specs.Each.{cause_at}
-use Rattle.cluster_steps.specs.GroupRuns.{GroupByGroup, GroupExchanged, IsGroupPlaced, request_lists}
-use Rattle.cluster_steps.specs.Groups.{Group}
-use Rattle.cluster_steps.specs.declared.each.Lost.{Lost}
-use Rattle.cluster_client.specs.Outcomes.{AreQueued, EachExchanged, IsQueued}
+use Rattle.cluster_routing.specs.Address.{Address, same_address}
+use Rattle.cluster_routing.specs.Lists.{concat, IsDistinct}
+use Rattle.cluster_calls.specs.Links.Events.{Event, Ending, answers, fails, Runs, log_of, exchanges_at, answered_moved, is_answer_ending}
+use Rattle.cluster_calls.specs.Links.Log.{Exchange, is_moved}
 use Rattle.cluster_calls.specs.Links.Request.{Request}
+use Rattle.cluster_calls.specs.Links.World.{World, Node, addresses_of, is_linked, is_usable, link_at, open_links}
+use Rattle.cluster_steps.specs.AtOnce.{AllSent, AreSent, IsSent}
+use Rattle.cluster_steps.specs.GroupRuns.{IsGroupPlaced, group_node, is_moved_tree, request_lists}
+use Rattle.cluster_steps.specs.Groups.{Group, request_count}
+use Rattle.cluster_steps.specs.declared.at_once.Sent.{Sent}
+use Rattle.cluster_client.specs.Outcomes.{AreKept, EachExchanged, IsKept, ReceivedFrom, moved_in}
+use Rattle.cluster_calls.proofs.LinkLaws.ChainLoop.{or_assoc, or_none}
+use Rattle.cluster_calls.proofs.LinkLaws.EventLists.{log-append, moved-append}
 use Rattle.cluster_calls.proofs.LinkLaws.LinkEnds.{ending_of, ending_refusal}
-use Rattle.cluster_calls.proofs.LinkLaws.LinkRuns.{or_parts}
-use Rattle.cluster_calls.proofs.LinkLaws.PipeErrors.{lost_unanswered}
-use Rattle.cluster_calls.proofs.LinkLaws.Told.{LosesBy, told-append, told_at_requests, told_had, told_here}
-use Rattle.cluster_steps.proofs.PipeOrder.{eq_swap}
-use Rattle.cluster_steps.proofs.GroupCalls.{GroupMade, exchanged_group, group_ends, group_event, group_replies, paired_requests}
-use Rattle.cluster_client.proofs.GroupLoop.{GroupLoop, answered_more, failed_made, groups_done, groups_start, still_grouped}
+use Rattle.cluster_calls.proofs.LinkLaws.LinkPlaces.{linked, set_other}
+use Rattle.cluster_calls.proofs.LinkLaws.LinkRuns.{Runs-snoc, addresses, or_parts}
+use Rattle.cluster_calls.proofs.LinkLaws.PartLoop.{place_same}
+use Rattle.cluster_steps.proofs.AtOnce.{are_elsewhere, as_result, received_first, sent_more}
+use Rattle.cluster_steps.proofs.GroupCalls.{GroupMade, failed_no_answer, group_event, group_made, group_moved, group_replies}
+use Rattle.cluster_steps.proofs.PipeGroups.{same_place}
+use Rattle.cluster_client.proofs.GroupLoop.{not_asked}
 
-abbrev pub places_of : List Group → List ℕ
-places_of gs = map (λ (g : Group). g.which) gs
+-- what the loop over what went out keeps: those before `rest` are as if they alone had been called, one after another
+pub record EachLoop (start now : World) (gs : List Group) (ss : List Sent) (came : List (Result (List Tree) Cause)) : Type 0 where
+  pub served : List Group
+  pub rest : List Group
+  pub all : gs ≡ served ++ rest
+  pub nodes : List Node
+  pub events : List Event
+  pub runs : Runs start.nodes nodes events
+  pub sent : log_of events ≡ concat (request_lists served)
+  pub kept : AreKept served events came
+  pub pending : AreSent nodes now.nodes rest ss
+  pub placed : AllByRecursion (IsGroupPlaced nodes) rest
+  pub apart : IsDistinct nat_eq (map (λ (g : Group). g.which) rest)
+  pub log : now.log ≡ start.log ++ concat (request_lists gs)
+  pub flag : now.needs_refresh ≡ (start.needs_refresh || answered_moved events)
+  pub entries : now.entries ≡ start.entries
+  pub settings : now.settings ≡ start.settings
+  pub picked : now.picked ≡ start.picked
 
--- these queues and causes are those of now, save at the places of `rest`
-abbrev AreAsNow : List Group → (ℕ → List Tree) → (ℕ → List Tree) → (ℕ → Cause) → Type 0
-AreAsNow rest now queues causes = (k : ℕ) → among nat_eq k (places_of rest) ≡ false → (queues k ≡ now k) × (causes k ≡ NotAsked)
-
--- what the loop over groups keeps: whatever is queued for those of `rest` completes what is queued for all
-pub record EachLoop (old now : World) (gs rest : List Group) (queues : ℕ → List Tree) : Type 0 where
-  pub came : List (ℕ × List Tree)
-  pub loop : GroupLoop old now gs rest came
-  pub serves : (later : List Event) (others : ℕ → List Tree) (causes : ℕ → Cause) → AreAsNow rest queues others causes → AreQueued rest later others causes → AreQueued gs (loop.events ++ later) others causes
-  pub empty : AllByRecursion (λ (g : Group). queues g.which ≡ []) rest
-  pub distinct : IsDistinct nat_eq (places_of rest)
-
-all_empty : (queues : ℕ → List Tree) (gs : List Group) → ((k : ℕ) → queues k ≡ []) → AllByRecursion (λ (g : Group). queues g.which ≡ []) gs
-all_empty queues [] h = tt
-all_empty queues (g ∷ gs) h = (h g.which, all_empty queues gs h)
-
-pub each_start : (old : World) (gs : List Group) (queues : ℕ → List Tree) → ((k : ℕ) → queues k ≡ []) → IsDistinct nat_eq (places_of gs) → EachLoop old old gs gs queues
-each_start old gs queues none d = record { came = []; loop = groups_start old gs; serves = λ later others causes same h. h; empty = all_empty queues gs none; distinct = d }
-
--- all were served
-pub each_done : (old now : World) (gs : List Group) (queues : ℕ → List Tree) → EachLoop old now gs [] queues → EachExchanged old now gs queues None
-each_done old now gs queues l = record {
-  came = l.came;
-  made = groups_done old now gs l.came l.loop;
-  whole = λ place. subst (λ xs. GroupByGroup (request_lists gs) xs) (append-nil (exchanges_of place l.loop.events) ∙ sym (told_had l.loop.events place l.loop.memory)) (l.loop.leads place [] refl);
-  queued = subst (λ xs. AreQueued gs xs queues (λ k. NotAsked)) (append-nil l.loop.events) (l.serves [] queues (λ k. NotAsked) (λ k n. (refl, refl)) tt);
+pub each_start : (start now : World) (gs : List Group) (ss : List Sent) → AllSent start now gs ss → EachLoop start now gs ss []
+each_start start now gs ss a = record {
+  served = [];
+  rest = gs;
+  all = refl;
+  nodes = start.nodes;
+  events = [];
+  runs = refl;
+  sent = refl;
+  kept = tt;
+  pending = a.sent;
+  placed = a.placed;
+  apart = a.apart;
+  log = a.log;
+  flag = a.flag ∙ sym (or_none start.needs_refresh);
+  entries = a.entries;
+  settings = a.settings;
+  picked = a.picked;
 }
 
--- ---- places that differ
-
-other_place : (k : ℕ) (ks : List ℕ) (n : ℕ) → among nat_eq k ks ≡ false → among nat_eq n ks ≡ true → (n == k) ≡ false
-other_place k ks n none some = by (n == k) refl
+-- all were served
+pub each_done : (start now : World) (gs : List Group) (came : List (Result (List Tree) Cause)) → EachLoop start now gs [] came → EachExchanged start now gs came
+each_done start now gs came l = by l.rest l.all l.pending
   where
-    by : (b : Bool) → (n == k) ≡ b → b ≡ false
-    by true e = absurd (false≢true (sym none ∙ subst (λ m. among nat_eq m ks ≡ true) (eqb-true n k e) some))
-    by false e = refl
+    by : (rest : List Group) → gs ≡ l.served ++ rest → AreSent l.nodes now.nodes rest [] → EachExchanged start now gs came
+    by [] all pending =
+        let same : gs ≡ l.served = all ∙ append-nil l.served in
+        record {
+          events = l.events;
+          runs = subst (λ ns. Runs start.nodes ns l.events) (sym pending) l.runs;
+          logged = l.log ∙ ap (λ hs. start.log ++ concat (request_lists hs)) same ∙ ap (λ qs. start.log ++ qs) (sym l.sent);
+          kept = subst (λ hs. AreKept hs l.events came) (sym same) l.kept;
+          flag = l.flag;
+          entries = l.entries;
+          settings = l.settings;
+          picked = l.picked;
+        }
+    by (g ∷ rest) all pending = absurd pending
 
-behind : {c : Bool} (b : Bool) → c ≡ true → (b || c) ≡ true
-behind true e = refl
-behind false e = e
+-- ---- a group that stands elsewhere stays placed
 
--- what holds at a place holds behind a change at another
-module _ (k : ℕ) (P Q : ℕ → Type 0) (same : (n : ℕ) → (n == k) ≡ false → P n → Q n) where
-  all_other : (ks : List ℕ) (gs : List Group) → ((n : ℕ) → among nat_eq n (places_of gs) ≡ true → among nat_eq n ks ≡ true) → among nat_eq k ks ≡ false → AllByRecursion (λ (g : Group). P g.which) gs → AllByRecursion (λ (g : Group). Q g.which) gs
-  all_other ks [] h none p = tt
-  all_other ks (g ∷ gs) h none p = (
-    same g.which (other_place k ks g.which none (h g.which (ap (λ b. b || among nat_eq g.which (places_of gs)) (eq-eqb g.which g.which refl)))) p.0,
-    all_other ks gs (λ n e. h n (behind (nat_eq n g.which) e)) none p.1,
-  )
+still_placed : (old mid : List Node) (g h : Group) (result : Result (List Tree) Refusal) → IsGroupPlaced old g → GroupMade old mid g result → nat_eq g.which h.which ≡ false → IsGroupPlaced old h → IsGroupPlaced mid h
+still_placed old mid g h result p m apart q =
+    let node = group_node h.requests in
+    let x = group_event g m.taken result in
+    let same : addresses_of mid ≡ addresses_of old = addresses old mid (x ∷ []) (mid, m.called, refl) in
+    let other : same_address x.node node ≡ false = sym (same_place old (group_node g.requests) node g.which h.which p.place.place q.place.place) ∙ apart in
+    let stays : link_at mid node ≡ link_at old node = ap (λ ns. link_at ns node) m.called.now ∙ set_other old x.node node m.called.after other in
+    record {
+      place = record {
+        place = place_same mid old node same ∙ q.place.place;
+        linked = linked mid node ∙ ap is_usable stays ∙ sym (linked old node) ∙ q.place.linked;
+      };
+      within = subst (λ n. h.which < n) (sym (length-map old (λ (n : Node). n.address)) ∙ ap length (sym same) ∙ length-map mid (λ (n : Node). n.address)) q.within;
+      some = q.some;
+      to_node = q.to_node;
+      direct = q.direct;
+    }
 
--- ---- a refused group
+all_still : (old mid : List Node) (g : Group) (result : Result (List Tree) Refusal) → IsGroupPlaced old g → GroupMade old mid g result → (rest : List Group) → are_elsewhere g.which rest ≡ false → AllByRecursion (IsGroupPlaced old) rest
+    → AllByRecursion (IsGroupPlaced mid) rest
+all_still old mid g result p m [] apart q = tt
+all_still old mid g result p m (h ∷ rest) apart q =
+    let parts = or_parts (nat_eq g.which h.which) (are_elsewhere g.which rest) apart in
+    (still_placed old mid g h result p m parts.0 q.0, all_still old mid g result p m rest parts.1 q.1)
 
-queued_by : (x : Event) (e : Ending) (refusal : Refusal) (queue : List Tree) (cause : Cause) → ending_refusal e ≡ Some refusal → by_cause cause ≡ refusal → queue ≡ [] → IsQueued x e queue cause
-queued_by x (answers replies) refusal queue cause is told none = cc
-queued_by x (fails fault) refusal queue cause is told none = (none, cc)
-queued_by x lacks_memory refusal queue cause is told none = (none, cc)
+-- ---- one more was served
 
-lost_event : (e : Ending) (refusal : Refusal) (l : Bool) → ending_refusal e ≡ Some refusal → LosesBy e l → l ≡ true
-lost_event (answers replies) refusal l is h = cc
-lost_event (fails fault) refusal l is h = h
-lost_event lacks_memory refusal l is h = h
+kept_by : (x : Event) (e : Ending) (cause : Cause) → ending_refusal e ≡ Some (by_cause cause) → IsKept x e (Err cause)
+kept_by x (answers replies) cause is = cc
+kept_by x (fails fault) cause is = cc
 
-unserved : (others : ℕ → List Tree) (causes : ℕ → Cause) (hs : List Group) → AllByRecursion (λ (h : Group). (others h.which ≡ []) × (causes h.which ≡ NotAsked)) hs → AreQueued hs [] others causes
-unserved others causes [] h = tt
-unserved others causes (k ∷ ks) h = (h.0.0, h.0.1, unserved others causes ks h.1)
+is_kept : (old mid : List Node) (g : Group) (came : Result (List Tree) Cause) → IsGroupPlaced old g → (m : GroupMade old mid g (as_result came)) → let x = group_event g m.taken (as_result came) in IsKept x x.ending came
+is_kept old mid g (Ok trees) p m = group_replies old mid g trees p m
+is_kept old mid g (Err cause) p m = kept_by (group_event g m.taken (Err (by_cause cause))) (ending_of (Err (by_cause cause))) cause m.told
 
--- a link call's refusal is its cause
-cause_known : (refusal : Refusal) → ending_refusal (ending_of (Err refusal)) ≡ Some refusal → by_cause (unwrap_or (cause_of refusal) Io) ≡ refusal
-cause_known (by_cause cause) is = refl
-cause_known (by_server e) is = cc
-cause_known (at_position n) is = cc
-cause_known (by_servers first more) is = cc
+kept_more : (gs : List Group) (xs : List Event) (came : List (Result (List Tree) Cause)) (g : Group) (x : Event) (c : Result (List Tree) Cause) → AreKept gs xs came → x.node ≡ group_node g.requests → x.requests ≡ g.requests → IsKept x x.ending c
+    → AreKept (gs ++ g ∷ []) (xs ++ x ∷ []) (came ++ c ∷ [])
+kept_more [] [] [] g x c kept node same is = (node, same, is, tt)
+kept_more [] [] (d ∷ came) g x c kept node same is = absurd kept
+kept_more [] (y ∷ xs) came g x c kept node same is = absurd kept
+kept_more (h ∷ gs) [] came g x c kept node same is = absurd kept
+kept_more (h ∷ gs) (y ∷ xs) [] g x c kept node same is = absurd kept
+kept_more (h ∷ gs) (y ∷ xs) (d ∷ came) g x c kept node same is = (kept.0, kept.1, kept.2, kept_more gs xs came g x c kept.3 node same is)
 
-some_more : (qs : List Request) (n m : ℕ) → qs ≢ [] → m ≡ n + length qs → m ≡ n → ⊥
-some_more [] n m some e f = some refl
-some_more (q ∷ qs) n m some e f = omega (arith, e, f)
+one_moved : (old mid : List Node) (g : Group) (came : Result (List Tree) Cause) → IsGroupPlaced old g → (m : GroupMade old mid g (as_result came)) → answered_moved (group_event g m.taken (as_result came) ∷ []) ≡ moved_in came
+one_moved old mid g (Ok trees) p m = or_none (list_any is_moved (exchanges_at 0 (group_event g m.taken (Ok trees)))) ∙ group_moved old mid g trees p m
+one_moved old mid g (Err cause) p m = not_asked (is_answer_ending (group_event g m.taken (Err (by_cause cause))).ending) _ (failed_no_answer old mid g (by_cause cause) p m)
 
--- ---- one more group
+lists_more : (gs : List Group) (g : Group) → concat (request_lists (gs ++ g ∷ [])) ≡ concat (request_lists gs) ++ g.requests
+lists_more [] g = append-nil g.requests
+lists_more (h ∷ gs) g = ap (λ qs. h.requests ++ qs) (lists_more gs g) ∙ sym (append_assoc h.requests (concat (request_lists gs)) g.requests)
 
-module _ (old now new : World) (gs : List Group) (g : Group) (rest : List Group) (queues : ℕ → List Tree) (l : EachLoop old now gs (g ∷ rest) queues) (p : IsGroupPlaced now.nodes g) where
-  -- it was answered
-  served_more : (trees : List Tree) (more : ℕ → List Tree) → ((k : ℕ) → more k ≡ cond (k == g.which) trees (queues k)) → GroupExchanged now new g.which g.requests (Ok trees) → new.log ≡ now.log ++ g.requests → GroupMade now.nodes new.nodes g (Ok trees)
-      → EachLoop old new gs rest more
-  served_more trees more put e log m =
-      let x = group_event g m.taken (Ok trees) in
-      let here : (more g.which ≡ trees) = put g.which ∙ ap (λ b. cond b trees (queues g.which)) (eq-eqb g.which g.which refl) in
-      record {
-        came = l.came ++ (g.which, trees) ∷ [];
-        loop = answered_more old now new gs g rest l.came l.loop p trees e log m;
-        serves = λ later others causes same h.
-            subst (λ xs. AreQueued gs xs others causes) (sym (append_assoc l.loop.events (x ∷ []) later))
-            (l.serves (x ∷ later) others causes (λ k n. let parts = or_parts (nat_eq k g.which) (among nat_eq k (places_of rest)) n in let s = same k parts.1 in (s.0 ∙ put k ∙ ap (λ b. cond b trees (queues k)) parts.0, s.1))
-            (refl, refl, (λ place. group_replies now.nodes new.nodes g trees p m place ∙ ap (map (λ tree. Some tree)) (sym ((same g.which l.distinct.0).0 ∙ here)), (same g.which l.distinct.0).1), h));
-        empty = all_other g.which (λ n. queues n ≡ []) (λ n. more n ≡ []) (λ n d q. put n ∙ ap (λ b. cond b trees (queues n)) d ∙ q) (places_of rest) rest (λ n i. i) l.distinct.0 l.empty.1;
-        distinct = l.distinct.1;
-      }
-
-  pub each_more : (trees : List Tree) (more : ℕ → List Tree) → ((k : ℕ) → more k ≡ cond (k == g.which) trees (queues k)) → GroupExchanged now new g.which g.requests (Ok trees) → EachLoop old new gs rest more
-  each_more trees more put e = elim (exchanged_group now.nodes new.nodes now.log new.log g (Ok trees) p e.exchange) as (λ _. EachLoop old new gs rest more) [
-    | inl same ↦ cc (same.2)
-    | inr made ↦ served_more trees more put e made.0 made.1
-  ]
-
-  -- ---- it was not
-
-  failed_with : (lost : Lost) → lost.which ≡ g.which → GroupExchanged now new g.which g.requests (Err (by_cause lost.cause)) → new.log ≡ now.log ++ g.requests → GroupMade now.nodes new.nodes g (Err (by_cause lost.cause))
-      → EachExchanged old new gs queues (Some lost)
-  failed_with lost which e log m =
-      let x = group_event g m.taken (Err (by_cause lost.cause)) in
-      let causes = cause_at (Some lost) in
-      let here : causes g.which ≡ lost.cause = ap (λ b. cond b lost.cause NotAsked) (eq-eqb lost.which g.which which) in
-      let other : (n : ℕ) → (n == g.which) ≡ false → causes n ≡ NotAsked =
-      λ n d. ap (λ k. cond (k == n) lost.cause NotAsked) which ∙ ap (λ b. cond b lost.cause NotAsked) (eq_swap g.which n ∙ d) in
-      let at = λ (place : ℕ). place + length (log_of l.loop.events) in
-      record {
-        came = l.came;
-        made = failed_made old now new gs g rest l.came l.loop p (by_cause lost.cause) e log m;
-        whole = λ place. subst (λ xs. GroupByGroup (request_lists gs) xs)
-            (ap (λ xs. xs ++ told_at (at place) x) (sym (told_had l.loop.events place l.loop.memory)) ∙ ap (λ ys. told_of place l.loop.events ++ ys) (sym (append-nil (told_at (at place) x))) ∙ sym (told-append l.loop.events (x ∷ []) place))
-            (l.loop.leads place (told_at (at place) x)
-            (group_ends g.requests (request_lists rest) (told_at (at place) x) (told_at_requests (at place) x ∙ paired_requests _ (at place) g.requests)
-            (lost_unanswered x.node (told_at (at place) x) (lost_event x.ending (by_cause lost.cause) _ m.told (told_here now.nodes new.nodes x (at place) m.called)))));
-        queued = l.serves (x ∷ []) queues causes (λ k n. let parts = or_parts (nat_eq k g.which) (among nat_eq k (places_of rest)) n in (refl, other k parts.0)) (
-          refl,
-          refl,
-          queued_by x x.ending (by_cause lost.cause) (queues g.which) (causes g.which) m.told (ap by_cause here) l.empty.0,
-          unserved queues causes rest (all_other g.which (λ n. queues n ≡ []) (λ n. (queues n ≡ []) × (causes n ≡ NotAsked)) (λ n d q. (q, other n d)) (places_of rest) rest (λ n i. i) l.distinct.0 l.empty.1),
-        );
-      }
-
-  pub each_failed : (refusal : Refusal) (lost : Lost) → lost.which ≡ g.which → lost.cause ≡ unwrap_or (cause_of refusal) Io → length new.log ≡ length now.log + length g.requests → GroupExchanged now new g.which g.requests (Err refusal)
-      → EachExchanged old new gs queues (Some lost)
-  each_failed refusal lost which cause count e = elim (exchanged_group now.nodes new.nodes now.log new.log g (Err refusal) p e.exchange) as (λ _. EachExchanged old new gs queues (Some lost)) [
-    | inl same ↦ absurd (some_more g.requests (length now.log) (length new.log) p.some count (ap length same.1))
-    | inr made ↦
-        let told : by_cause lost.cause ≡ refusal = ap by_cause cause ∙ cause_known refusal made.1.told in
-        failed_with lost which (subst (λ k. GroupExchanged now new g.which g.requests (Err k)) (sym told) e) made.0 (subst (λ k. GroupMade now.nodes new.nodes g (Err k)) (sym told) made.1)
-  ]
-
--- ---- places stay where they were
-
--- a group that was placed before is so behind those that were served
-pub still_placed : {old now : World} {gs rest : List Group} {queues : ℕ → List Tree} → EachLoop old now gs rest queues → (g : Group) → IsGroupPlaced old.nodes g → IsGroupPlaced now.nodes g
-still_placed l g q = still_grouped l.loop g q
-
--- a queue that was put at a place, as trees
-pub put_viewed : {V : Type 0} (view : V → Tree) (which : ℕ) (items : List V) (old new : ℕ → List V) → ((k : ℕ) → new k ≡ cond (k == which) items (old k)) → (k : ℕ) → map view (new k) ≡ cond (k == which) (map view items) (map view (old k))
-put_viewed view which items old new put k = ap (map view) (put k) ∙ by (k == which)
+pub each_more : (start now new : World) (gs : List Group) (s : Sent) (ss : List Sent) (came : List (Result (List Tree) Cause)) (c : Result (List Tree) Cause) → EachLoop start now gs (s ∷ ss) came → ReceivedFrom now new s c → EachLoop start new gs ss (came ++ c ∷ [])
+each_more start now new gs s ss came c l r = by l.rest l.all l.pending l.placed l.apart
   where
-    by : (b : Bool) → map view (cond b items (old k)) ≡ cond b (map view items) (map view (old k))
-    by true = refl
-    by false = refl
+    by : (rest : List Group) → gs ≡ l.served ++ rest → AreSent l.nodes now.nodes rest (s ∷ ss) → AllByRecursion (IsGroupPlaced l.nodes) rest → IsDistinct nat_eq (map (λ (g : Group). g.which) rest) → EachLoop start new gs ss (came ++ c ∷ [])
+    by [] all pending placed apart = absurd pending
+    by (g ∷ rest) all pending placed apart =
+        let first = received_first l.nodes now.nodes new.nodes g rest s ss c apart.0 pending r.received in
+        let m = group_made l.nodes first.0 g (as_result c) placed.0 first.1 in
+        let x = group_event g m.taken (as_result c) in
+        record {
+          served = l.served ++ g ∷ [];
+          rest = rest;
+          all = all ∙ sym (append_assoc l.served (g ∷ []) rest);
+          nodes = first.0;
+          events = l.events ++ x ∷ [];
+          runs = Runs-snoc start.nodes l.nodes first.0 l.events x l.runs m.called;
+          sent = log-append l.events (x ∷ []) ∙ ap (λ qs. log_of l.events ++ qs) (append-nil g.requests) ∙ ap (λ qs. qs ++ g.requests) l.sent ∙ sym (lists_more l.served g);
+          kept = kept_more l.served l.events came g x c l.kept refl refl (is_kept l.nodes first.0 g c placed.0 m);
+          pending = first.2;
+          placed = all_still l.nodes first.0 g (as_result c) placed.0 m rest apart.0 placed.1;
+          apart = apart.1;
+          log = r.log ∙ l.log;
+          flag = r.flag ∙ ap (λ b. b || moved_in c) l.flag ∙ sym (or_assoc start.needs_refresh (answered_moved l.events) (moved_in c))
+              ∙ ap (λ b. start.needs_refresh || (answered_moved l.events || b)) (sym (one_moved l.nodes first.0 g c placed.0 m)) ∙ ap (λ b. start.needs_refresh || b) (sym (moved-append l.events (x ∷ [])));
+          entries = r.entries ∙ l.entries;
+          settings = r.settings ∙ l.settings;
+          picked = r.picked ∙ l.picked;
+        }
+
+-- ---- all go out
+
+-- what the loop that sends keeps: those before `rest` went out
+pub record SendLoop (start now : World) (gs rest : List Group) (ss : List Sent) : Type 0 where
+  pub sent_groups : List Group
+  pub all : gs ≡ sent_groups ++ rest
+  pub sent : AreSent start.nodes now.nodes sent_groups ss
+  pub log : now.log ≡ start.log ++ concat (request_lists sent_groups)
+  pub flag : now.needs_refresh ≡ start.needs_refresh
+  pub entries : now.entries ≡ start.entries
+  pub settings : now.settings ≡ start.settings
+  pub picked : now.picked ≡ start.picked
+
+pub send_start : (start : World) (gs : List Group) → SendLoop start start gs gs []
+send_start start gs = record { sent_groups = []; all = refl; sent = refl; log = sym (append-nil start.log); flag = refl; entries = refl; settings = refl; picked = refl }
+
+pub send_more : (start now new : World) (gs : List Group) (g : Group) (rest : List Group) (ss : List Sent) (s : Sent) → SendLoop start now gs (g ∷ rest) ss → IsSent now.nodes new.nodes g s → new.log ≡ now.log ++ g.requests → new.needs_refresh ≡ now.needs_refresh → new.entries ≡ now.entries
+    → new.settings ≡ now.settings → new.picked ≡ now.picked → SendLoop start new gs rest (ss ++ s ∷ [])
+send_more start now new gs g rest ss s l is log flag entries settings picked = record {
+  sent_groups = l.sent_groups ++ g ∷ [];
+  all = l.all ∙ sym (append_assoc l.sent_groups (g ∷ []) rest);
+  sent = sent_more start.nodes now.nodes new.nodes l.sent_groups ss g s l.sent is;
+  log = log ∙ ap (λ qs. qs ++ g.requests) l.log ∙ append_assoc start.log (concat (request_lists l.sent_groups)) g.requests ∙ ap (λ qs. start.log ++ qs) (sym (lists_more l.sent_groups g));
+  flag = flag ∙ l.flag;
+  entries = entries ∙ l.entries;
+  settings = settings ∙ l.settings;
+  picked = picked ∙ l.picked;
+}
+
+pub send_done : (start now : World) (gs : List Group) (ss : List Sent) → SendLoop start now gs [] ss → AllByRecursion (IsGroupPlaced start.nodes) gs → IsDistinct nat_eq (map (λ (g : Group). g.which) gs) → AllSent start now gs ss
+send_done start now gs ss l placed apart =
+    let same : gs ≡ l.sent_groups = l.all ∙ append-nil l.sent_groups in
+    record {
+      placed = placed;
+      apart = apart;
+      sent = subst (λ hs. AreSent start.nodes now.nodes hs ss) (sym same) l.sent;
+      log = l.log ∙ ap (λ hs. start.log ++ concat (request_lists hs)) (sym same);
+      flag = l.flag;
+      entries = l.entries;
+      settings = l.settings;
+      picked = l.picked;
+    }
+
+-- ---- lists that grow
+
+pub all_last : {A : Type 0} (P : A → Type 0) (xs : List A) (x : A) → AllByRecursion P xs → P x → AllByRecursion P (xs ++ x ∷ [])
+all_last P [] x h p = (p, tt)
+all_last P (y ∷ xs) x h p = (h.0, all_last P xs x h.1 p)
 
 -- a sum of lengths
-pub sums : (a b c x y z : ℕ) → a ≡ x → b ≡ y → c ≡ z → a ≡ b + c → x ≡ y + z
+pub sums : (a b c x y z : ℕ) → a ≡ x → b ≡ y → c ≡ z → x ≡ y + z → a ≡ b + c
 sums a b c x y z e f g h = omega (arith, e, f, g, h)

@@ -10,7 +10,7 @@ use Rattle.resp_core.specs.declared.errors.redis_error.Cause.TheVariants.{Memory
 use Rattle.resp_core.specs.declared.errors.redis_error.ErrorKind.TheVariants as kinds
 use Rattle.resp_core.specs.declared.errors.server_error.ServerErrorKind.{ServerErrorKind}
 use Rattle.cluster_routing.specs.Choice.{Strategy}
-use Rattle.cluster_calls.specs.Calls.Answer.{Answer, Value, answer_in, answer_of}
+use Rattle.cluster_calls.specs.Calls.Answer.{Answer, Value, answer_in, IsAnswerOf}
 use Rattle.cluster_calls.specs.Calls.Call.{Call}
 use Rattle.cluster_calls.specs.Calls.Picks.{ArePicks}
 use Rattle.cluster_calls.specs.Calls.Plan.{Client, Dispatch, plan}
@@ -143,7 +143,7 @@ module _ {T : Type 0} (r : Result T Refusal) (answer : Result Answer Refusal) (t
         logged = same_log ∙ a.logged;
         picks = subst (λ ps. ArePicks strategy (client_of old) call ps) (sym same) a.picks;
         legal = λ place. subst (λ ps. IsLegalCall (client_of old) ps call (exchanges_of place m.happened.events)) (sym same) (a.legal place);
-        answered = λ faults agrees place. subst (λ ps. answer ≡ answer_of (client_of old) ps faults call (exchanges_of place m.happened.events)) (sym same) (a.answered faults agrees place);
+        answered = λ faults agrees place. subst (λ ps. IsAnswerOf (client_of old) ps faults call (exchanges_of place m.happened.events) answer) (sym same) (a.answered faults agrees place);
         entries = λ place. ap (λ (w : World). w.entries) stays ∙ a.entries place;
         flag = λ place. ap (λ (w : World). w.needs_refresh) stays ∙ a.flag place;
       })

@@ -219,11 +219,11 @@ module _ (old now new : World) (gs : List Group) (g : Group) (rest : List Group)
             record {
               memory = memory-append l.events (x ∷ []) l.memory (ap (λ b. b || false) (failed_memory now.nodes new.nodes g refusal p m some));
               whole = λ place. subst (λ xs. GroupByGroup (request_lists gs) xs) (sym (joined place))
-                  (l.leads place (exchanges_at (at place) x) (group_ends g.requests (request_lists rest) (exchanges_at (at place) x) (here place) (failed_lost now.nodes new.nodes g refusal p m some (at place))));
+                  (l.leads place (exchanges_at (at place) x) (group_ends g.requests (request_lists rest) (exchanges_at (at place) x) (here place) (failed_lost now.nodes new.nodes g refusal p m (at place))));
               tells = λ faults agreed place errors.
                   ap (λ xs. pipeline_refusal faults xs errors) (joined place)
                   ∙ refused_behind faults (exchanges_of place l.events) (exchanges_at (at place) x) errors (all_replied (exchanges_of place l.events) (concat (trees_in answers)) (l.replied place))
-                  ∙ failed_refusal now.nodes new.nodes g refusal p m some faults (Agrees-last faults l.events x agreed) (at place) errors;
+                  ∙ failed_refusal now.nodes new.nodes g refusal p m faults (Agrees-last faults l.events x agreed) (at place) errors;
             };
       }
 

@@ -18,17 +18,20 @@ use Rattle.cluster_routing.specs.declared.route.Route.{Route}
 use Rattle.cluster_routing.specs.declared.route.SlotAddr.{SlotAddr}
 use Rattle.cluster_routing.specs.declared.route.SlotAddr.TheVariants.{Master}
 use Rattle.cluster_routing.proofs.PartPlaces.{subs_are_at_their_places}
+use Rattle.cluster_routing.specs.Lists.{concat}
 use Rattle.cluster_calls.specs.Calls.Call.{Entry, Pipeline}
-use Rattle.cluster_calls.specs.Calls.Each.{each_exchange, each_of, exchanges_with, nodes_of, outcome_of, position_exchanges, reply_in, reply_outcome, without_first_with}
-use Rattle.cluster_calls.specs.Calls.EachInParts.{AreOutcomesOf, if_several, IsMadeOf, each_plan, entries_by, first_unplaced, goes_to_slots, in_parts, part_entry, refusal_of_parts, reply_in_parts, split_at, splits_in}
-use Rattle.cluster_calls.specs.Calls.Parts.{Part, Target, at_slot, if_one_slot, is_gap, only_part, part_to, parts_of, pipeline_parts, result_then, role_by, split_parts, whole_part, with_whole}
-use Rattle.cluster_calls.specs.Calls.Plan.{Client, Dispatch, dispatches, plan, unless}
+use Rattle.cluster_calls.specs.Calls.Each.{each_of, outcome_of, position_exchanges, reply_in, reply_outcome}
+use Rattle.cluster_calls.specs.Calls.EachInParts.{AreOutcomesOf, IsMadeOf, each_plan, refusal_of_parts, reply_in_parts}
+use Rattle.cluster_calls.specs.Calls.InParts.{if_several, entries_by, first_unplaced, goes_to_slots, in_parts, part_entry, split_at, splits_in}
+use Rattle.cluster_calls.specs.Calls.Legal.{direct, node_groups}
+use Rattle.cluster_calls.specs.Calls.Parts.{Part, Target, at_slot, if_one_slot, is_gap, only_part, part_to, parts_of, pipeline_parts, result_then, role_by, split_parts, whole_part, with_whole, unless}
+use Rattle.cluster_calls.specs.Calls.Plan.{Client, Dispatch, dispatches, plan}
 use Rattle.cluster_calls.specs.Calls.Replies.{reply_or_nil}
-use Rattle.cluster_calls.specs.Links.EachMade.{EachMade, WholesMade, refusal_by, refusals_of, told_of}
-use Rattle.cluster_calls.specs.Links.Events.{Event, Ending, answers, fails, lacks_memory}
-use Rattle.cluster_calls.specs.Links.Faults.{LinkFault, io, grammar, refusal_by_fault}
-use Rattle.cluster_calls.specs.Links.Happened.{Happened, client_of}
-use Rattle.cluster_calls.specs.Links.Log.{Exchange, has_lost}
+use Rattle.cluster_calls.specs.Links.EachMade.{EachHappened, EachMade, WholesMade, refusal_by, refusals_of}
+use Rattle.cluster_calls.specs.Links.Events.{Event, Ending, answers, fails, exchanges_of}
+use Rattle.cluster_calls.specs.Links.Faults.{LinkFault, io, grammar, no_memory, refusal_by_fault}
+use Rattle.cluster_calls.specs.Links.Happened.{client_of}
+use Rattle.cluster_calls.specs.Links.Log.{Exchange, has_lost, requests}
 use Rattle.cluster_calls.specs.Links.Run.{with_log}
 use Rattle.cluster_calls.specs.Links.World.{World}
 use Rattle.cluster_steps.specs.Joins.{AreOutcomesBy, HasRoom, IsJoinedBy, IsTold, width_by, width_of_all}
@@ -40,14 +43,15 @@ use Rattle.cluster_steps.specs.WholeParts.{whole_by}
 use Rattle.cluster_client.specs.InParts.{AreInParts, AreReady, IsAdded, if_several_targets, places_of, shown_joins}
 use Rattle.cluster_client.specs.declared.pipeline.in_parts.InParts.{InParts}
 use Rattle.cluster_client.proofs.PipeParts.{before, before_none}
-use Rattle.cluster_calls.proofs.LinkLaws.OneCommand.{nothing_happened, relogged_untouched}
+use Rattle.cluster_calls.proofs.LinkLaws.EventLists.{exchanged}
 use Rattle.cluster_calls.proofs.LogLaws.EachInParts.{entry_part, is_whole, part_to_slot, split_is, split_parts_go, wholes_stay_whole, whole_told_so}
+use Rattle.cluster_calls.proofs.LogLaws.EachPosition.{IsItsOwn, positions_drawn}
 use Rattle.cluster_calls.proofs.LogLaws.Fates.{pairwise_length, pipe_dispatches}
 use Rattle.cluster_calls.proofs.ServerLaws.Pipes.{IsEntryDispatch}
 use Rattle.cluster_steps.proofs.PartReplies.{cut_so}
 use Rattle.cluster_steps.proofs.ReadStreams.{sent_plain}
 use Rattle.cluster_steps.proofs.SplitCommands.{all_of, routed_at}
-use Rattle.cluster_client.proofs.EachPiping.{WholesTold}
+use Rattle.cluster_client.proofs.EachPiping.{WholesTold, nothing_sent}
 
 abbrev Outcome : Type 0
 Outcome = Result Tree Refusal
@@ -99,13 +103,9 @@ widths (e ∷ es) = by (split_at e) (widths es)
         ap (λ n. n + width_of_all (map places_of (splits_in es))) (length-map (part_slots s.tuples) _ ∙ sym (length-map (part_slots s.tuples) (part_entry s)))
         ∙ ap (λ n. length (map (part_entry s) (part_slots s.tuples)) + n) ih ∙ sym (length-append (map (part_entry s) (part_slots s.tuples)) (in_parts es))
 
-each_length : (nodes : List Address) (queues : Address → List Exchange) → length (each_exchange nodes queues) ≡ length nodes
-each_length [] queues = refl
-each_length (node ∷ nodes) queues = ap suc (each_length nodes (without_first_with node queues))
-
-pub told_length : (client : Client) (picks : List Address) (entries : List Entry) (ds : List Dispatch) (refusals : Address → Refusal) (xs : List Exchange) → plan client picks (Pipeline entries) ≡ Ok ds → length (each_of refusals ds xs) ≡ length entries
-told_length client picks entries ds refusals xs planned =
-    length-map (position_exchanges ds xs) (outcome_of refusals xs) ∙ each_length (nodes_of ds) (exchanges_with xs) ∙ length-map ds (λ (d : Dispatch). d.node)
+pub told_length : (client : Client) (picks : List Address) (entries : List Entry) (ds : List Dispatch) (refusals : Address → Refusal) (xs : List Exchange) → plan client picks (Pipeline entries) ≡ Ok ds → requests xs ≡ map direct (concat (node_groups ds)) → length (each_of refusals ds xs) ≡ length entries
+told_length client picks entries ds refusals xs planned sent =
+    length-map (position_exchanges ds xs) (outcome_of refusals xs) ∙ pairwise_length (IsItsOwn xs) ds (position_exchanges ds xs) (positions_drawn ds xs sent).0
     ∙ pairwise_length IsEntryDispatch entries ds (pipe_dispatches client picks entries ds planned).1
 
 -- ---- what is told of each
@@ -130,6 +130,7 @@ reply_told (trees.push k ts) = tt
 fault_told : (fault : LinkFault) → IsTold (Err (refusal_by_fault fault))
 fault_told io = tt
 fault_told grammar = tt
+fault_told no_memory = tt
 
 pub refusals_told : (events : List Event) (a : Address) → IsTold (Err (refusals_of events a))
 refusals_told [] a = tt
@@ -139,12 +140,10 @@ refusals_told (x ∷ xs) a = by (same_address x.node a) x.ending (refusals_told 
     by false e later = later
     by true (answers replies) later = later
     by true (fails fault) later = fault_told fault
-    by true lacks_memory later = tt
 
-pub each_told : (refusals : Address → Refusal) → ((a : Address) → IsTold (Err (refusals a))) → (xs : List Exchange) (its : List (Option Exchange)) → AllByRecursion IsTold (map (outcome_of refusals xs) its)
+pub each_told : (refusals : Address → Refusal) → ((a : Address) → IsTold (Err (refusals a))) → (xs its : List Exchange) → AllByRecursion IsTold (map (outcome_of refusals xs) its)
 each_told refusals told xs [] = tt
-each_told refusals told xs (None ∷ its) = (tt, each_told refusals told xs its)
-each_told refusals told xs (Some x ∷ its) = (by (has_lost x.request.node xs), each_told refusals told xs its)
+each_told refusals told xs (x ∷ its) = (by (has_lost x.request.node xs), each_told refusals told xs its)
   where
     by : (b : Bool) → IsTold (cond b (Err (refusals x.request.node)) (reply_outcome (reply_or_nil x)))
     by true = told x.request.node
@@ -158,28 +157,17 @@ pub record Told (entries : List Entry) (told : List Outcome) : Type 0 where
 pub wholes_are_told : (strategy : Option Strategy) (old new : World) (entries : List Entry) (told : List Outcome) → WholesTold strategy old new entries (Ok told) → Told entries told
 wholes_are_told strategy old new entries told w =
     let events = w.happened.events in
-    let xs = told_of 0 events in
+    let xs = exchanges_of 0 events in
     let is = w.told.each 0 in
     record {
       each = subst (AllByRecursion IsTold) (sym is) (each_told (refusals_of events) (refusals_told events) xs (position_exchanges w.told.dispatches xs));
-      count = ap length is ∙ told_length (client_of old) new.picked entries w.told.dispatches (refusals_of events) xs w.told.planned;
+      count = ap length is ∙ told_length (client_of old) new.picked entries w.told.dispatches (refusals_of events) xs w.told.planned (exchanged events 0 ∙ w.told.sent);
     }
 
 -- ---- behind an emptied log
 
-abbrev happened_before : (strategy : Option Strategy) (old new : World) (entries : List Entry) → Happened strategy (with_log old [] []) new (Pipeline entries) → Happened strategy old new (Pipeline entries)
-happened_before strategy old new entries h = record {
-  events = h.events;
-  runs = h.runs;
-  stops = h.stops;
-  logged = h.logged;
-  calls = h.calls;
-  picks = h.picks;
-  begins = h.begins;
-  settings = h.settings;
-  map_stays = h.map_stays;
-  flag = h.flag;
-}
+abbrev happened_before : (old new : World) → EachHappened (with_log old [] []) new → EachHappened old new
+happened_before old new h = record { events = h.events; runs = h.runs; logged = h.logged; calls = h.calls; entries = h.entries; settings = h.settings; flag = h.flag }
 
 -- the same of commands that go whole
 pub wholes_before : (strategy : Option Strategy) (old mid new : World) (entries : List Entry) (planned : Result (List Dispatch) Refusal) (Tells : List Outcome → List Outcome → Type 0) (result : Result (List Outcome) Refusal)
@@ -188,11 +176,11 @@ wholes_before strategy old mid new entries planned Tells result stays made = by 
   where
     by : (r : Result (List Outcome) Refusal) → WholesMade strategy (with_log old [] []) new entries planned Tells r → WholesMade strategy old new entries planned Tells r
     by (Ok outcomes) m = record {
-      happened = happened_before strategy old new entries m.happened;
-      told = record { dispatches = m.told.dispatches; planned = m.told.planned; picks = m.told.picks; unpicked = m.told.unpicked; legal = m.told.legal; each = m.told.each };
+      happened = happened_before old new m.happened;
+      told = record { dispatches = m.told.dispatches; planned = m.told.planned; picks = m.told.picks; unpicked = m.told.unpicked; sent = m.told.sent; each = m.told.each };
     }
     by (Err refusal) m = record {
-      happened = happened_before strategy old new entries m.happened;
+      happened = happened_before old new m.happened;
       told = record { stays = m.told.stays; refused = m.told.refused };
     }
 
@@ -204,10 +192,7 @@ each_before strategy old mid new entries result stays made =
 -- ---- the call
 
 pub unsent : (strategy : Option Strategy) (old new : World) (entries : List Entry) (refusal : Refusal) → new ≡ with_log old [] [] → (refusal ≢ by_cause Memory → each_plan (client_of old) [] entries ≡ Err refusal) → EachMade strategy old new entries (Err refusal)
-unsent strategy old new entries refusal stays why = record {
-  happened = nothing_happened strategy old new (Pipeline (in_parts entries)) (relogged_untouched old new [] stays);
-  told = record { stays = stays; refused = why };
-}
+unsent strategy old new entries refusal stays why = record { happened = nothing_sent old new stays; told = record { stays = stays; refused = why } }
 
 -- a command is at no slot
 pub unplaced : (strategy : Option Strategy) (old new : World) (entries : List Entry) (refusal : Refusal) → new ≡ with_log old [] [] → (refusal ≢ by_cause Memory → first_unplaced 0 entries ≡ Some refusal) → EachMade strategy old new entries (Err refusal)
@@ -224,7 +209,7 @@ module _ (strategy : Option Strategy) (old new : World) (entries : List Entry) (
       planned = w.told.planned;
       picks = w.told.picks;
       unpicked = w.told.unpicked;
-      legal = w.told.legal;
+      sent = w.told.sent;
       each = λ place. subst (λ os. AreOutcomesOf (splits_in entries) os outcomes) (w.told.each place) are;
     };
   }

@@ -86,7 +86,7 @@ had_memory (Err refusal) outcome told = λ e. told.1 (let same : refusal ≡ by_
 told_by : (old new : List Node) (q : Request) (reply outcome : Result Tree Refusal) (faults : Address → LinkFault) (o : OneMade old new q reply) → IsOutcomeOf reply outcome → Agrees faults (single q o.taken reply ∷ [])
     → outcome ≡ outcome_by (faults q.node) (reply_in reply)
 told_by old new q (Ok tree) outcome faults o told agrees = told
-told_by old new q (Err e) outcome faults o told agrees = told.0 ∙ ap no_tree (one_fault old new q e faults told.1 o agrees.0)
+told_by old new q (Err e) outcome faults o told agrees = told.0 ∙ ap no_tree (one_fault old new q e faults o agrees.0)
 
 module _ (old new : World) (d : Dispatch) (same : Keeps old new) (reply : Result Tree Refusal) (flag : new.needs_refresh ≡ (old.needs_refresh || is_moved_reply (tree_in reply))) where
   module _ (o : OneMade old.nodes new.nodes (direct d) reply) (log : new.log ≡ old.log ++ direct d ∷ []) where
@@ -119,7 +119,7 @@ module _ (old new : World) (d : Dispatch) (same : Keeps old new) (reply : Result
           sent = refl;
           tells = λ faults agrees place.
               ap (λ r. Ok ((d.node, r) ∷ []))
-              (told_by old.nodes new.nodes (direct d) reply outcome faults o told agrees ∙ ap (outcome_by (faults d.node)) (sym (one_reply_is old.nodes new.nodes (direct d) reply had o)));
+              (told_by old.nodes new.nodes (direct d) reply outcome faults o told agrees ∙ ap (outcome_by (faults d.node)) (sym (one_reply_is old.nodes new.nodes (direct d) reply o)));
         })
 
   -- the same from what the code says of its exchange

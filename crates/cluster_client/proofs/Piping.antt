@@ -25,9 +25,9 @@ use Rattle.cluster_calls.specs.Links.Run.{with_log}
 use Rattle.cluster_calls.specs.Calls.Answer.{Value}
 use Rattle.cluster_calls.specs.Calls.Call.{Entry, Pipeline}
 use Rattle.cluster_calls.specs.Calls.Legal.{IsLegalCall, node_groups}
-use Rattle.cluster_calls.specs.Calls.Parts.{Part, pipeline_parts, result_then}
+use Rattle.cluster_calls.specs.Calls.Parts.{Part, pipeline_parts, result_then, unless}
 use Rattle.cluster_calls.specs.Calls.Picks.{ArePicks}
-use Rattle.cluster_calls.specs.Calls.Plan.{Client, Dispatch, dispatches, plan, unless}
+use Rattle.cluster_calls.specs.Calls.Plan.{Client, Dispatch, dispatches, plan}
 use Rattle.cluster_calls.specs.Calls.Refusals.{errors_from, errors_refusal, pipeline_refusal}
 use Rattle.cluster_calls.specs.Calls.Replies.{args_slot, in_pipeline_order, not_ignored, pipeline_reply, reply_or_nil}
 use Rattle.cluster_calls.specs.Calls.Task.{pipeline_of}
@@ -195,7 +195,7 @@ module _ (strategy : Option Strategy) (old new : World) (entries : List Entry) (
   happened = record {
     events = m.events;
     runs = m.runs;
-    stops = m.stops;
+    stops = λ e. m.stops;
     logged = m.logged;
     calls = λ node. link_calls_made old.nodes new.nodes m.events (pipeline_of entries) m.runs once node;
     picks = λ some. are;
@@ -213,7 +213,7 @@ module _ (strategy : Option Strategy) (old new : World) (entries : List Entry) (
       let there : reply ≢ Err (by_cause Memory) = λ e. had (ap value_answer e) in
       let a = m.answered (groups_had entries cds result reply made there) in
       let slots = are_of_slots (client_of old) entries new.picked (map dispatch_of cds) plans in
-      answered_plain strategy old new (Pipeline entries) (value_answer reply) happened refl once a.memory m.logged are
+      answered_plain strategy old new (Pipeline entries) (value_answer reply) happened refl once (λ e. a.memory) m.logged are
       (λ place. legal (exchanges_of place m.events) (a.whole place))
       (λ faults agrees place. rw plans (told cds old.nodes (client_of old) entries placed slots faults (exchanges_of place m.events) result reply (a.tells faults agrees place) made there)))
       (λ e n. absurd (false≢true n))

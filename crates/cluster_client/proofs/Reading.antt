@@ -17,9 +17,9 @@ use Rattle.stream_commands.specs.ReadReply.{Row, read_reply}
 use Rattle.stream_commands.specs.Settings.{ReadSettings}
 use Rattle.cluster_calls.specs.Calls.Answer.{Answer, Read}
 use Rattle.cluster_calls.specs.Calls.Call.{Call, OnStreams, Stream, Xread}
-use Rattle.cluster_calls.specs.Calls.Parts.{Part, read_parts}
+use Rattle.cluster_calls.specs.Calls.Parts.{Part, read_parts, unless}
 use Rattle.cluster_calls.specs.Calls.Picks.{ArePicks}
-use Rattle.cluster_calls.specs.Calls.Plan.{Client, Dispatch, call_parts, in_order, order_of, plan, unless}
+use Rattle.cluster_calls.specs.Calls.Plan.{Client, Dispatch, call_parts, in_order, order_of, plan}
 use Rattle.cluster_calls.specs.Calls.Reads.{key_places, read_slot, stream_slots}
 use Rattle.cluster_calls.specs.Calls.Task.{are_of_one_slot, is_by_key, read_of, read_refusal, sentence_task, stream_keys, task_of}
 use Rattle.cluster_calls.specs.Links.Happened.{client_of}

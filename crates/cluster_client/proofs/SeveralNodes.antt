@@ -45,8 +45,8 @@ use Rattle.cluster_calls.specs.Links.Run.{with_log}
 use Rattle.cluster_calls.specs.Links.Converted.{value_answer}
 use Rattle.cluster_calls.specs.Calls.Call.{FanOut}
 use Rattle.cluster_calls.specs.Calls.Task.{several_nodes}
-use Rattle.cluster_calls.specs.Calls.Parts.{Part, part_to, at_node, node_parts, to_nodes}
-use Rattle.cluster_calls.specs.Calls.Plan.{Client, Dispatch, First, first_of, call_parts, plan, unless}
+use Rattle.cluster_calls.specs.Calls.Parts.{Part, part_to, at_node, node_parts, to_nodes, unless}
+use Rattle.cluster_calls.specs.Calls.Plan.{Client, Dispatch, First, first_of, call_parts, plan}
 use Rattle.cluster_calls.specs.Calls.Picks.{ArePicks}
 use Rattle.cluster_calls.specs.Calls.Legal.{direct, IsLegalCall}
 use Rattle.cluster_calls.specs.Calls.Replies.{outcomes, policy_in, reply_by_outcomes, several_reply}
@@ -309,7 +309,7 @@ module _ (strategy : Option Strategy) (old new : World) (command : Command) (ds 
   happened = record {
     events = m.events;
     runs = m.runs;
-    stops = m.stops;
+    stops = λ e. m.stops;
     logged = m.logged;
     calls = λ node. link_calls_made old.nodes new.nodes m.events (several_nodes command) m.runs m.single node;
     picks = λ some. are;
@@ -328,7 +328,7 @@ module _ (strategy : Option Strategy) (old new : World) (command : Command) (ds 
       (λ had.
       let there : reply ≢ Err (by_cause Memory) = λ e. had (ap value_answer e) in
       let a = m.answered (nodes_had command result reply made there) in
-      answered_plain strategy old new (FanOut command) (value_answer reply) happened refl m.single a.memory m.logged are
+      answered_plain strategy old new (FanOut command) (value_answer reply) happened refl m.single (λ e. a.memory) m.logged are
       (λ place. legal (exchanges_of place m.events) (exchanged m.events place ∙ a.sent))
       (λ faults agrees place.
       let is = told command faults (exchanges_of place m.events) result reply made there (a.tells faults agrees place) in

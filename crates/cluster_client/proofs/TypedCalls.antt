@@ -25,9 +25,9 @@ use Rattle.cluster_calls.specs.Links.World.{World}
 use Rattle.cluster_calls.specs.Calls.Answer.{Answer, Value, answer_of, reply_of, stream_answer}
 use Rattle.cluster_calls.specs.Calls.Call.{Call, Query, StreamCall, Xread, OnStreams}
 use Rattle.cluster_calls.specs.Calls.Legal.{IsLegalCall}
-use Rattle.cluster_calls.specs.Calls.Parts.{result_then}
+use Rattle.cluster_calls.specs.Calls.Parts.{result_then, unless}
 use Rattle.cluster_calls.specs.Calls.Picks.{ArePicks, ArePicksOf}
-use Rattle.cluster_calls.specs.Calls.Plan.{Client, Dispatch, call_parts, dispatches, in_order, order_of, plan, unless}
+use Rattle.cluster_calls.specs.Calls.Plan.{Client, Dispatch, call_parts, dispatches, in_order, order_of, plan}
 use Rattle.cluster_calls.specs.Calls.Refusals.{sent_refusal}
 use Rattle.cluster_calls.specs.Calls.Task.{one_command, sentence, sentence_task, stream_keys, stream_ids, stream_refusal, stream_task}
 use Rattle.cluster_calls.specs.Calls.TaskParts.{task_parts}

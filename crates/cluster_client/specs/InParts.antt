@@ -4,7 +4,7 @@ use Rattle.std.specs.List.{AllByRecursion}
 use Rattle.cluster_routing.specs.Split.{Split, PartsByPlace, split_by_place}
 use Rattle.cluster_calls.specs.Calls.Call.{Entry}
 use Rattle.cluster_calls.specs.Calls.Parts.{Part, Target, pipeline_parts}
-use Rattle.cluster_calls.specs.Calls.EachInParts.{entries_by, first_unplaced, goes_to_slots, in_parts, split_at, splits_in}
+use Rattle.cluster_calls.specs.Calls.InParts.{entries_by, first_unplaced, goes_to_slots, in_parts, split_at, splits_in}
 use Rattle.cluster_steps.specs.FirstPlaces.{part_of}
 use Rattle.cluster_steps.specs.Joins.{HasRoom, shown_join}
 use Rattle.cluster_steps.specs.declared.join.Join.{Join}

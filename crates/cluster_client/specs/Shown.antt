@@ -8,10 +8,11 @@ use Rattle.cluster_routing.specs.Seen.{address}
 use Rattle.stream_commands.specs.InfoViews.{consumer_view, group_view, pending_view, stream_info_view}
 use Rattle.stream_commands.specs.RecordViews.{autoclaim_view, entries_view, rows_view}
 use Rattle.cluster_calls.specs.Calls.Answer as answer
-use Rattle.cluster_calls.specs.Calls.Answer.{Answer, Refreshed, Value, Added, Trimmed, Read, Range, Claim, AutoClaim, Pending, Groups, Consumers, Deleted}
-use Rattle.cluster_calls.specs.Calls.Call.{Call, Refresh, Query, Ordered, Pipeline, FanOut, At, Transaction, OnStreams, Stream, Claimant, Xadd, Xtrim, Xread, Xrange, Xclaim, Xautoclaim, Xpending, XinfoStream, XinfoGroups, XinfoConsumers, XdelEx}
+use Rattle.cluster_calls.specs.Calls.Answer.{Answer, Refreshed, Value, Added, Trimmed, Read, Range, Claim, AutoClaim, Pending, Groups, Consumers, Deleted, Told}
+use Rattle.cluster_calls.specs.Calls.Call.{Call, Refresh, Query, Ordered, Pipeline, Each, FanOut, At, Transaction, OnStreams, Stream, Claimant, Xadd, Xtrim, Xread, Xrange, Xclaim, Xautoclaim, Xpending, XinfoStream, XinfoGroups, XinfoConsumers, XdelEx}
 use Rattle.cluster_calls.specs.Links.Typed.{deletion_of}
 use Rattle.cluster_calls.specs.Links.Play.{Shown}
+use Rattle.cluster_calls.specs.Links.World.{tree_result}
 use Rattle.cluster_client.specs.declared.run.Call.{Call as CodeCall}
 use Rattle.cluster_client.specs.declared.run.Call.TheVariants as calls
 use Rattle.cluster_client.specs.declared.run.Answer.{Answer as CodeAnswer}
@@ -34,6 +35,7 @@ call_in (calls.Refresh node) = Refresh (address node)
 call_in (calls.Query command number) = Query command number
 call_in (calls.Ordered command order number) = Ordered command order.items number
 call_in (calls.Pipeline entries) = Pipeline entries
+call_in (calls.Each entries) = Each entries
 call_in (calls.FanOut command) = FanOut command
 call_in (calls.At node command) = At (address node) command
 call_in (calls.Transaction commands) = Transaction commands.items
@@ -65,6 +67,7 @@ answer_in (answers.Stream reply) = answer.Stream (stream_info_view reply)
 answer_in (answers.Groups reply) = Groups (map group_view reply.groups.items)
 answer_in (answers.Consumers reply) = Consumers (map consumer_view reply.consumers.items)
 answer_in (answers.Deleted codes) = Deleted (map deletion_of codes.items)
+answer_in (answers.Each outcomes) = Told (map (tree_result view) outcomes.items)
 
 abbrev pub answer_result : Result CodeAnswer Refusal → Result Answer Refusal
 answer_result (Ok answer) = Ok (answer_in answer)

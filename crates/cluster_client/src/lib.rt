@@ -84,6 +84,7 @@ pub use resp_link::FromWrite;
 pub use resp_link::LinkWrite;
 pub use resp_link::MemoryReader;
 pub use resp_link::MemoryWriter;
+pub use resp_link::PipelinedLink;
 pub use run::Answer;
 pub use run::Call;
 pub use run::Claimant;

@@ -4,7 +4,7 @@ mod streams;
 ghost use Rattle.std.specs.Prelude.{Option, is_ok, map, option_map};
 ghost use Rattle.cluster_routing.specs.Choice.{Strategy};
 ghost use Rattle.cluster_routing.specs.Seen.{address};
-ghost use Rattle.cluster_calls.specs.Calls.Call.{At, FanOut, Ordered, Pipeline, Query, Refresh, Transaction};
+ghost use Rattle.cluster_calls.specs.Calls.Call.{At, Each, FanOut, Ordered, Pipeline, Query, Refresh, Transaction};
 ghost use Rattle.cluster_calls.specs.Links.Happened.{CallMade};
 ghost use Rattle.cluster_calls.specs.Links.Play.{Plays, PlaysOne};
 ghost use Rattle.cluster_client.specs.Shown.{answer_result, call_in, shown};
@@ -16,7 +16,7 @@ use cluster_routing::{NodeAddress, ReadRoutingStrategy};
 use cluster_steps::asked::Asked;
 use resp_args::Cmd;
 use resp_core::{RedisError, Value};
-use resp_link::ConnectionLike;
+use resp_link::PipelinedLink;
 use std::alloc::{AllocError, Global};
 use stream_commands::{
     StreamAddOptions, StreamAutoClaimOptions, StreamAutoClaimReply, StreamClaimOptions,
@@ -43,6 +43,8 @@ pub enum Call {
     },
     /// `ClusterPipeline::query`; it answers the array of the replies that are not ignored.
     Pipeline(ClusterPipeline),
+    /// `ClusterPipeline::query_each`; it answers each position's outcome.
+    Each(ClusterPipeline),
     /// `ClusterClient::fan_out`; it answers the one reply that the nodes' replies make.
     FanOut(Cmd),
     /// `ClusterClient::query_at`; it answers the reply.
@@ -143,6 +145,8 @@ pub enum Answer {
     Consumers(StreamInfoConsumersReply),
     /// What became of each entry, in the order of the ids.
     Deleted(Vec<XDelExStatusCode>),
+    /// Of each command of a pipeline its value, or why there is none, in the order of the commands.
+    Each(Vec<Result<Value, RedisError>>),
 }
 
 /// A call of a run when it has ended: what it answered, and its requests in order of sending.
@@ -154,7 +158,7 @@ pub struct Played {
     pub asked: Vec<Asked>,
 }
 
-impl<L: ConnectionLike + Drop> ClusterClient<L> {
+impl<L: PipelinedLink + Drop> ClusterClient<L> {
     /// Makes one call, and moves its requests out of the client.
     fn play_one(
         &mut self,
@@ -187,6 +191,7 @@ impl<L: ConnectionLike + Drop> ClusterClient<L> {
                 alloc, cmd, order, *number, strategy,
             ),
             Call::Pipeline(pipeline) => self.answer_to_pipeline(alloc, pipeline),
+            Call::Each(pipeline) => self.answer_to_each(alloc, pipeline),
             Call::FanOut(cmd) => self.answer_to_fan_out(alloc, cmd),
             Call::At { node, cmd } => self.answer_to_at(alloc, node, cmd),
             Call::Transaction(commands) => self.answer_to_transaction(alloc, commands),
@@ -276,6 +281,19 @@ impl<L: ConnectionLike + Drop> ClusterClient<L> {
         Ok(Answer::Value(reply))
     }
 
+    fn answer_to_each(
+        &mut self,
+        alloc: Global,
+        pipeline: &ClusterPipeline,
+    ) -> Result<Answer, RedisError>
+        ensures { (strategy : Option Strategy)
+            → CallMade strategy (whole L.seen self.old) (whole L.seen self.new) (Each pipeline.now)
+            (answer_result result) }
+    {
+        let outcomes = pipeline.query_each(alloc, self)?;
+        Ok(Answer::Each(outcomes))
+    }
+
     fn answer_to_fan_out(&mut self, alloc: Global, cmd: &Cmd) -> Result<Answer, RedisError>
         ensures { (strategy : Option Strategy)
             → CallMade strategy (whole L.seen self.old) (whole L.seen self.new) (FanOut cmd.now)
@@ -322,7 +340,7 @@ impl<L: ConnectionLike + Drop> ClusterClient<L> {
 /// # Errors
 /// `AllocError` where memory is refused for what a call is to show; this is found before the call,
 /// which is not made then, and `played` holds those that were.
-pub fn play<L: ConnectionLike + Drop>(
+pub fn play<L: PipelinedLink + Drop>(
     client: &mut ClusterClient<L>,
     alloc: Global,
     calls: &[Call],

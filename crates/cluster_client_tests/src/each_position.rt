@@ -6,7 +6,7 @@ use std::process::Abort;
 use std::test::Fail;
 
 /// The slots in three parts: that of `b` at n1:7001, that of `c` at n2:7002, that of `a` at n3:7003.
-const THIRDS: &[u8] =
+pub(crate) const THIRDS: &[u8] =
     b"*3\r\n*3\r\n:0\r\n:5000\r\n*2\r\n$2\r\nn1\r\n:7001\r\n*3\r\n:5001\r\n:10000\r\n*2\r\n$2\r\nn2\r\n:7002\r\n*3\r\n:10001\r\n:16383\r\n*2\r\n$2\r\nn3\r\n:7003\r\n";
 
 /// What comes from each node behind the map, commands as words, what has to be told of each (its value, or
@@ -36,15 +36,15 @@ const TWO_NODES: Row = Row {
     needs_refresh: true,
 };
 
-/// The link of the second node fails behind its first reply: the first one's replies stand, and the third
-/// one is not asked. A MOVED of the failed link does not count.
+/// The link of the second node fails behind its first reply: the replies of the first and of the third stand. A
+/// MOVED of the failed link does not count.
 const SECOND_FAILS: Row = Row {
     n1: b":1\r\n:2\r\n",
     n2: b"-MOVED 7365 n1:7001\r\n",
-    n3: b":5\r\n",
+    n3: b":5\r\n:6\r\n",
     commands: &["GET b", "GET c", "GET a", "GET c", "GET b", "GET a"],
-    told: "1, 14, 20, 14, 2, 20",
-    asked: "n1 n1 n2 n2",
+    told: "1, 14, 5, 14, 2, 6",
+    asked: "n1 n1 n2 n2 n3 n3",
     open: "n1 n3",
     needs_refresh: false,
 };
@@ -55,8 +55,8 @@ const FIRST_FAILS: Row = Row {
     n2: b":7\r\n",
     n3: b":5\r\n",
     commands: &["GET b", "GET a", "GET b", "GET c"],
-    told: "15, 20, 15, 20",
-    asked: "n1 n1",
+    told: "15, 5, 15, 7",
+    asked: "n1 n1 n3 n2",
     open: "n2 n3",
     needs_refresh: false,
 };
@@ -97,15 +97,15 @@ const PARTS_SENT_ON: Row = Row {
     needs_refresh: true,
 };
 
-/// The second node fails, and the third is not asked: a command with a part at the second may have been done,
-/// one with parts at the first and the third is done in part, and one of the third alone is not done.
+/// The second node fails: a command with a part there may have been done, and one with parts at the others has its
+/// value.
 const PARTS_FAIL: Row = Row {
-    n1: b"*1\r\n:1\r\n",
+    n1: b"*1\r\n:1\r\n*1\r\n:2\r\n:1\r\n:1\r\n:0\r\n",
     n2: b"",
     n3: b"*1\r\n:5\r\n*1\r\n:6\r\n",
     commands: &["MGET a c", "MGET a b", "MGET c b", "DEL b", "DEL b hello"],
-    told: "14, 16, 14, 20, 20",
-    asked: "n3 n3 n2 n2",
+    told: "14, [6, 1], 14, 1, 1",
+    asked: "n3 n3 n2 n2 n1 n1 n1 n1 n1",
     open: "n1 n3",
     needs_refresh: false,
 };
@@ -142,7 +142,7 @@ fn command_of(alloc: Global, words: &str) -> Result<Cmd, AllocError> {
     Ok(command)
 }
 
-fn pipeline_of(alloc: Global, commands: &[&str]) -> Result<ClusterPipeline, AllocError> {
+pub(crate) fn pipeline_of(alloc: Global, commands: &[&str]) -> Result<ClusterPipeline, AllocError> {
     let mut pipeline = cluster_pipe(alloc);
     for words in commands {
         pipeline.add_command(command_of(alloc, words)?)?;
@@ -191,21 +191,28 @@ fn outcome_text(alloc: Global, outcome: &Result<Value, RedisError>) -> Result<St
 }
 
 /// What is told of each position.
+pub(crate) fn outcomes_text(
+    alloc: Global,
+    outcomes: &[Result<Value, RedisError>],
+) -> Result<String, RedisError> {
+    let mut text = String::new(alloc);
+    for outcome in outcomes {
+        push_word(&mut text, ", ", outcome_text(alloc, outcome)?.as_str())?;
+    }
+    Ok(text)
+}
+
 fn told(
     alloc: Global,
     client: &mut Client,
     pipeline: &ClusterPipeline,
 ) -> Result<String, RedisError> {
-    let mut text = String::new(alloc);
-    for outcome in pipeline.query_each(alloc, client)? {
-        push_word(&mut text, ", ", outcome_text(alloc, &outcome)?.as_str())?;
-    }
-    Ok(text)
+    outcomes_text(alloc, &pipeline.query_each(alloc, client)?)
 }
 
-fn asked(alloc: Global, client: &Client) -> Result<String, AllocError> {
+fn asked(alloc: Global, requests: &[Asked]) -> Result<String, AllocError> {
     let mut text = String::new(alloc);
-    for request in client.asked() {
+    for request in requests {
         push_word(&mut text, " ", request.node.host())?;
     }
     Ok(text)
@@ -225,7 +232,7 @@ fn plays<R: Abort>(rt: &R, alloc: Global, row: &Row) -> Result<(), Fail> {
     let mut client = client(alloc, row)?;
     let pipeline = pipeline_of(alloc, row.commands)?;
     assert_eq!(rt; told(alloc, &mut client, &pipeline)?.as_str(), row.told);
-    assert_eq!(rt; asked(alloc, &client)?.as_str(), row.asked);
+    assert_eq!(rt; asked(alloc, client.asked())?.as_str(), row.asked);
     assert_eq!(rt; open_links(alloc, &client)?.as_str(), row.open);
     assert_eq!(rt; client.needs_refresh(), row.needs_refresh);
     Ok(())
@@ -248,6 +255,57 @@ fn a_split_command_goes_out_in_its_parts(rt: HostRuntime) -> Result<(), Fail> {
     plays(&rt, alloc, &IN_PARTS)?;
     plays(&rt, alloc, &PARTS_SENT_ON)?;
     plays(&rt, alloc, &PARTS_FAIL)?;
+    Ok(())
+}
+
+/// What is told of each position, where the answer tells that.
+fn answer_text(alloc: Global, answer: &Result<Answer, RedisError>) -> Result<String, RedisError> {
+    match answer {
+        Ok(Answer::Each(outcomes)) => outcomes_text(alloc, outcomes),
+        _ => Ok(String::new(alloc)),
+    }
+}
+
+/// What a list of this one call shows: what is told of each position, and which nodes are asked.
+fn told_by_play(
+    alloc: Global,
+    client: &mut Client,
+    pipeline: ClusterPipeline,
+) -> Result<Vec<(String, String)>, RedisError> {
+    let mut calls = Vec::new(alloc);
+    calls.push(Call::Each(pipeline))?;
+    let mut played = Vec::new(alloc);
+    play(client, alloc, &calls, None, &mut played)?;
+    let mut told = Vec::new(alloc);
+    for call in played.iter() {
+        told.push((
+            answer_text(alloc, &call.answer)?,
+            asked(alloc, &call.asked)?,
+        ))?;
+    }
+    Ok(told)
+}
+
+fn is_played<R: Abort>(rt: &R, alloc: Global, row: &Row) -> Result<(), Fail> {
+    let mut client = client(alloc, row)?;
+    let pipeline = pipeline_of(alloc, row.commands)?;
+    let told = told_by_play(alloc, &mut client, pipeline)?;
+    assert_eq!(rt; told.len(), 1);
+    for (outcomes, nodes) in told.iter() {
+        assert_eq!(rt; outcomes.as_str(), row.told);
+        assert_eq!(rt; nodes.as_str(), row.asked);
+    }
+    assert_eq!(rt; open_links(alloc, &client)?.as_str(), row.open);
+    assert_eq!(rt; client.needs_refresh(), row.needs_refresh);
+    Ok(())
+}
+
+#[test]
+fn a_list_of_calls_tells_of_each_position(rt: HostRuntime) -> Result<(), Fail> {
+    let alloc = rt.alloc();
+    is_played(&rt, alloc, &TWO_NODES)?;
+    is_played(&rt, alloc, &SECOND_FAILS)?;
+    is_played(&rt, alloc, &IN_PARTS)?;
     Ok(())
 }
 

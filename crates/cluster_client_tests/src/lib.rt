@@ -4,6 +4,8 @@
 #[cfg(test)]
 mod answers;
 #[cfg(test)]
+mod at_once;
+#[cfg(test)]
 mod clients;
 #[cfg(test)]
 mod each_position;

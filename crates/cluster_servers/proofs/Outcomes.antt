@@ -10,11 +10,13 @@ use Rattle.cluster_routing.specs.Combine.{combine, part_replies}
 use Rattle.cluster_routing.specs.Policies.{or_bad_reply}
 use Rattle.cluster_routing.specs.Split.{Split, part_slots}
 use Rattle.cluster_calls.specs.Calls.Call.{Entry}
-use Rattle.cluster_calls.specs.Calls.Each.{Fate, answered, redirected, not_asked, lost, each_of, fate_of, link_refusal, position_exchanges, refusal_where, reply_in}
-use Rattle.cluster_calls.specs.Calls.EachInParts.{AreOutcomesOf, IsMadeOf, IsOutcomeOf, are_of_one_fate, part_count, refusal_of_parts, reply_in_parts, splits_in}
+use Rattle.cluster_calls.specs.Calls.Each.{Fate, answered, redirected, lost, each_of, fate_of, link_refusal, position_exchanges, refusal_where, reply_in}
+use Rattle.cluster_calls.specs.Calls.EachInParts.{AreOutcomesOf, IsMadeOf, IsOutcomeOf, are_of_one_fate, refusal_of_parts, reply_in_parts}
+use Rattle.cluster_calls.specs.Calls.InParts.{part_count, splits_in}
 use Rattle.cluster_calls.specs.Calls.Refusals.{refusal_in}
 use Rattle.cluster_calls.specs.Calls.Task.{first_refusal}
-use Rattle.cluster_calls.specs.Links.EachMade.{EachMade, refusals_of, told_of}
+use Rattle.cluster_calls.specs.Links.EachMade.{EachMade, refusals_of}
+use Rattle.cluster_calls.specs.Links.Events.{exchanges_of}
 use Rattle.cluster_calls.specs.Links.World.{World}
 use Rattle.cluster_steps.specs.Joins.{IsTold}
 use Rattle.cluster_steps.proofs.Joining.{all-taken, all-dropped}
@@ -47,7 +49,6 @@ link_told (Err r) refusal told e = by (fate_of (Err r)) e
     by : (fate : Fate) → refusal_where fate r ≡ Some refusal → IsTold (Err refusal)
     by answered k = cc
     by redirected k = cc
-    by not_asked k = cc
     by lost k = let same : r ≡ refusal = cc in subst (λ q. IsTold (Err q)) same told
 
 mixed_told : (o : Option Refusal) → ((refusal : Refusal) → o ≡ Some refusal → IsTold (Err refusal)) → IsTold (Err (unwrap_or o (by_cause causes.UnexpectedReturnType)))
@@ -102,6 +103,6 @@ outcomes_told (s ∷ ss) os (o ∷ outcomes) told w = (
 pub made_are_told : (strategy : Option Strategy) (old new : World) (entries : List Entry) (outcomes : List Outcome) → EachMade strategy old new entries (Ok outcomes) → AreTold outcomes
 made_are_told strategy old new entries outcomes m =
     let events = m.happened.events in
-    let xs = told_of 0 events in
+    let xs = exchanges_of 0 events in
     outcomes_told (splits_in entries) (each_of (refusals_of events) m.told.dispatches xs) outcomes
     (each_told (refusals_of events) (refusals_told events) xs (position_exchanges m.told.dispatches xs)) (m.told.each 0)

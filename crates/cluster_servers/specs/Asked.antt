@@ -7,7 +7,8 @@ use Rattle.resp_core.specs.declared.errors.redis_error.Cause.TheVariants.{Memory
 use Rattle.cluster_calls.specs.Calls.Call.{Entry}
 use Rattle.cluster_calls.specs.Calls.Each.{each_of, fate_of}
 use Rattle.cluster_calls.specs.Calls.EachInParts.{each_plan}
-use Rattle.cluster_calls.specs.Links.EachMade.{NotSent, refusals_of, told_of}
+use Rattle.cluster_calls.specs.Links.EachMade.{NotSent, refusals_of}
+use Rattle.cluster_calls.specs.Links.Events.{exchanges_of}
 use Rattle.cluster_calls.specs.Links.Happened.{client_of}
 use Rattle.cluster_calls.specs.Links.Run.{with_log}
 use Rattle.cluster_calls.specs.Links.World.{World}
@@ -76,15 +77,15 @@ AsksCluster old batch outcomes new = Untouched old new batch outcomes
 
 -- ---- what the fates mean
 
--- Of each command of a pipeline its fate is what the log shows of it: where it is told as sent on or not
--- asked, it was not done.
+-- Of each command of a pipeline its fate is what the log shows of it: where it is told as sent on, it was not
+-- done.
 abbrev pub FatesOfSeveral : Type 0
 FatesOfSeveral = (old new : World) (batch : List (ℕ × GuestCommand)) (outcomes : List (Outcome Reply))
     → (asked : AskedTogether old new batch outcomes) → (place : ℕ)
     → PositionsAreKnown new (entries_of batch) asked.made.told.dispatches
-    (told_of place asked.made.happened.events)
+    (exchanges_of place asked.made.happened.events)
     (each_of (refusals_of asked.made.happened.events) asked.made.told.dispatches
-    (told_of place asked.made.happened.events)) asked.told
+    (exchanges_of place asked.made.happened.events)) asked.told
     × (map (λ (o : Outcome Reply). o.fate) outcomes
     ≡ map (λ (t : Result Tree Refusal). fate_by (fate_of t)) asked.told)
 

@@ -5,7 +5,7 @@ use Rattle.resp_core.specs.Trees.{Tree}
 use Rattle.resp_core.specs.Errors.{Refusal, cause_of}
 use Rattle.resp_core.specs.declared.errors.redis_error.Cause.{Cause}
 use Rattle.resp_core.specs.declared.errors.redis_error.Cause.TheVariants.{NoNode, NoLink, Memory}
-use Rattle.cluster_calls.specs.Calls.Each.{answered, redirected, not_asked, lost}
+use Rattle.cluster_calls.specs.Calls.Each.{answered, redirected, lost}
 use Rattle.cluster_calls.specs.Calls.Each as told
 use Rattle.cluster_calls.specs.Links.Request.{Request}
 use Rattle.proxy_core.specs.declared.outcome.Fate.{Fate}
@@ -15,7 +15,6 @@ use Rattle.proxy_core.specs.declared.outcome.Fate.TheVariants as fates
 abbrev pub fate_by : told.Fate → Fate
 fate_by answered = fates.Answered
 fate_by redirected = fates.Redirected
-fate_by not_asked = fates.NotAsked
 fate_by lost = fates.Lost
 
 -- of a command of which nothing was sent: where its node, a link or memory may yet come it waits, if the proxy

@@ -16,7 +16,7 @@ use crate::together::{pipeline_of, some_redirected, tell_all};
 use cluster_client::ClusterClient;
 use proxy_core::{Asked, Outcome, Servers};
 use resp_core::{Cause, RedisError, Value};
-use resp_link::ConnectionLike;
+use resp_link::{ConnectionLike, PipelinedLink};
 use std::alloc::{AllocError, Global};
 
 /// The nodes of a cluster, behind a client, as the servers of a proxy.
@@ -42,7 +42,9 @@ impl<L: ConnectionLike + Drop> ClusterServers<L> {
             alone: false,
         }
     }
+}
 
+impl<L: PipelinedLink + Drop> ClusterServers<L> {
     /// Sends the batch as one pipeline. `None` where it goes command by command.
     fn send_together(
         &mut self,
@@ -74,7 +76,7 @@ impl<L: ConnectionLike + Drop> ClusterServers<L> {
     }
 }
 
-impl<L: ConnectionLike + Drop> Servers<GuestCommand, Reply> for ClusterServers<L> {
+impl<L: PipelinedLink + Drop> Servers<GuestCommand, Reply> for ClusterServers<L> {
     ghost use Rattle.cluster_servers.specs.Asked.{AsksCluster};
     ghost use Rattle.cluster_servers.specs.Seen.{cluster};
 

@@ -14,7 +14,7 @@ use crate::command::GuestCommand;
 use crate::reply::Reply;
 use cluster_client::ClusterPipeline;
 use proxy_core::{Asked, Fate, Outcome};
-use resp_core::{Cause, ErrorKind, Protocol, RedisError, ServerErrorKind, Value};
+use resp_core::{ErrorKind, Protocol, RedisError, ServerErrorKind, Value};
 use std::alloc::{AllocError, Global};
 use std::collections::VecDeque;
 
@@ -37,7 +37,6 @@ fn refused_fate(error: &RedisError) -> Fate
     ensures { result ≡ fate_by (fate_of (Err error.now)) }
 {
     match error.cause() {
-        Some(Cause::NotAsked) => Fate::NotAsked,
         Some(_) => Fate::Lost,
         None => match error.kind() {
             ErrorKind::Server(ServerErrorKind::Moved | ServerErrorKind::Ask) => Fate::Redirected,

@@ -77,7 +77,7 @@ same_lines (n ∷ ns) (m ∷ ms) e d s =
 
 pub one_text : OneText
 one_text session output output' p q faultless there there' =
-    let same = promised_plays (start session) p.after q.after session.calls [] p.shown q.shown p.plays q.plays (promised session.levels session.nodes faultless) there.0 there'.0 there.1 there'.1 in
+    let same = promised_plays (start session) p.after q.after session.calls [] p.shown q.shown p.plays q.plays (promised session.levels session.nodes faultless) there.0 there'.0 there.1 there'.1 there.2 there'.2 in
     let left = (p.plays.is_run.played there.0).made.addresses in
     let right = (q.plays.is_run.played there'.0).made.addresses in
     let distinct : has_repeats (addresses_of p.after.nodes) ≡ false = subst (λ as'. has_repeats as' ≡ false) (sym left) p.distinct in

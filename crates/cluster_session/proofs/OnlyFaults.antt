@@ -9,7 +9,7 @@ use Rattle.resp_core.specs.Promise.{Promise, nothing, refuses_none, refuses_only
 use Rattle.resp_link.specs.Call.{Seen, SendFails, ReadFails}
 use Rattle.resp_link.specs.Counts.{AllWritten}
 use Rattle.cluster_routing.specs.Address.{Address, same_address}
-use Rattle.cluster_calls.specs.Links.Events.{Event, Ending, answers, fails, lacks_memory, AnswersFrom, FailsFrom, in_sending, in_receiving, EndsBy, Runs}
+use Rattle.cluster_calls.specs.Links.Events.{Event, Ending, answers, fails, AnswersFrom, FailsFrom, in_sending, in_receiving, EndsBy, Runs}
 use Rattle.cluster_calls.specs.Links.Request.{Request}
 use Rattle.cluster_calls.specs.Links.World.{Node, link_at, set_link}
 use Rattle.cluster_calls.proofs.LinkLaws.PlayedRuns.{calls_run}
@@ -136,7 +136,6 @@ failed setup old new bytes count taken refusal s (in_receiving k values) = not_r
 ends_so : (setup : Setup) (old new : Seen) (qs : List Request) (taken : List Tree) (ending : Ending) → Stands setup old → EndsBy old new qs taken ending → Stands setup new
 ends_so setup old new qs taken (answers replies) s k = answered setup old new s k.contract.was_open k
 ends_so setup old new qs taken (fails fault) s k = failed setup old new _ _ taken _ s k
-ends_so setup old new qs taken lacks_memory s k = failed setup old new _ _ taken _ s k
 
 -- ---- all links
 

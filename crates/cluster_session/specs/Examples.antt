@@ -1,9 +1,9 @@
 -- Texts and the sessions that they spell, computed.
-use Rattle.std.specs.Prelude.{◌≡◌, false, [], ◌∷◌, Ok, Err, codes, refl}
+use Rattle.std.specs.Prelude.{◌≡◌, true, false, [], ◌∷◌, Ok, Err, codes, refl}
 use Rattle.std.specs.Str.{is_utf8, chars}
 use lib.Utf8.{encode}
 use Rattle.hex.specs.Hex.{decode_pairs}
-use Rattle.cluster_calls.specs.Calls.Call.{Pipeline}
+use Rattle.cluster_calls.specs.Calls.Call.{Each, Pipeline}
 use Rattle.cluster_session.specs.Lines.{command_of, said_by}
 use Rattle.cluster_session.specs.Script.{session_in_text}
 
@@ -49,3 +49,16 @@ pub a_pipeline_takes_its_commands :
     })
 unfolding said_by is_utf8 chars encode decode_pairs
 a_pipeline_takes_its_commands = refl
+
+-- of two pipelines the first tells of each of its commands, and the second has none
+pub each_pipeline_is_told_as_it_began :
+    session_in_text (codes "each\nskip 61\nrun\npipe\nrun")
+    ≡ Ok (record {
+      nodes = [];
+      read_only = [];
+      budget = 1;
+      levels = 100;
+      calls = Each (record { command = command_of ((97 ∷ []) ∷ []); ignored = true } ∷ []) ∷ Pipeline [] ∷ [];
+    })
+unfolding said_by is_utf8 chars encode decode_pairs
+each_pipeline_is_told_as_it_began = refl

@@ -23,6 +23,7 @@ pub data Meaning : Type 0 where
   levels : ℕ → Meaning
   call : Call → Meaning
   pipe : Meaning
+  each : Meaning
   multi : Meaning
   command : Entry → Meaning
   run : Meaning
@@ -180,6 +181,7 @@ said_by word args =
     if bytes_eq word (codes "fan") then fan_line args else
     if bytes_eq word (codes "at") then at_line args else
     if bytes_eq word (codes "pipe") then alone pipe args else
+    if bytes_eq word (codes "each") then alone each args else
     if bytes_eq word (codes "multi") then alone multi args else
     if bytes_eq word (codes "cmd") then command_line false args else
     if bytes_eq word (codes "skip") then command_line true args else

@@ -3,7 +3,7 @@ use Rattle.std.specs.Prelude.{◌≡◌, ⊤, ℕ, List, map, Option, Some, None
 use Rattle.std.specs.Borrow.{Bor}
 use Rattle.cluster_routing.specs.Seen.{address}
 use Rattle.cluster_client.specs.Shown.{call_in}
-use Rattle.cluster_session.specs.Lines.{Access, reading, writing, Meaning, node, fault, read_only, budget, levels, call, pipe, multi, command, run}
+use Rattle.cluster_session.specs.Lines.{Access, reading, writing, Meaning, node, fault, read_only, budget, levels, call, pipe, each, multi, command, run}
 use Rattle.cluster_session.specs.declared.session.lines.LineError.{LineError}
 use Rattle.cluster_session.specs.declared.session.lines.LineError.TheVariants.{Bad, Memory}
 use Rattle.cluster_session.specs.declared.session.script.Access.{Access as CodeAccess}
@@ -23,6 +23,7 @@ meaning_in (lines.Budget n) = budget n
 meaning_in (lines.Levels n) = levels n.limit
 meaning_in (lines.Call c) = call (call_in c)
 meaning_in lines.Pipe = pipe
+meaning_in lines.Each = each
 meaning_in lines.Multi = multi
 meaning_in (lines.Command c ignored) = command (record { command = c; ignored = ignored })
 meaning_in lines.Run = run

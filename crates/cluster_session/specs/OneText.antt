@@ -4,7 +4,7 @@ use Rattle.std.specs.Prelude.{◌≡◌, ℕ, ◌^◌, ◌<◌, List, length}
 use Rattle.std.specs.List.{AllByRecursion}
 use Rattle.cluster_routing.specs.Address.{Address}
 use Rattle.cluster_calls.specs.Links.Run.{HadMemory}
-use Rattle.cluster_calls.specs.OneServer.PromisedPlays.{HadRoom}
+use Rattle.cluster_calls.specs.OneServer.PromisedPlays.{HadRoom, LinksHadMemory}
 use Rattle.cluster_session.specs.PrintedRun.{PrintsRun}
 use Rattle.cluster_session.specs.Session.{Session, Setup}
 
@@ -17,9 +17,10 @@ pub record IsFaultless (setup : Setup) : Type 0 where
 abbrev pub AreFaultless : Session → Type 0
 AreFaultless session = AllByRecursion (λ (node : Address × Setup). IsFaultless node.1) session.nodes
 
--- no call of the run was refused for want of memory, and no write found too little room
+-- no call of the run and no link call was refused for want of memory, and no write found too little room
 abbrev pub MemoryWasThere : {session : Session} {output : List ℕ} → PrintsRun session output → Type 0
-MemoryWasThere run = HadMemory run.plays.run × HadRoom run.after.nodes
+MemoryWasThere run = HadMemory run.plays.run × LinksHadMemory run.plays.is_run.events
+    × HadRoom run.after.nodes
 
 abbrev pub OneText : Type 0
 OneText = (session : Session) (output output' : List ℕ) (p : PrintsRun session output)

@@ -7,7 +7,7 @@ use Rattle.std.specs.Fmt.{decimal, signed_decimal}
 use Rattle.resp_core.specs.Errors.{Refusal, kind_of}
 use Rattle.stream_commands.specs.Entries.{Entry}
 use Rattle.stream_commands.specs.ReadReply.{Row}
-use Rattle.cluster_calls.specs.Calls.Answer.{Answer, Value, Range, Read}
+use Rattle.cluster_calls.specs.Calls.Answer.{Answer, Value, Range, Read, Told}
 use Rattle.cluster_session.specs.KindNames.{kind_name}
 use Rattle.hex.specs.Hex.{encode_lower}
 use Rattle.resp_core.specs.Printed.{format_text, kind_text}
@@ -100,12 +100,19 @@ rows_words rows = codes "keys "
 abbrev pub refused_line : Refusal → List ℕ
 refused_line refusal = codes "err " ++ (kind_name (kind_of refusal) ++ codes "\n")
 
--- the line of an answered call: an accepted refresh has nothing more to print, and no line of a session makes
--- the others
+-- the line of a position of a pipeline
+abbrev pub outcome_line : Result Tree Refusal → List ℕ
+outcome_line (Ok value) = codes "each ok " ++ (answer_words value ++ codes "\n")
+outcome_line (Err refusal) = codes "each err " ++ (kind_name (kind_of refusal) ++ codes "\n")
+
+-- the lines of an answered call, one but where it tells of each position: an accepted refresh has nothing more
+-- to print, and no line of a session makes the others
 abbrev pub answer_line : Answer → List ℕ
 answer_line (Value reply) = codes "ok " ++ (answer_words reply ++ codes "\n")
 answer_line (Range entries) = codes "ok " ++ (entries_words entries ++ codes "\n")
 answer_line (Read rows) = codes "ok " ++ (rows_words rows ++ codes "\n")
+answer_line (Told outcomes) = codes "ok each "
+    ++ (decimal (length outcomes) ++ (codes "\n" ++ flat_map outcome_line outcomes))
 answer_line _ = codes "ok\n"
 
 abbrev pub call_line : Result Answer Refusal → List ℕ

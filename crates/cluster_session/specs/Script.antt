@@ -1,6 +1,6 @@
 -- The session that a text spells, or the number of its first bad line.
 -- Source: the session language is this repository's own (docs/SESSIONS.md).
-use Rattle.std.specs.Prelude.{ℕ, suc, ◌==◌, Bool, if◌then◌else◌, List, [], ◌∷◌, ◌++◌, length, Option, Some, None, is_some, option_map, option_and_then, unwrap_or, ok_or, Result, Ok, Err, codes, bytes_eq}
+use Rattle.std.specs.Prelude.{ℕ, suc, ◌==◌, Bool, true, false, if◌then◌else◌, List, [], ◌∷◌, ◌++◌, length, Option, Some, None, is_some, option_map, option_and_then, unwrap_or, ok_or, Result, Ok, Err, codes, bytes_eq}
 use Rattle.std.specs.List.{list_any}
 use Rattle.std.specs.Result.{result_map_both}
 use Rattle.std.specs.Str.{is_utf8}
@@ -8,8 +8,8 @@ use Rattle.std.specs.BTreeMap.{insert_entry, is_at}
 use Rattle.std.specs.Map.{lookup, set_value}
 use Rattle.resp_args.specs.Command.{Command}
 use Rattle.cluster_routing.specs.Address.{Address, address_cmp}
-use Rattle.cluster_calls.specs.Calls.Call.{Call, Pipeline, Transaction, Entry}
-use Rattle.cluster_session.specs.Lines.{Access, reading, writing, Meaning, node, fault, read_only, budget, levels, call, pipe, multi, command, run, Words, is_skipped, pieces, said_by_text}
+use Rattle.cluster_calls.specs.Calls.Call.{Call, Pipeline, Each, Transaction, Entry}
+use Rattle.cluster_session.specs.Lines.{Access, reading, writing, Meaning, node, fault, read_only, budget, levels, call, pipe, each, multi, command, run, Words, is_skipped, pieces, said_by_text}
 use Rattle.cluster_session.specs.Session.{Session, Setup}
 
 -- what is set up for each node, by ascending address
@@ -17,7 +17,7 @@ abbrev pub Nodes : Type 0
 Nodes = List (Address × Setup)
 
 -- What the lines so far set up and call, and the commands of a pipeline or a transaction that no line has
--- ended yet.
+-- ended yet; of a pipeline also whether it tells of each of them.
 pub record Draft : Type 0 where
   pub nodes : Nodes
   pub read_only : List (List ℕ)
@@ -25,6 +25,7 @@ pub record Draft : Type 0 where
   pub levels : Option ℕ
   pub calls : List Call
   pub pipeline : Option (List Entry)
+  pub tells_each : Bool
   pub transaction : Option (List Command)
 
 abbrev pub nothing_yet : Draft
@@ -35,6 +36,7 @@ nothing_yet = record {
   levels = None;
   calls = [];
   pipeline = None;
+  tells_each = false;
   transaction = None;
 }
 
@@ -97,9 +99,9 @@ abbrev pub is_run : List ℕ → Bool
 is_run line = bytes_eq line (codes "run")
 
 -- a pipeline begins, where a line behind this one ends it
-abbrev pub begin_pipeline : Words → Draft → Option Draft
-begin_pipeline later draft = if list_any is_run later then Some (record draft { pipeline = Some [] })
-    else None
+abbrev pub begin_pipeline : Bool → Words → Draft → Option Draft
+begin_pipeline tells_each later draft = if list_any is_run later
+    then Some (record draft { pipeline = Some []; tells_each = tells_each }) else None
 
 abbrev pub begin_transaction : Words → Draft → Option Draft
 begin_transaction later draft = if list_any is_run later then Some (record draft { transaction = Some [] })
@@ -115,15 +117,21 @@ add_outside later (read_only name) draft = before_calls draft (Some (add_read_on
 add_outside later (budget number) draft = before_calls draft (set_budget number draft)
 add_outside later (levels number) draft = before_calls draft (set_levels number draft)
 add_outside later (call c) draft = Some (add_call c draft)
-add_outside later pipe draft = begin_pipeline later draft
+add_outside later pipe draft = begin_pipeline false later draft
+add_outside later each draft = begin_pipeline true later draft
 add_outside later multi draft = begin_transaction later draft
 add_outside later (command entry) draft = None
 add_outside later run draft = None
 
+-- the call of a pipeline
+abbrev pub pipeline_call : Bool → List Entry → Call
+pipeline_call tells_each entries = if tells_each then Each entries else Pipeline entries
+
 -- inside a pipeline of these commands so far
 abbrev pub add_inside : List Entry → Meaning → Draft → Option Draft
 add_inside entries (command entry) draft = Some (record draft { pipeline = Some (entries ++ entry ∷ []) })
-add_inside entries run draft = Some (add_call (Pipeline entries) (record draft { pipeline = None }))
+add_inside entries run draft = Some
+    (add_call (pipeline_call draft.tells_each entries) (record draft { pipeline = None }))
 add_inside entries _ draft = None
 
 -- inside a transaction of these commands so far, none of which is left out of the answer

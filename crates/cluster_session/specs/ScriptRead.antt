@@ -37,6 +37,7 @@ draft_in script = record {
   levels = option_map (λ levels. levels.limit) script.levels;
   calls = map call_in script.calls.items;
   pipeline = script.pipeline;
+  tells_each = script.tells_each;
   transaction = option_map (λ commands. commands.items) script.transaction;
 }
 

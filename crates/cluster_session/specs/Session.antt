@@ -1,6 +1,6 @@
 -- A session as plain data: what is set up for each node, and the calls.
 -- Source: the session language is this repository's own (docs/SESSIONS.md).
-use Rattle.std.specs.Prelude.{ℕ, true, List, [], map, Some}
+use Rattle.std.specs.Prelude.{ℕ, true, false, List, [], map, Some}
 use Rattle.resp_core.specs.Counts.{no_reads}
 use Rattle.resp_core.specs.Promise.{refuses_at}
 use Rattle.resp_link.specs.Call.{Seen}
@@ -40,6 +40,7 @@ link_at_start levels setup = record {
   write_counts = no_writes (refuses_at setup.failing_write);
   flushed = true;
   usable = true;
+  owes = false;
   limit = levels;
 }
 

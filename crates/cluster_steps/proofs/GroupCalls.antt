@@ -14,7 +14,7 @@ use Rattle.cluster_calls.specs.Links.Log.{Exchange, requests, is_unanswered, is_
 use Rattle.cluster_calls.specs.Links.World.{Node, Called, Calls, link_at, is_usable, open_links}
 use Rattle.cluster_calls.specs.Links.Exchanges.{Exchanges, not_begun, made}
 use Rattle.cluster_calls.specs.Links.Faults.{LinkFault, refusal_by_fault}
-use Rattle.cluster_calls.specs.Links.Events.{Event, Ending, answers, fails, lacks_memory, EndsBy, reply_count, AllTo, LinkCalled, AgreesAt, is_memory_ending, is_answer_ending, exchanges_at, pair_up}
+use Rattle.cluster_calls.specs.Links.Events.{Event, Ending, answers, fails, EndsBy, reply_count, AllTo, LinkCalled, AgreesAt, is_memory_ending, is_answer_ending, exchanges_at, pair_up}
 use Rattle.cluster_steps.specs.Groups.{Group}
 use Rattle.cluster_steps.specs.GroupRuns.{is_moved_tree, group_node, IsGroupPlaced, GroupByGroup}
 use Rattle.cluster_calls.specs.Calls.Refusals.{pipeline_refusal}
@@ -151,7 +151,7 @@ told_by old new before after g taken (Ok trees) d open' called ends =
     (whole_answered before after g.requests taken trees ends (count ∙ sym (direct_count g.requests d)), count)
 told_by old new before after g taken (Err e) d open' called ends = ended_refusal old new g.requests 0 (length g.requests) e (direct_whole g.requests d) open' called
 
-group_made : (old new : List Node) (g : Group) (result : Result (List Tree) Refusal) → IsGroupPlaced old g
+pub group_made : (old new : List Node) (g : Group) (result : Result (List Tree) Refusal) → IsGroupPlaced old g
     → Calls old new g.which (λ before after. Called before after (bytes_of g.requests) 0 (length g.requests) result) → GroupMade old new g result
 group_made old new g result p calls =
     let node = group_node g.requests in
@@ -190,17 +190,15 @@ module _ (old new : List Node) (g : Group) (trees : List Tree) (p : IsGroupPlace
       ∙ set_open old (group_node g.requests) m.called.before m.called.after m.called.found
       (ends_usable m.called.before m.called.after g.requests m.taken (answers trees) m.called.ends ∙ sym (ends_was_open m.called.before m.called.after g.requests m.taken (answers trees) m.called.ends))
 
-failed_unanswered : (b a : Seen) (node : Address) (qs : List Request) (taken : List Tree) (e : Ending) (refusal : Refusal) (place : ℕ) → qs ≢ [] → AllTo node qs → ending_refusal e ≡ Some refusal → refusal ≢ by_cause Memory → EndsBy b a qs taken e
+failed_unanswered : (b a : Seen) (node : Address) (qs : List Request) (taken : List Tree) (e : Ending) (refusal : Refusal) (place : ℕ) → qs ≢ [] → AllTo node qs → ending_refusal e ≡ Some refusal → EndsBy b a qs taken e
     → list_any is_unanswered (pair_up (replies_of taken) place qs) ≡ true
-failed_unanswered b a node qs taken (answers replies) refusal place some all is m ends = cc
-failed_unanswered b a node qs taken (fails fault) refusal place some all is m ends =
+failed_unanswered b a node qs taken (answers replies) refusal place some all is ends = cc
+failed_unanswered b a node qs taken (fails fault) refusal place some all is ends =
     lost_unanswered node (pair_up (replies_of taken) place qs) (some_lost node qs (replies_of taken) place all (ends_pairs b a qs taken (fails fault) some ends))
-failed_unanswered b a node qs taken lacks_memory refusal place some all is m ends = absurd (m (let same : refusal ≡ by_cause Memory = cc in same))
 
 not_answered : (e : Ending) (refusal : Refusal) → ending_refusal e ≡ Some refusal → is_answer_ending e ≡ false
 not_answered (answers replies) refusal is = cc
 not_answered (fails fault) refusal is = refl
-not_answered lacks_memory refusal is = refl
 
 module _ (old new : List Node) (g : Group) (e : Refusal) (p : IsGroupPlaced old g) (m : GroupMade old new g (Err e)) where
   abbrev failed : Event
@@ -212,10 +210,10 @@ module _ (old new : List Node) (g : Group) (e : Refusal) (p : IsGroupPlaced old 
   pub failed_memory : e ≢ by_cause Memory → is_memory_ending failed.ending ≡ false
   failed_memory had = had_memory_by failed.ending e had m.told
 
-  pub failed_lost : e ≢ by_cause Memory → (place : ℕ) → list_any is_unanswered (exchanges_at place failed) ≡ true
-  failed_lost had place = failed_unanswered m.called.before m.called.after (group_node g.requests) g.requests m.taken failed.ending e place p.some p.to_node m.told had m.called.ends
+  pub failed_lost : (place : ℕ) → list_any is_unanswered (exchanges_at place failed) ≡ true
+  failed_lost place = failed_unanswered m.called.before m.called.after (group_node g.requests) g.requests m.taken failed.ending e place p.some p.to_node m.told m.called.ends
 
-  pub failed_refusal : e ≢ by_cause Memory → (faults : Address → LinkFault) → AgreesAt faults (group_node g.requests) failed.ending → (place : ℕ) (errors : List (ℕ × ErrorText)) → pipeline_refusal faults (exchanges_at place failed) errors ≡ Some e
-  failed_refusal had faults agrees place errors =
-      refused_in faults (group_node g.requests) g.requests (replies_of m.taken) place errors p.to_node (failed_lost had place)
-      ∙ ap (λ k. Some k) (sym (refusal_agrees faults (group_node g.requests) failed.ending e had m.told agrees))
+  pub failed_refusal : (faults : Address → LinkFault) → AgreesAt faults (group_node g.requests) failed.ending → (place : ℕ) (errors : List (ℕ × ErrorText)) → pipeline_refusal faults (exchanges_at place failed) errors ≡ Some e
+  failed_refusal faults agrees place errors =
+      refused_in faults (group_node g.requests) g.requests (replies_of m.taken) place errors p.to_node (failed_lost place)
+      ∙ ap (λ k. Some k) (sym (refusal_agrees faults (group_node g.requests) failed.ending e m.told agrees))

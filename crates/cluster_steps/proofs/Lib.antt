@@ -20,3 +20,4 @@ pub mod PipelineReads
 pub mod AttemptReplies
 pub mod DistinctLinks
 pub mod KnownLinks
+pub mod AtOnce

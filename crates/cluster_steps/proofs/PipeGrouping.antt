@@ -1,32 +1,38 @@
 -- Requests are put to their places one after another.
-use Rattle.std.specs.Prelude.{not, ◌||◌, filter, filter_map, nat_eq, nat_lt, slice_get, slice_set}
-use Rattle.std.specs.List.{AllByRecursion, list_all, cons_option}
-use Rattle.std.proofs.Common.{◌≡◌, ◌<◌, ℕ, zero, suc, ◌==◌, Bool, true, false, cond, List, [], ◌∷◌, ◌++◌, map, length, Option, Some, None, option_map, refl, sym, ap, ◌∙◌, arith, eqb-true, lt-ltb, append-nil}
-use Rattle.std.proofs.lemmas.Bool.Decides.{nat_tests}
+use Rattle.std.specs.Prelude.{not, ◌||◌, filter, nat_eq, slice_get, slice_set, MatchOption}
+use Rattle.std.specs.List.{AllByRecursion}
+use Rattle.std.proofs.Common.{◌≡◌, ◌<◌, ℕ, zero, suc, ◌==◌, Bool, true, false, cond, List, [], ◌∷◌, ◌++◌, map, length, Option, Some, None, option_map, refl, sym, ap, subst, ◌∙◌, eqb-true, eq-eqb, append-nil}
+use Rattle.std.proofs.lemmas.Bool.{false≢true}
 use Rattle.std.proofs.lemmas.List.{map-append}
 use Rattle.std.proofs.lemmas.List.Elements.{filter-append}
 use Rattle.std.proofs.lemmas.Option.{slice_get-map}
-use Rattle.cluster_routing.specs.Lists.{among, firsts, is_distinct, IsDistinct, numbers_below}
-use Rattle.cluster_routing.proofs.Marks.{below_front}
-use Rattle.cluster_routing.proofs.Placed.{set_below}
+use Rattle.cluster_routing.specs.Lists.{among, firsts, IsDistinct}
 use Rattle.cluster_steps.specs.declared.dispatch.Dispatch.{Dispatch as CodeDispatch}
 use Rattle.cluster_steps.specs.declared.grouped.Gathered.{Gathered}
 use Rattle.cluster_calls.specs.Links.Request.{Request}
-use Rattle.cluster_steps.specs.Groups.{Group, group_at, gathered_of, place_in, request_in, with_request}
-use Rattle.cluster_steps.proofs.PipeGroups.{map_twice, all-firsts}
-use Rattle.cluster_steps.proofs.PipeOrder.{eq_swap}
+use Rattle.cluster_steps.specs.Groups.{Group, AreNumbered, Puts, empty_group, group_at, gathered_of, place_in, places_in_use, request_in, with_place, with_request}
+use Rattle.cluster_calls.proofs.ServerLaws.Distinct.{firsts_distinct}
+use Rattle.cluster_steps.proofs.PipeGroups.{all-firsts}
+use Rattle.cluster_steps.proofs.PipeOrder.{eq_swap, none_kept}
 
--- ---- lists by places
+-- ---- elements by their places
 
-alike_below : {X : Type 0} (g h : ℕ → X) (ns : List ℕ) → ((n : ℕ) → g n ≡ h n) → map g ns ≡ map h ns
-alike_below g h [] e = refl
-alike_below g h (n ∷ ns) e = ap (λ x. x ∷ map g ns) (e n) ∙ ap (λ ys. h n ∷ ys) (alike_below g h ns e)
+at_front : {X : Type 0} (xs ys : List X) (i : ℕ) (x : X) → slice_get xs i ≡ Some x → slice_get (xs ++ ys) i ≡ Some x
+at_front [] ys i x e = cc
+at_front (z ∷ xs) ys zero x e = e
+at_front (z ∷ xs) ys (suc i) x e = at_front xs ys i x e
 
-pub get_below : {X : Type 0} (g : ℕ → X) (n i : ℕ) → i < n → slice_get (map g (numbers_below n)) i ≡ Some (g i)
-get_below g zero i h = absurd (let f : ⊥ = omega (arith, h) in f)
-get_below g (suc n) zero h = ap (λ ns. slice_get (map g ns) 0) (below_front n)
-get_below g (suc n) (suc i) h =
-    ap (λ ns. slice_get (map g ns) (suc i)) (below_front n) ∙ ap (λ ys. slice_get ys i) (map_twice (λ m. suc m) g (numbers_below n)) ∙ get_below (λ m. g (suc m)) n i (omega (arith, h))
+at_end : {X : Type 0} (xs : List X) (x : X) → slice_get (xs ++ x ∷ []) (length xs) ≡ Some x
+at_end [] x = refl
+at_end (z ∷ xs) x = at_end xs x
+
+told_still : (ks more ns : List ℕ) (ds : List CodeDispatch) → map (slice_get ks) ns ≡ map (λ d. Some (place_in d)) ds → map (slice_get (ks ++ more)) ns ≡ map (λ d. Some (place_in d)) ds
+told_still ks more [] ds e = e
+told_still ks more (n ∷ ns) [] e = cc
+told_still ks more (n ∷ ns) (d ∷ ds) e =
+    let first : slice_get ks n ≡ Some (place_in d) = cc in
+    let others : map (slice_get ks) ns ≡ map (λ d. Some (place_in d)) ds = cc in
+    ap (λ o. o ∷ map (slice_get (ks ++ more)) ns) (at_front ks more n (place_in d) first) ∙ ap (λ r. Some (place_in d) ∷ r) (told_still ks more ns ds others)
 
 -- ---- first uses
 
@@ -46,28 +52,131 @@ firsts_last (y ∷ ys) x = ap (λ r. y ∷ filter q r) (firsts_last ys x) ∙ by
     by false false h =
         ap (λ r. y ∷ r) (filter-append (λ z. not (nat_eq y z)) (firsts nat_eq ys) (x ∷ []) ∙ ap (λ c. filter (λ z. not (nat_eq y z)) (firsts nat_eq ys) ++ cond (not c) (x ∷ []) []) h)
 
--- a place is unused where no dispatch before goes to it
-unused : (which : ℕ) (ds : List CodeDispatch) → (length (map request_in (filter (λ d. which == place_in d) ds)) == 0) ≡ not (among nat_eq which (map place_in ds))
-unused which [] = grind (arith, nat_tests)
-unused which (d ∷ ds) = by (nat_eq which (place_in d)) (unused which ds)
+among-unlike : (x y : ℕ) (zs : List ℕ) → nat_eq x y ≡ false → among nat_eq x (filter (λ z. not (nat_eq y z)) zs) ≡ among nat_eq x zs
+among-unlike x y [] n = refl
+among-unlike x y (z ∷ zs) n = by (nat_eq y z) refl (among-unlike x y zs n)
   where
-    by : (b : Bool) → (length (map request_in (filter (λ d. which == place_in d) ds)) == 0) ≡ not (among nat_eq which (map place_in ds))
-        → (length (map request_in (cond b (d ∷ filter (λ d. which == place_in d) ds) (filter (λ d. which == place_in d) ds))) == 0) ≡ not (b || among nat_eq which (map place_in ds))
-    by true h = some (length (map request_in (filter (λ d. which == place_in d) ds)))
-      where
-        some : (n : ℕ) → (suc n == 0) ≡ false
-        some n = grind (arith, nat_tests)
+    by : (b : Bool) → nat_eq y z ≡ b → among nat_eq x (filter (λ z. not (nat_eq y z)) zs) ≡ among nat_eq x zs
+        → among nat_eq x (cond (not b) (z ∷ filter (λ z. not (nat_eq y z)) zs) (filter (λ z. not (nat_eq y z)) zs)) ≡ (nat_eq x z || among nat_eq x zs)
+    by true e ih = ih ∙ ap (λ b. b || among nat_eq x zs) (sym (subst (λ k. nat_eq x k ≡ false) (eqb-true y z e) n))
+    by false e ih = ap (λ b. nat_eq x z || b) ih
+
+among_firsts : (x : ℕ) (xs : List ℕ) → among nat_eq x (firsts nat_eq xs) ≡ among nat_eq x xs
+among_firsts x [] = refl
+among_firsts x (y ∷ ys) = by (nat_eq x y) refl (among_firsts x ys)
+  where
+    by : (b : Bool) → nat_eq x y ≡ b → among nat_eq x (firsts nat_eq ys) ≡ among nat_eq x ys → (b || among nat_eq x (filter (λ z. not (nat_eq y z)) (firsts nat_eq ys))) ≡ (b || among nat_eq x ys)
+    by true e ih = refl
+    by false e ih = among-unlike x y (firsts nat_eq ys) e ∙ ih
+
+among_at : (x : ℕ) (xs : List ℕ) (n : ℕ) → slice_get xs n ≡ Some x → among nat_eq x xs ≡ true
+among_at x [] n e = cc
+among_at x (y ∷ ys) zero e = let same : x ≡ y = cc in ap (λ b. b || among nat_eq x ys) (eq-eqb x y same)
+among_at x (y ∷ ys) (suc n) e = by (nat_eq x y) (among_at x ys n e)
+  where
+    by : (b : Bool) → among nat_eq x ys ≡ true → (b || among nat_eq x ys) ≡ true
+    by true h = refl
     by false h = h
 
+among_last : (x y : ℕ) (xs : List ℕ) → nat_eq x y ≡ false → among nat_eq x xs ≡ false → among nat_eq x (xs ++ y ∷ []) ≡ false
+among_last x y [] n h = ap (λ b. b || false) n
+among_last x y (z ∷ zs) n h = by (nat_eq x z) h (among_last x y zs n)
+  where
+    by : (b : Bool) → (b || among nat_eq x zs) ≡ false → (among nat_eq x zs ≡ false → among nat_eq x (zs ++ y ∷ []) ≡ false) → (b || among nat_eq x (zs ++ y ∷ [])) ≡ false
+    by true h ih = absurd (false≢true (sym h))
+    by false h ih = ih h
+
+-- ---- one element of a list by places is changed
+
+unlike_all : {X : Type 0} (g : ℕ → X) (v : X) (w : ℕ) (ks : List ℕ) → among nat_eq w ks ≡ false → map g ks ≡ map (λ k. cond (k == w) v (g k)) ks
+unlike_all g v w [] h = refl
+unlike_all g v w (k ∷ ks) h = by (nat_eq w k) refl h (unlike_all g v w ks)
+  where
+    by : (b : Bool) → nat_eq w k ≡ b → (b || among nat_eq w ks) ≡ false → (among nat_eq w ks ≡ false → map g ks ≡ map (λ k. cond (k == w) v (g k)) ks)
+        → g k ∷ map g ks ≡ cond (k == w) v (g k) ∷ map (λ k. cond (k == w) v (g k)) ks
+    by true e h ih = absurd (false≢true (sym h))
+    by false e h ih = ap (λ b. cond b v (g k) ∷ map g ks) (sym (eq_swap k w ∙ e)) ∙ ap (λ r. cond (k == w) v (g k) ∷ r) (ih h)
+
+unlike_at : (k w : ℕ) (ks : List ℕ) (n : ℕ) → among nat_eq k ks ≡ false → slice_get ks n ≡ Some w → nat_eq k w ≡ false
+unlike_at k w ks n h e = by (nat_eq k w) refl
+  where
+    by : (b : Bool) → nat_eq k w ≡ b → b ≡ false
+    by true f = absurd (false≢true (sym h ∙ among_at k ks n (e ∙ ap (λ j. Some j) (sym (eqb-true k w f)))))
+    by false f = refl
+
+set_one : {X : Type 0} (g : ℕ → X) (v : X) (w : ℕ) (ks : List ℕ) (n : ℕ) → IsDistinct nat_eq ks → slice_get ks n ≡ Some w → slice_set (map g ks) n v ≡ map (λ k. cond (k == w) v (g k)) ks
+set_one g v w [] n d e = cc
+set_one g v w (k ∷ ks) zero d e =
+    let same : k ≡ w = cc in
+    ap (λ b. cond b v (g k) ∷ map g ks) (sym (eq-eqb k w same)) ∙ ap (λ r. cond (k == w) v (g k) ∷ r) (unlike_all g v w ks (subst (λ j. among nat_eq j ks ≡ false) same d.0))
+set_one g v w (k ∷ ks) (suc n) d e =
+    ap (λ b. cond b v (g k) ∷ slice_set (map g ks) n v) (sym (unlike_at k w ks n d.0 e)) ∙ ap (λ r. cond (k == w) v (g k) ∷ r) (set_one g v w ks n d.1 e)
+
+alike : {X : Type 0} (g h : ℕ → X) (ks : List ℕ) → ((k : ℕ) → g k ≡ h k) → map g ks ≡ map h ks
+alike g h [] e = refl
+alike g h (k ∷ ks) e = ap (λ x. x ∷ map g ks) (e k) ∙ ap (λ r. h k ∷ r) (alike g h ks e)
+
+-- ---- one more place in use
+
+pub places_of_groups : (ds : List CodeDispatch) (ks : List ℕ) → places_in_use (map (group_at ds) ks) ≡ ks
+places_of_groups ds [] = refl
+places_of_groups ds (k ∷ ks) = ap (λ r. k ∷ r) (places_of_groups ds ks)
+
+place_more : (ds : List CodeDispatch) (which : ℕ) → with_place (map (group_at ds) (firsts nat_eq (map place_in ds))) which ≡ map (group_at ds) (firsts nat_eq (map place_in ds ++ which ∷ []))
+place_more ds which =
+    ap (λ b. cond b (map (group_at ds) used) (map (group_at ds) used ++ empty_group which ∷ [])) (ap (among nat_eq which) (places_of_groups ds used) ∙ among_firsts which (map place_in ds))
+    ∙ by (among nat_eq which (map place_in ds)) refl ∙ ap (map (group_at ds)) (sym (firsts_last (map place_in ds) which))
+  where
+    used : List ℕ
+    used = firsts nat_eq (map place_in ds)
+
+    by : (b : Bool) → among nat_eq which (map place_in ds) ≡ b
+        → cond b (map (group_at ds) (firsts nat_eq (map place_in ds))) (map (group_at ds) (firsts nat_eq (map place_in ds)) ++ empty_group which ∷ [])
+        ≡ map (group_at ds) (cond b (firsts nat_eq (map place_in ds)) (firsts nat_eq (map place_in ds) ++ which ∷ []))
+    by true e = refl
+    by false e =
+        ap (λ (found : List CodeDispatch). map (group_at ds) (firsts nat_eq (map place_in ds)) ++ record { which = which; requests = map request_in found } ∷ []) (sym (none_kept place_in which ds e))
+        ∙ sym (map-append (group_at ds) (firsts nat_eq (map place_in ds)) (which ∷ []))
+
+-- a place that has no number is new, and one that has one is there
+pub place_new : (told : ℕ → Option ℕ) (groups : List Group) (which : ℕ) → AreNumbered told groups → told which ≡ None → groups ++ empty_group which ∷ [] ≡ with_place groups which
+place_new told groups which numbered none =
+    let new : among nat_eq which (places_in_use groups) ≡ false = subst (λ o. MatchOption o (among nat_eq which (places_in_use groups) ≡ false) (λ n. slice_get (places_in_use groups) n ≡ Some which)) none (numbered which) in
+    ap (λ b. cond b groups (groups ++ empty_group which ∷ [])) (sym new)
+
+pub place_numbered : (told : ℕ → Option ℕ) (groups : List Group) (which number : ℕ) → AreNumbered told groups → told which ≡ Some number → slice_get (places_in_use groups) number ≡ Some which
+place_numbered told groups which number numbered some =
+    subst (λ o. MatchOption o (among nat_eq which (places_in_use groups) ≡ false) (λ n. slice_get (places_in_use groups) n ≡ Some which)) some (numbered which)
+
+pub place_there : (told : ℕ → Option ℕ) (groups : List Group) (which number : ℕ) → AreNumbered told groups → told which ≡ Some number → groups ≡ with_place groups which
+place_there told groups which number numbered some =
+    ap (λ b. cond b groups (groups ++ empty_group which ∷ [])) (sym (among_at which (places_in_use groups) number (place_numbered told groups which number numbered some)))
+
+pub place_last : (groups : List Group) (which : ℕ) → slice_get (places_in_use (groups ++ empty_group which ∷ [])) (length groups) ≡ Some which
+place_last groups which =
+    slice_get-map (λ (g : Group). g.which) (groups ++ empty_group which ∷ []) (length groups) ∙ ap (option_map (λ (g : Group). g.which)) (at_end groups (empty_group which))
+
+pub numbered_more : (told told' : ℕ → Option ℕ) (groups : List Group) (which : ℕ) → AreNumbered told groups → ((k : ℕ) → told' k ≡ cond (k == which) (Some (length groups)) (told k))
+    → AreNumbered told' (groups ++ empty_group which ∷ [])
+numbered_more told told' groups which numbered given = λ k. subst (λ o. Told k o) (sym (given k)) (by k (k == which) refl)
+  where
+    Told : ℕ → Option ℕ → Type 0
+    Told k o = MatchOption o (among nat_eq k (places_in_use (groups ++ empty_group which ∷ [])) ≡ false) (λ n. slice_get (places_in_use (groups ++ empty_group which ∷ [])) n ≡ Some k)
+
+    places : places_in_use (groups ++ empty_group which ∷ []) ≡ places_in_use groups ++ which ∷ []
+    places = map-append (λ (g : Group). g.which) groups (empty_group which ∷ [])
+
+    before : (k : ℕ) → nat_eq k which ≡ false → (o : Option ℕ) → told k ≡ o → MatchOption o (among nat_eq k (places_in_use groups) ≡ false) (λ n. slice_get (places_in_use groups) n ≡ Some k)
+        → MatchOption o (among nat_eq k (places_in_use (groups ++ empty_group which ∷ [])) ≡ false) (λ n. slice_get (places_in_use (groups ++ empty_group which ∷ [])) n ≡ Some k)
+    before k other None e h = ap (among nat_eq k) places ∙ among_last k which (places_in_use groups) other h
+    before k other (Some n) e h = ap (λ ks. slice_get ks n) places ∙ at_front (places_in_use groups) (which ∷ []) n k h
+
+    by : (k : ℕ) (b : Bool) → (k == which) ≡ b
+        → MatchOption (cond b (Some (length groups)) (told k)) (among nat_eq k (places_in_use (groups ++ empty_group which ∷ [])) ≡ false) (λ n. slice_get (places_in_use (groups ++ empty_group which ∷ [])) n ≡ Some k)
+    by k true e = place_last groups which ∙ ap (λ j. Some j) (sym (eqb-true k which e))
+    by k false e = before k e (told k) refl (numbered k)
+
 -- ---- one more request
-
--- what the loop over dispatches keeps
-pub record Grouping (count : ℕ) (ds : List CodeDispatch) (groups : List Group) (order : List ℕ) : Type 0 where
-  pub are : groups ≡ map (group_at ds) (numbers_below count)
-  pub used : order ≡ firsts nat_eq (map place_in ds)
-
-pub grouping_found : {count : ℕ} {ds : List CodeDispatch} {groups : List Group} {order : List ℕ} → Grouping count ds groups order → (which : ℕ) → which < count → slice_get groups which ≡ Some (group_at ds which)
-grouping_found {count} {ds} g which within = ap (λ gs. slice_get gs which) g.are ∙ get_below (group_at ds) count which within
 
 one_more : (ds : List CodeDispatch) (d : CodeDispatch) (k : ℕ) → cond (k == place_in d) (with_request (group_at ds (place_in d)) (request_in d)) (group_at ds k) ≡ group_at (ds ++ d ∷ []) k
 one_more ds d k = by (k == place_in d) refl
@@ -82,58 +191,48 @@ one_more ds d k = by (k == place_in d) refl
         ap (λ n. with_request (group_at ds n) (request_in d)) (sym (eqb-true k (place_in d) e)) ∙ ap (λ qs. record { which = k; requests = qs }) (sym (whole true e))
     by false e = ap (λ qs. record { which = k; requests = qs }) (sym (whole false e ∙ append-nil _))
 
-pub grouping_more : {count : ℕ} {ds : List CodeDispatch} {groups : List Group} {order : List ℕ} → Grouping count ds groups order → (d : CodeDispatch) → place_in d < count → (marked : List ℕ) (unused_yet : Bool) → unused_yet ≡ (length (group_at ds (place_in d)).requests == 0)
-    → marked ≡ cond unused_yet (order ++ place_in d ∷ []) order → (put : List Group) → put ≡ slice_set groups (place_in d) (with_request (group_at ds (place_in d)) (request_in d)) → Grouping count (ds ++ d ∷ []) put marked
-grouping_more {count} {ds} {groups} {order} g d within marked unused_yet first m put p = record {
-  are = p ∙ ap (λ gs. slice_set gs (place_in d) (with_request (group_at ds (place_in d)) (request_in d))) g.are
-      ∙ set_below (group_at ds) (with_request (group_at ds (place_in d)) (request_in d)) count (place_in d) within
-      ∙ alike_below (λ m. cond (m == place_in d) (with_request (group_at ds (place_in d)) (request_in d)) (group_at ds m)) (group_at (ds ++ d ∷ [])) (numbers_below count) (one_more ds d);
-  used = m ∙ ap (λ b. cond b (order ++ place_in d ∷ []) order) (first ∙ unused (place_in d) ds) ∙ ap (λ ns. cond (not (among nat_eq (place_in d) (map place_in ds))) (ns ++ place_in d ∷ []) ns) g.used
-      ∙ turned (among nat_eq (place_in d) (map place_in ds)) ∙ sym (firsts_last (map place_in ds) (place_in d)) ∙ ap (firsts nat_eq) (sym (map-append place_in ds (d ∷ [])));
+-- what the loop over dispatches keeps of the groups and of the numbers of their requests
+pub record Grouping (ds : List CodeDispatch) (groups : List Group) (numbers : List ℕ) : Type 0 where
+  pub are : groups ≡ map (group_at ds) (firsts nat_eq (map place_in ds))
+  pub numbered : map (slice_get (firsts nat_eq (map place_in ds))) numbers ≡ map (λ d. Some (place_in d)) ds
+
+pub grouping_start : (groups : List Group) (numbers : List ℕ) → groups ≡ [] → numbers ≡ [] → Grouping [] groups numbers
+grouping_start groups numbers e f = record { are = e; numbered = ap (map (slice_get [])) f }
+
+-- a request to a place leads on from what is kept so far: first the place has a group, and then the group has the request
+pub grouping_more : (ds : List CodeDispatch) (d : CodeDispatch) (groups placed put : List Group) (numbers : List ℕ) (number : ℕ) → Grouping ds groups numbers → placed ≡ with_place groups (place_in d)
+    → slice_get (places_in_use placed) number ≡ Some (place_in d) → Puts placed put number (request_in d) → Grouping (ds ++ d ∷ []) put (numbers ++ number ∷ [])
+grouping_more ds d groups placed put numbers number g made at puts = record {
+  are = puts (group_at ds (place_in d)) found ∙ ap (λ gs. slice_set gs number more) are
+      ∙ set_one (group_at ds) more (place_in d) used number (firsts_distinct nat_eq (map place_in ds ++ place_in d ∷ [])) there
+      ∙ alike (λ k. cond (k == place_in d) more (group_at ds k)) (group_at (ds ++ d ∷ [])) used (one_more ds d) ∙ ap (λ ks. map (group_at (ds ++ d ∷ [])) ks) together;
+  numbered = ap (λ ks. map (slice_get ks) (numbers ++ number ∷ [])) (sym together) ∙ map-append (slice_get used) numbers (number ∷ [])
+      ∙ ap (λ os. os ++ slice_get used number ∷ []) (still (among nat_eq (place_in d) (map place_in ds)) (firsts_last (map place_in ds) (place_in d)))
+      ∙ ap (λ o. map (λ e. Some (place_in e)) ds ++ o ∷ []) there ∙ sym (map-append (λ e. Some (place_in e)) ds (d ∷ []));
 }
   where
-    turned : (b : Bool) → cond (not b) (firsts nat_eq (map place_in ds) ++ place_in d ∷ []) (firsts nat_eq (map place_in ds)) ≡ cond b (firsts nat_eq (map place_in ds)) (firsts nat_eq (map place_in ds) ++ place_in d ∷ [])
-    turned true = refl
-    turned false = refl
+    used : List ℕ
+    used = firsts nat_eq (map place_in ds ++ place_in d ∷ [])
 
-pub grouping_start : (count : ℕ) (groups : List Group) (order : List ℕ) → groups ≡ map (group_at []) (numbers_below count) → order ≡ [] → Grouping count [] groups order
-grouping_start count groups order e f = record { are = e; used = f }
+    more : Group
+    more = with_request (group_at ds (place_in d)) (request_in d)
 
--- ---- taken in the order of first use
+    together : firsts nat_eq (map place_in ds ++ place_in d ∷ []) ≡ firsts nat_eq (map place_in (ds ++ d ∷ []))
+    together = ap (firsts nat_eq) (sym (map-append place_in ds (d ∷ [])))
 
-places_within : (count : ℕ) (ds : List CodeDispatch) → AllByRecursion (λ d. place_in d < count) ds → AllByRecursion (λ n. n < count) (map place_in ds)
-places_within count [] h = tt
-places_within count (d ∷ ds) h = (h.0, places_within count ds h.1)
+    are : placed ≡ map (group_at ds) (firsts nat_eq (map place_in ds ++ place_in d ∷ []))
+    are = made ∙ ap (λ gs. with_place gs (place_in d)) g.are ∙ place_more ds (place_in d)
 
-all_tests : (count : ℕ) (ns : List ℕ) → AllByRecursion (λ n. n < count) ns → list_all (λ n. nat_lt n count) ns ≡ true
-all_tests count [] h = refl
-all_tests count (n ∷ ns) h = rw (lt-ltb n count h.0) (all_tests count ns h.1)
+    there : slice_get (firsts nat_eq (map place_in ds ++ place_in d ∷ [])) number ≡ Some (place_in d)
+    there = ap (λ ks. slice_get ks number) (sym (ap places_in_use are ∙ places_of_groups ds _)) ∙ at
 
-pub order_within : (count : ℕ) (ds : List CodeDispatch) → AllByRecursion (λ d. place_in d < count) ds → AllByRecursion (λ n. n < count) (firsts nat_eq (map place_in ds))
-order_within count ds h = all-firsts (λ n. n < count) nat_eq (map place_in ds) (places_within count ds h)
+    found : slice_get placed number ≡ Some (group_at ds (place_in d))
+    found = ap (λ gs. slice_get gs number) are ∙ slice_get-map (group_at ds) _ number ∙ ap (option_map (group_at ds)) there
 
-pub order_tested : (count : ℕ) (ns : List ℕ) → AllByRecursion (λ n. n < count) ns → list_all (λ n. nat_lt n count) ns ≡ true
-order_tested = all_tests
-
-pub distinct_tested : (ns : List ℕ) → IsDistinct nat_eq ns → is_distinct nat_eq ns ≡ true
-distinct_tested [] d = refl
-distinct_tested (n ∷ ns) d = rw d.0 (distinct_tested ns d.1)
-
--- groups at places that are all there
-pub taken_groups : (groups : List Gathered) (g : ℕ → Group) (count : ℕ) (order : List ℕ) → map gathered_of groups ≡ map g (numbers_below count) → AllByRecursion (λ n. n < count) order
-    → map gathered_of (filter_map (slice_get groups) order) ≡ map g order
-taken_groups groups g count [] e h = refl
-taken_groups groups g count (n ∷ ns) e h = by (slice_get groups n) refl (taken_groups groups g count ns e h.1)
-  where
-    there : option_map gathered_of (slice_get groups n) ≡ Some (g n)
-    there = sym (slice_get-map gathered_of groups n) ∙ ap (λ gs. slice_get gs n) e ∙ get_below g count n h.0
-
-    by : (o : Option Gathered) → slice_get groups n ≡ o → map gathered_of (filter_map (slice_get groups) ns) ≡ map g ns → map gathered_of (cons_option o (filter_map (slice_get groups) ns)) ≡ g n ∷ map g ns
-    by None f r = let none : None ≡ Some (g n) = sym (ap (option_map gathered_of) f) ∙ there in cc
-    by (Some c) f r =
-        let same : Some (gathered_of c) ≡ Some (g n) = sym (ap (option_map gathered_of) f) ∙ there in
-        let first : gathered_of c ≡ g n = cc in
-        ap (λ x. x ∷ map gathered_of (filter_map (slice_get groups) ns)) first ∙ ap (λ r. g n ∷ r) r
+    still : (b : Bool) → firsts nat_eq (map place_in ds ++ place_in d ∷ []) ≡ cond b (firsts nat_eq (map place_in ds)) (firsts nat_eq (map place_in ds) ++ place_in d ∷ [])
+        → map (slice_get (firsts nat_eq (map place_in ds ++ place_in d ∷ []))) numbers ≡ map (λ e. Some (place_in e)) ds
+    still true e = ap (λ ks. map (slice_get ks) numbers) e ∙ g.numbered
+    still false e = ap (λ ks. map (slice_get ks) numbers) e ∙ told_still (firsts nat_eq (map place_in ds)) (place_in d ∷ []) numbers ds g.numbered
 
 -- ---- one group
 
@@ -143,3 +242,27 @@ put_is items which old group requests q at found is =
     let there : slice_get (map gathered_of items) which ≡ Some (gathered_of old) = slice_get-map gathered_of items which ∙ ap (option_map gathered_of) at in
     let same : gathered_of old ≡ group = cc in
     ap (λ qs. record { which = old.which; requests = qs }) is ∙ ap (λ g. with_request g q) same
+
+-- a request to a group leaves the places, so their numbers too
+set_same : {A B : Type 0} (f : A → B) (xs : List A) (i : ℕ) (x y : A) → slice_get xs i ≡ Some x → f y ≡ f x → map f (slice_set xs i y) ≡ map f xs
+set_same f [] i x y at e = refl
+set_same f (z ∷ zs) zero x y at e = let same : z ≡ x = cc in ap (λ b. b ∷ map f zs) (e ∙ ap f (sym same))
+set_same f (z ∷ zs) (suc i) x y at e = ap (λ r. f z ∷ r) (set_same f zs i x y at e)
+
+pub still_numbered : (told : ℕ → Option ℕ) (old new : List Group) (number which : ℕ) (q : Request) → slice_get (places_in_use old) number ≡ Some which → Puts old new number q → AreNumbered told old → AreNumbered told new
+still_numbered told old new number which q at puts numbered = by (slice_get old number) refl
+  where
+    by : (o : Option Group) → slice_get old number ≡ o → AreNumbered told new
+    by None e = let none : None ≡ Some which = sym (slice_get-map (λ (g : Group). g.which) old number ∙ ap (option_map (λ (g : Group). g.which)) e) ∙ at in cc
+    by (Some group) e =
+        let same : places_in_use new ≡ places_in_use old = ap places_in_use (puts group e) ∙ set_same (λ (g : Group). g.which) old number group (with_request group q) e refl in
+        λ k. subst (λ ks. MatchOption (told k) (among nat_eq k ks ≡ false) (λ n. slice_get ks n ≡ Some k)) (sym same) (numbered k)
+
+-- ---- places within the links
+
+places_within : (count : ℕ) (ds : List CodeDispatch) → AllByRecursion (λ d. place_in d < count) ds → AllByRecursion (λ n. n < count) (map place_in ds)
+places_within count [] h = tt
+places_within count (d ∷ ds) h = (h.0, places_within count ds h.1)
+
+pub order_within : (count : ℕ) (ds : List CodeDispatch) → AllByRecursion (λ d. place_in d < count) ds → AllByRecursion (λ n. n < count) (firsts nat_eq (map place_in ds))
+order_within count ds h = all-firsts (λ n. n < count) nat_eq (map place_in ds) (places_within count ds h)

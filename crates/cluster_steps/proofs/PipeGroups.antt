@@ -102,7 +102,7 @@ one_of None x y e f = cc
 one_of (Some z) x y e f = cc
 
 -- two addresses have one place exactly if they are the same
-same_place : (ns : List Node) (a b : Address) (i j : ℕ) → place_at ns a ≡ Some i → place_at ns b ≡ Some j → nat_eq i j ≡ same_address a b
+pub same_place : (ns : List Node) (a b : Address) (i j : ℕ) → place_at ns a ≡ Some i → place_at ns b ≡ Some j → nat_eq i j ≡ same_address a b
 same_place ns a b i j e f = by (nat_eq i j) refl (same_address a b) refl
   where
     by : (t : Bool) → nat_eq i j ≡ t → (u : Bool) → same_address a b ≡ u → t ≡ u

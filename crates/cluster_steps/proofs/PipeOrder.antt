@@ -129,7 +129,7 @@ eq_swap a b = by (a == b) refl (b == a) refl
     by true t false u = absurd (false≢true (sym u ∙ eq-eqb b a (sym (eqb-true a b t))))
     by false t true u = absurd (false≢true (sym t ∙ eq-eqb a b (sym (eqb-true b a u))))
 
-none_kept : {D : Type 0} (key : D → ℕ) (s : ℕ) (ds : List D) → among nat_eq s (map key ds) ≡ false → filter (λ c. s == key c) ds ≡ []
+pub none_kept : {D : Type 0} (key : D → ℕ) (s : ℕ) (ds : List D) → among nat_eq s (map key ds) ≡ false → filter (λ c. s == key c) ds ≡ []
 none_kept key s [] e = refl
 none_kept key s (d ∷ ds) e = by (nat_eq s (key d)) e (λ f. none_kept key s ds f)
   where

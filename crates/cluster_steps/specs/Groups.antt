@@ -1,7 +1,8 @@
 -- The requests of a pipeline, grouped by the places of the links that they go to.
-use Rattle.std.specs.Prelude.{◌≡◌, ℕ, ◌+◌, Bool, ◌==◌, List, [], ◌∷◌, ◌++◌, map, filter, length, Some, slice_get, slice_set}
+use Rattle.std.specs.Prelude.{◌≡◌, ℕ, ◌+◌, ◌==◌, false, if◌then◌else◌, List, [], ◌∷◌, ◌++◌, map, filter, length, Option, Some, MatchOption, nat_eq, slice_get, slice_set}
 use Rattle.cluster_routing.specs.Seen.{address}
 use Rattle.cluster_routing.specs.Info.{texts}
+use Rattle.cluster_routing.specs.Lists.{among}
 use Rattle.cluster_steps.specs.declared.dispatch.Dispatch.{Dispatch as CodeDispatch}
 use Rattle.cluster_steps.specs.declared.grouped.Gathered.{Gathered}
 use Rattle.cluster_steps.specs.declared.ready.Group.{Group as CodeGroup}
@@ -41,12 +42,20 @@ abbrev pub request_count : List Group → ℕ
 request_count [] = 0
 request_count (g ∷ groups) = length g.requests + request_count groups
 
--- whether nothing goes to a place yet
-abbrev pub TellsUnused : List Group → ℕ → Bool → Type 0
-TellsUnused groups which result = (group : Group) → slice_get groups which ≡ Some group
-    → result ≡ (length group.requests == 0)
+-- the places of the groups
+abbrev pub places_in_use : List Group → List ℕ
+places_in_use groups = map (λ g. g.which) groups
 
--- a request was put behind those to its place
+-- groups with one for a place, behind the others where it is new
+abbrev pub with_place : List Group → ℕ → List Group
+with_place groups which = if among nat_eq which (places_in_use groups) then groups else groups ++ empty_group which ∷ []
+
+-- of each place the number of its group is told, where it has one
+abbrev pub AreNumbered : (ℕ → Option ℕ) → List Group → Type 0
+AreNumbered told groups = (k : ℕ) → MatchOption (told k) (among nat_eq k (places_in_use groups) ≡ false)
+    (λ number. slice_get (places_in_use groups) number ≡ Some k)
+
+-- a request was put behind those of the group with a number
 abbrev pub Puts : List Group → List Group → ℕ → Request → Type 0
-Puts old new which request = (group : Group) → slice_get old which ≡ Some group
-    → new ≡ slice_set old which (with_request group request)
+Puts old new number request = (group : Group) → slice_get old number ≡ Some group
+    → new ≡ slice_set old number (with_request group request)

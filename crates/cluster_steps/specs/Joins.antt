@@ -5,7 +5,7 @@ use Rattle.resp_core.specs.Errors.{Refusal, by_cause, by_server}
 use Rattle.resp_core.specs.declared.errors.redis_error.Cause.TheVariants.{Memory}
 use Rattle.cluster_routing.specs.Info.{shown_split}
 use Rattle.cluster_routing.specs.Split.{Split, PartsByPlace, split_of, part_slots, split_by_place}
-use Rattle.cluster_calls.specs.Calls.Each.{answered, redirected, not_asked, lost, reply_in}
+use Rattle.cluster_calls.specs.Calls.Each.{answered, redirected, lost, reply_in}
 use Rattle.cluster_calls.specs.Calls.Each as told
 use Rattle.cluster_calls.specs.Calls.EachInParts.{refusal_of_parts, reply_in_parts}
 use Rattle.cluster_steps.specs.declared.join.Fate.{Fate}
@@ -17,7 +17,6 @@ use Rattle.cluster_steps.specs.declared.join.Join.{Join}
 abbrev pub fate_in : Fate → told.Fate
 fate_in fates.Answered = answered
 fate_in fates.Redirected = redirected
-fate_in fates.NotAsked = not_asked
 fate_in fates.Lost = lost
 
 -- what is told of a part: a reply, the error that it is, or a cause

@@ -7,8 +7,10 @@ pub mod Turns
 pub mod WholeParts
 pub mod Attempts
 pub mod Groups
+pub mod Numbers
 pub mod GroupRuns
 pub mod Queues
 pub mod Each
+pub mod AtOnce
 pub mod Joins
 pub mod Reads

@@ -1,48 +1,22 @@
-//! What each position of a pipeline is told: its reply, why its link call was refused, or that its node
-//! was not asked. Nothing of it takes memory.
+//! What each position of a pipeline is told: its reply, or why its link call was refused. Nothing of it takes memory.
 ghost use Rattle.std.specs.Prelude.{ℕ, ◌≡◌, ◌<◌, ◌≤◌, ◌+◌, ◌++◌, length, map, unwrap_or, vec_capacity, vec_len};
 ghost use Rattle.std.specs.List.{AllByRecursion};
+ghost use Rattle.std.specs.VecDeque.{deque_items};
 ghost use Rattle.resp_core.specs.Errors.{cause_of};
 ghost use Rattle.resp_core.specs.View.{view};
 ghost use Rattle.resp_core.specs.declared.errors.redis_error.Cause.TheVariants.{Io};
-ghost use Rattle.cluster_routing.specs.Lists.{without_front_of};
 ghost use Rattle.cluster_calls.specs.Calls.Each.{reply_outcome};
 ghost use Rattle.cluster_calls.specs.Links.World.{tree_result};
-ghost use Rattle.cluster_steps.specs.Each.{cause_at, next_outcome, told_each};
-ghost use Rattle.cluster_steps.specs.Queues.{queue_in};
+ghost use Rattle.cluster_steps.specs.Each.{came_from, left_or_cause, next_outcome, told_each, without_next, without_next_from};
 
-use crate::drawn::next;
 use resp_core::{Cause, RedisError, Value};
 use std::collections::VecDeque;
-
-/// The place of the link whose call was refused, and why.
-#[derive(Clone, Copy)]
-pub struct Lost {
-    pub which: usize,
-    pub cause: Cause,
-}
 
 /// Why a link call was refused.
 pub fn link_cause(error: &RedisError) -> Cause
     ensures { result ≡ unwrap_or (cause_of error.now) Io }
 {
     error.cause().unwrap_or(Cause::Io)
-}
-
-/// Why a place has no reply.
-fn cause_at(lost: Option<Lost>, place: usize) -> Cause
-    ensures { result ≡ cause_at lost place }
-{
-    match lost {
-        Some(lost) => {
-            if lost.which == place {
-                lost.cause
-            } else {
-                Cause::NotAsked
-            }
-        }
-        None => Cause::NotAsked,
-    }
 }
 
 /// A reply as an outcome: where it is itself an error, that.
@@ -55,44 +29,51 @@ fn reply_outcome(reply: Value) -> Result<Value, RedisError>
     }
 }
 
-/// The next reply from a place, or why there is none.
-fn next_outcome(
-    queues: &mut Vec<VecDeque<Value>>,
-    place: usize,
-    lost: Option<Lost>,
-) -> Result<Value, RedisError>
-    requires { place < vec_len queues.old }
-    ensures len { vec_len queues.new ≡ vec_len queues.old }
-    ensures outcome { tree_result view result
-        ≡ next_outcome (map view (queue_in (map (λ q. q.items) queues.old.items) place)) (cause_at lost place) }
-    ensures rest { (k : ℕ)
-        → queue_in (map (λ q. q.items) queues.new.items) k
-        ≡ without_front_of place (queue_in (map (λ q. q.items) queues.old.items)) k }
+/// The next reply of a node, or why there is none.
+fn next_outcome(answer: &mut Result<VecDeque<Value>, Cause>) -> Result<Value, RedisError>
+    ensures outcome { tree_result view result ≡ next_outcome (left_or_cause deque_items answer.old) }
+    ensures rest { left_or_cause deque_items answer.new ≡ without_next (left_or_cause deque_items answer.old) }
 {
-    match next(queues, place) {
-        Some(reply) => reply_outcome(reply),
-        None => Err(RedisError::from(cause_at(lost, place))),
+    match answer {
+        Ok(replies) => match replies.pop_front() {
+            Some(reply) => reply_outcome(reply),
+            None => Err(RedisError::from(Cause::Io)),
+        },
+        Err(cause) => Err(RedisError::from(*cause)),
     }
 }
 
-/// Puts behind these outcomes, which have room for them, one for each of these places: the next reply from
-/// it, or why there is none.
+/// The same of the node of this number.
+fn next_outcome_of(
+    answers: &mut Vec<Result<VecDeque<Value>, Cause>>,
+    number: usize,
+) -> Result<Value, RedisError>
+    requires { number < vec_len answers.old }
+    ensures len { vec_len answers.new ≡ vec_len answers.old }
+    ensures outcome { tree_result view result
+        ≡ next_outcome (came_from (map (left_or_cause deque_items) answers.old.items) number) }
+    ensures rest { (k : ℕ) → came_from (map (left_or_cause deque_items) answers.new.items) k
+        ≡ without_next_from number (came_from (map (left_or_cause deque_items) answers.old.items)) k }
+{
+    next_outcome(&mut answers[number])
+}
+
+/// Puts behind these outcomes, which have room for them, one for each of these numbers: the next reply of its
+/// node, or why there is none.
 pub fn tell_each(
-    mut queues: Vec<VecDeque<Value>>,
-    places: &[usize],
-    lost: Option<Lost>,
+    mut answers: Vec<Result<VecDeque<Value>, Cause>>,
+    numbers: &[usize],
     outcomes: &mut Vec<Result<Value, RedisError>>,
 )
-    requires places { AllByRecursion (λ place. place < vec_len queues) places.now }
-    requires room { vec_len outcomes.old + length places.now ≤ vec_capacity outcomes.old }
+    requires numbers { AllByRecursion (λ number. number < vec_len answers) numbers.now }
+    requires room { vec_len outcomes.old + length numbers.now ≤ vec_capacity outcomes.old }
     ensures { map (tree_result view) outcomes.new.items
         ≡ map (tree_result view) outcomes.old.items
-        ++ told_each places.now (λ k. map view (queue_in (map (λ q. q.items) queues.items) k))
-        (cause_at lost) }
+        ++ told_each numbers.now (came_from (map (left_or_cause deque_items) answers.items)) }
 {
-    'places: for place in places {
+    'numbers: for number in numbers {
         outcomes
-            .push(next_outcome(&mut queues, *place, lost))
+            .push(next_outcome_of(&mut answers, *number))
             .unwrap();
     }
 }

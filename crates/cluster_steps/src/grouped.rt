@@ -1,12 +1,13 @@
 //! The requests of a pipeline, grouped by the nodes that they go to.
-ghost use Rattle.std.specs.Prelude.{◌≡◌, ◌<◌, ◌∷◌, ◌++◌, [], length, map, nat_eq, vec_len, IfOk, OnOk, if◌then◌else◌};
+ghost use Rattle.std.specs.Prelude.{ℕ, ◌≡◌, ◌<◌, Some, map, nat_eq, slice_get, vec_len, IfOk, OnOk};
 ghost use Rattle.std.specs.List.{AllByRecursion};
-ghost use Rattle.cluster_routing.specs.Lists.{firsts, numbers_below};
-ghost use Rattle.cluster_steps.specs.Groups.{Puts, TellsUnused, empty_group, gathered_of, group_at, group_of, place_in};
+ghost use Rattle.cluster_routing.specs.Lists.{firsts};
+ghost use Rattle.cluster_steps.specs.Groups.{AreNumbered, Puts, gathered_of, group_at, group_of, place_in, places_in_use, with_place};
+ghost use Rattle.cluster_steps.specs.Numbers.{HasPlace, found};
 
 use crate::asked::Asked;
 use crate::dispatch::{Dispatch, request_of};
-use crate::order::{takeable, taken};
+use crate::numbers::Numbers;
 use crate::ready::{Group, bytes_of};
 use std::alloc::{AllocError, Global};
 
@@ -15,6 +16,15 @@ use std::alloc::{AllocError, Global};
 struct Gathered {
     which: usize,
     requests: Vec<Asked>,
+}
+
+/// The requests of a pipeline by the places that they go to.
+#[derive(Drop)]
+pub struct NumberedGroups {
+    /// One group for each place in use, packed, in the order in which the places are first used.
+    pub groups: Vec<Group>,
+    /// For each request, in order, the number of its group.
+    pub numbers: Vec<usize>,
 }
 
 /// The places of the links that the commands go to.
@@ -28,48 +38,43 @@ pub fn places_of(alloc: Global, dispatches: &[Dispatch]) -> Result<Vec<usize>, A
     Ok(places)
 }
 
-/// A group without requests for each of so many places.
-fn empty_groups(alloc: Global, count: usize) -> Result<Vec<Gathered>, AllocError>
-    ensures len { IfOk result (λ v. vec_len v ≡ count) }
-    ensures groups { IfOk result (λ v. map gathered_of v.items ≡ map empty_group (numbers_below count)) }
+/// The number of the group of a place, which is made where nothing goes there yet.
+fn number_of(
+    alloc: Global,
+    table: &mut Numbers,
+    groups: &mut Vec<Gathered>,
+    which: usize,
+) -> Result<usize, AllocError>
+    requires place { HasPlace table.old which }
+    requires numbered { AreNumbered (found table.old) (map gathered_of groups.old.items) }
+    ensures number { IfOk result (λ number.
+        slice_get (places_in_use (map gathered_of groups.new.items)) number ≡ Some which) }
+    ensures groups { OnOk result
+        (map gathered_of groups.new.items ≡ with_place (map gathered_of groups.old.items) which) }
+    ensures numbered { OnOk result (AreNumbered (found table.new) (map gathered_of groups.new.items)) }
+    ensures places { OnOk result ((k : ℕ) → HasPlace table.old k → HasPlace table.new k) }
 {
-    let mut groups = Vec::with_capacity(alloc, count)?;
-    'places: for which in 0..count {
-        groups.push(Gathered {
-            which,
-            requests: Vec::new(alloc),
-        })?;
+    match table.get(which) {
+        Some(number) => Ok(number),
+        None => {
+            let number = groups.len();
+            table.insert(which, number)?;
+            groups.push(Gathered {
+                which,
+                requests: Vec::new(alloc),
+            })?;
+            Ok(number)
+        }
     }
-    Ok(groups)
 }
 
-/// Whether nothing goes to a place yet.
-fn is_unused(groups: &[Gathered], which: usize) -> bool
-    requires { which < length groups.now }
-    ensures { TellsUnused (map gathered_of groups.now) which result }
-{
-    groups[which].requests.is_empty()
-}
-
-/// Puts a place behind those in use, where it is used for the first time.
-fn mark(order: &mut Vec<usize>, which: usize, is_first: bool) -> Result<(), AllocError>
+/// Puts a request behind those of the group with this number.
+fn put(groups: &mut Vec<Gathered>, number: usize, request: Asked) -> Result<(), AllocError>
+    requires { number < vec_len groups.old }
     ensures { OnOk result
-        (order.new.items ≡ (if is_first then order.old.items ++ which ∷ [] else order.old.items)) }
+        (Puts (map gathered_of groups.old.items) (map gathered_of groups.new.items) number request) }
 {
-    if is_first {
-        order.push(which)?;
-    }
-    Ok(())
-}
-
-/// Puts a request behind those to its place.
-fn put(groups: &mut Vec<Gathered>, which: usize, request: Asked) -> Result<(), AllocError>
-    requires { which < vec_len groups.old }
-    ensures len { vec_len groups.new ≡ vec_len groups.old }
-    ensures put { OnOk result
-        (Puts (map gathered_of groups.old.items) (map gathered_of groups.new.items) which request) }
-{
-    groups[which].requests.push(request)?;
+    groups[number].requests.push(request)?;
     Ok(())
 }
 
@@ -90,25 +95,31 @@ fn packed(alloc: Global, all: Vec<Gathered>) -> Result<Vec<Group>, AllocError>
     Ok(groups)
 }
 
-/// The requests to each place in use, packed, in the order in which the places are first used; `count` is how
-/// many places there are.
+/// The requests to each place in use, packed, in the order in which the places are first used, and of each
+/// request the number of its group; `count` is how many places there are.
 pub fn grouped(
     alloc: Global,
     count: usize,
     dispatches: Vec<Dispatch>,
-) -> Result<Vec<Group>, AllocError>
+) -> Result<NumberedGroups, AllocError>
     requires { AllByRecursion (λ d. place_in d < count) dispatches.items }
-    ensures { IfOk result
-        (λ v. map group_of v.items
+    ensures groups { IfOk result
+        (λ g. map group_of g.groups.items
         ≡ map (group_at dispatches.items) (firsts nat_eq (map place_in dispatches.items))) }
+    ensures numbers { IfOk result
+        (λ g. map (slice_get (firsts nat_eq (map place_in dispatches.items))) g.numbers.items
+        ≡ map (λ d. Some (place_in d)) dispatches.items) }
 {
-    let mut groups = empty_groups(alloc, count)?;
-    let mut order = Vec::new(alloc);
+    let mut table = Numbers::new(alloc, count, dispatches.len())?;
+    let mut gathered = Vec::new(alloc);
+    let mut numbers = Vec::with_capacity(alloc, dispatches.len())?;
     'dispatches: for dispatch in dispatches {
-        let which = dispatch.place.which;
-        mark(&mut order, which, is_unused(&groups, which))?;
-        put(&mut groups, which, request_of(dispatch))?;
+        let number = number_of(alloc, &mut table, &mut gathered, dispatch.place.which)?;
+        put(&mut gathered, number, request_of(dispatch))?;
+        numbers.push(number)?;
     }
-    let all = takeable(alloc, groups)?;
-    packed(alloc, taken(alloc, all, &order)?)
+    Ok(NumberedGroups {
+        groups: packed(alloc, gathered)?,
+        numbers,
+    })
 }

@@ -22,7 +22,6 @@ use std::collections::VecDeque;
 enum Fate {
     Answered,
     Redirected,
-    NotAsked,
     Lost,
 }
 
@@ -39,7 +38,6 @@ fn refused_fate(error: &RedisError) -> Fate
     ensures { fate_in result ≡ fate_of (Err error.now) }
 {
     match error.cause() {
-        Some(Cause::NotAsked) => Fate::NotAsked,
         Some(_) => Fate::Lost,
         None => match error.kind() {
             ErrorKind::Server(ServerErrorKind::Moved | ServerErrorKind::Ask) => Fate::Redirected,
@@ -65,7 +63,6 @@ fn is_same(a: Fate, b: Fate) -> bool
         (a, b),
         (Fate::Answered, Fate::Answered)
             | (Fate::Redirected, Fate::Redirected)
-            | (Fate::NotAsked, Fate::NotAsked)
             | (Fate::Lost, Fate::Lost)
     )
 }
@@ -100,10 +97,7 @@ fn lost_cause(outcome: &Result<Value, RedisError>) -> Option<Cause>
 {
     match outcome {
         Ok(_) => None,
-        Err(error) => match error.cause() {
-            Some(Cause::NotAsked) => None,
-            cause => cause,
-        },
+        Err(error) => error.cause(),
     }
 }
 

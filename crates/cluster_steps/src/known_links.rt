@@ -2,12 +2,14 @@
 ghost use Rattle.std.specs.Prelude.{◌≡◌, ◌<◌, ◌++◌, ◌∷◌, [], None, Some, is_some, not, option_map, slice_get, vec_len, IfSome, OnErr, OnOk};
 ghost use Rattle.cluster_routing.specs.Seen.{address};
 ghost use Rattle.cluster_calls.specs.Links.World.{Node, nodes, place_at, has_repeats, addresses_of, Calls};
+ghost use Rattle.resp_link.specs.TwoCalls.{Receives, Sends};
 
+use crate::at_once::{received_over, sent_over};
 use crate::links::{Links, Told, called, called_one, replaced};
 use crate::node_links::NodeLinks;
 use cluster_routing::NodeAddress;
 use resp_core::{RedisError, Value};
-use resp_link::ConnectionLike;
+use resp_link::{ConnectionLike, PipelinedLink};
 use std::alloc::{AllocError, Global};
 use std::marker::Model;
 
@@ -106,6 +108,33 @@ impl<L: ConnectionLike> KnownLinks<L> {
         ensures { self.new.nodes ≡ self.old.nodes }
     {
         self.links.renew_known();
+    }
+}
+
+impl<L: PipelinedLink> KnownLinks<L> {
+    /// Sends the bytes over the link at this place, which owes their replies then.
+    pub fn send(&mut self, which: usize, bytes: &[u8]) -> Result<(), RedisError>
+        requires { which < vec_len self.old.nodes }
+        ensures call { Calls (nodes L.seen self.old.nodes.items) (nodes L.seen self.new.nodes.items) which
+            (λ before after. Sends before after bytes.now result) }
+        ensures len { vec_len self.new.nodes ≡ vec_len self.old.nodes }
+    {
+        sent_over(&mut self.links.nodes, which, bytes)
+    }
+
+    /// Takes so many replies that the link at this place owes.
+    pub fn receive(
+        &mut self,
+        alloc: Global,
+        which: usize,
+        count: usize,
+    ) -> Result<Vec<Value>, RedisError>
+        requires { which < vec_len self.old.nodes }
+        ensures call { Calls (nodes L.seen self.old.nodes.items) (nodes L.seen self.new.nodes.items) which
+            (λ before after. Receives before after count result) }
+        ensures len { vec_len self.new.nodes ≡ vec_len self.old.nodes }
+    {
+        received_over(&mut self.links.nodes, alloc, which, count)
     }
 }
 

@@ -3,6 +3,7 @@
 #![tactic(auto)]
 
 pub mod asked;
+pub mod at_once;
 pub mod attempt;
 pub mod attempt_turn;
 pub mod dispatch;
@@ -15,6 +16,7 @@ pub mod known_links;
 pub mod links;
 pub mod node_links;
 pub mod numbered_map;
+mod numbers;
 pub mod order;
 pub mod pipeline_reads;
 pub mod place;

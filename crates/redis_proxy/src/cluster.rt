@@ -5,7 +5,7 @@ use crate::side::Side;
 use crate::unblock::unblock;
 use crate::waits::Waits;
 use crate::way::Way;
-use cluster_client::ConnectionLike;
+use cluster_client::PipelinedLink;
 use cluster_servers::{GuestCommand, Reply};
 use proxy_core::{Asked, Command, Fate, Outcome, Servers};
 use resp_core::{Protocol, WriteError};
@@ -103,7 +103,7 @@ fn not_asked() -> Outcome<Reply> {
     }
 }
 
-impl<L: ConnectionLike + Drop> Side<L> {
+impl<L: PipelinedLink + Drop> Side<L> {
     /// The outcomes of a part; none where there is nothing to ask.
     fn ask(
         &mut self,
@@ -117,7 +117,7 @@ impl<L: ConnectionLike + Drop> Side<L> {
     }
 }
 
-impl<L: ConnectionLike + Drop> Cluster<L> {
+impl<L: PipelinedLink + Drop> Cluster<L> {
     pub(crate) fn side(&mut self, protocol: Protocol) -> &mut Side<L> {
         match protocol {
             Protocol::Resp2 => &mut self.two,
@@ -249,7 +249,7 @@ fn touches(batch: &[Asked<'_, Ask>], times: &[Time], waiting: &Ask) -> bool {
     false
 }
 
-impl<L: ConnectionLike + Drop> Servers<Ask, Reply> for Cluster<L> {
+impl<L: PipelinedLink + Drop> Servers<Ask, Reply> for Cluster<L> {
     ghost asks = { λ old batch outcomes new. Unit {0} };
 
     fn ask(

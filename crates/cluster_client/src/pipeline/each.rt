@@ -1,7 +1,7 @@
 //! A pipeline that tells of each of its positions.
-ghost use Rattle.std.specs.Prelude.{ℕ, ◌≡◌, ◌≤◌, ◌+◌, List, [], Ok, Option, map, nat_eq, vec_capacity, vec_len};
+ghost use Rattle.std.specs.Prelude.{◌≡◌, ◌<◌, ◌≤◌, ◌+◌, List, [], Ok, Option, map, nat_eq, vec_capacity, vec_len};
 ghost use Rattle.std.specs.List.{AllByRecursion};
-ghost use Rattle.resp_core.specs.View.{view};
+ghost use Rattle.std.specs.VecDeque.{deque_items};
 ghost use Rattle.cluster_routing.specs.Choice.{Strategy};
 ghost use Rattle.cluster_routing.specs.Lists.{IsDistinct};
 ghost use Rattle.cluster_calls.specs.Calls.Call.{Entry, Pipeline};
@@ -9,61 +9,84 @@ ghost use Rattle.cluster_calls.specs.Calls.Parts.{pipeline_parts};
 ghost use Rattle.cluster_calls.specs.Calls.Plan.{plan};
 ghost use Rattle.cluster_calls.specs.Links.EachMade.{EachMade, WholesMade};
 ghost use Rattle.cluster_calls.specs.Links.Happened.{client_of};
-ghost use Rattle.cluster_calls.specs.Links.World.{nodes};
+ghost use Rattle.cluster_calls.specs.Links.World.{World, nodes};
+ghost use Rattle.cluster_steps.specs.AtOnce.{AllSent};
+ghost use Rattle.cluster_steps.specs.Each.{left_or_cause};
 ghost use Rattle.cluster_steps.specs.FirstPlaces.{part_of};
 ghost use Rattle.cluster_steps.specs.GroupRuns.{IsGroupPlaced};
-ghost use Rattle.cluster_steps.specs.Groups.{group_of, request_count};
-ghost use Rattle.cluster_steps.specs.Queues.{queue_in};
-ghost use Rattle.cluster_client.specs.Outcomes.{EachExchanged, outcomes_of};
+ghost use Rattle.cluster_steps.specs.Groups.{Group as RequestGroup, group_of, request_count};
+ghost use Rattle.cluster_client.specs.Outcomes.{EachExchanged, ReceivedFrom, outcomes_of};
 ghost use Rattle.cluster_client.specs.Whole.{whole};
 
 use crate::client::ClusterClient;
 use crate::pipeline::in_parts::{InParts, commands_in_parts};
 use crate::pipeline::parts::pipeline_parts;
+use crate::pipeline::reply::refresh_needed;
 use crate::pipeline::{ClusterPipeline, PipelineCommand};
-use cluster_steps::drawn::{empty_queues, put};
-use cluster_steps::each::{Lost, link_cause, tell_each};
-use cluster_steps::grouped::{grouped, places_of};
+use cluster_steps::at_once::{Sent, receive_group, send_group};
+use cluster_steps::each::tell_each;
+use cluster_steps::grouped::{NumberedGroups, grouped};
 use cluster_steps::join::join_each;
 use cluster_steps::ready::Group;
 use cluster_steps::route::Part;
-use resp_core::{RedisError, Value};
-use resp_link::ConnectionLike;
+use resp_core::{Cause, RedisError, Value};
+use resp_link::PipelinedLink;
 use std::alloc::Global;
 use std::collections::VecDeque;
 
-impl<L: ConnectionLike + Drop> ClusterClient<L> {
-    /// Puts the replies of one node after another into the queue of its place, up to the first whose link
-    /// call is refused, of which it tells. Only a link call takes memory.
-    fn exchange_each(
-        &mut self,
-        alloc: Global,
-        groups: Vec<Group>,
-        queues: &mut Vec<VecDeque<Value>>,
-    ) -> Option<Lost>
+impl<L: PipelinedLink + Drop> ClusterClient<L> {
+    /// Sends each node its requests, one node after another. No reply is taken yet, and no memory.
+    fn send_each(&mut self, groups: Vec<Group>, sent: &mut Vec<Sent>)
         requires placed { AllByRecursion
             (λ g. IsGroupPlaced (nodes L.seen self.old.links.nodes.items) (group_of g)) groups.items }
-        requires room { vec_len self.old.asked
-            + request_count (map group_of groups.items) ≤ vec_capacity self.old.asked }
-        requires places { vec_len queues.old ≡ vec_len self.old.links.nodes }
         requires apart { IsDistinct nat_eq (map (λ g. g.which) (map group_of groups.items)) }
-        requires empty { (k : ℕ) → queue_in (map (λ q. q.items) queues.old.items) k ≡ [] }
-        ensures len { vec_len queues.new ≡ vec_len queues.old }
-        ensures exchanged { EachExchanged (whole L.seen self.old) (whole L.seen self.new)
-            (map group_of groups.items)
-            (λ k. map view (queue_in (map (λ q. q.items) queues.new.items) k)) result }
+        requires log_room { vec_len self.old.asked
+            + request_count (map group_of groups.items) ≤ vec_capacity self.old.asked }
+        requires none { vec_len sent.old ≡ 0 }
+        requires room { vec_len groups ≤ vec_capacity sent.old }
+        ensures sent { AllSent (whole L.seen self.old) (whole L.seen self.new) (map group_of groups.items)
+            sent.new.items }
+        ensures count { vec_len sent.new ≡ vec_len groups }
+        ensures within { AllByRecursion (λ s. s.which < vec_len self.new.links.nodes) sent.new.items }
     {
         'groups: for group in groups {
-            let which = group.which;
-            match self.exchange_group(alloc, group) {
-                Ok(replies) => put(queues, which, replies),
-                Err(error) => return Some(Lost {
-                    which,
-                    cause: link_cause(&error),
-                }),
-            }
+            sent.push(send_group(&mut self.links, &mut self.asked, group))
+                .unwrap();
         }
-        None
+    }
+
+    /// The replies of one node, as they are told one after another. Only the link call takes memory.
+    fn receive_one(&mut self, alloc: Global, sent: Sent) -> Result<VecDeque<Value>, Cause>
+        requires within { sent.which < vec_len self.old.links.nodes }
+        ensures received { ReceivedFrom (whole L.seen self.old) (whole L.seen self.new) sent
+            (left_or_cause deque_items result) }
+        ensures len { vec_len self.new.links.nodes ≡ vec_len self.old.links.nodes }
+    {
+        let replies = receive_group(&mut self.links, alloc, sent)?;
+        self.needs_refresh = refresh_needed(self.needs_refresh, &replies);
+        Ok(VecDeque::from(replies))
+    }
+
+    /// Takes the replies of one node after another, in the order in which they were sent their requests. What
+    /// becomes of one changes nothing for the others.
+    fn receive_each(
+        &mut self,
+        alloc: Global,
+        sent: Vec<Sent>,
+        answers: &mut Vec<Result<VecDeque<Value>, Cause>>,
+    )
+        requires within { AllByRecursion (λ s. s.which < vec_len self.old.links.nodes) sent.items }
+        requires none { vec_len answers.old ≡ 0 }
+        requires room { vec_len sent ≤ vec_capacity answers.old }
+        ensures exchanged { (start : World) (groups : List RequestGroup)
+            → AllSent start (whole L.seen self.old) groups sent.items
+            → EachExchanged start (whole L.seen self.new) groups
+            (map (left_or_cause deque_items) answers.new.items) }
+        ensures len { vec_len answers.new ≡ vec_len sent }
+    {
+        'groups: for group in sent {
+            answers.push(self.receive_one(alloc, group)).unwrap();
+        }
     }
 
     /// The outcome of each part of a pipeline's commands, which all go whole.
@@ -80,12 +103,13 @@ impl<L: ConnectionLike + Drop> ClusterClient<L> {
     {
         let dispatches = self.dispatches_of_parts(alloc, parts)?;
         let count = self.links.len();
-        let places = places_of(alloc, &dispatches)?;
-        let groups = grouped(alloc, count, dispatches)?;
-        let mut queues = empty_queues(alloc, count)?;
-        let mut outcomes = Vec::with_capacity(alloc, places.len())?;
-        let lost = self.exchange_each(alloc, groups, &mut queues);
-        tell_each(queues, &places, lost, &mut outcomes);
+        let NumberedGroups { groups, numbers } = grouped(alloc, count, dispatches)?;
+        let mut sent = Vec::with_capacity(alloc, groups.len())?;
+        let mut answers = Vec::with_capacity(alloc, groups.len())?;
+        let mut outcomes = Vec::with_capacity(alloc, numbers.len())?;
+        self.send_each(groups, &mut sent);
+        self.receive_each(alloc, sent, &mut answers);
+        tell_each(answers, &numbers, &mut outcomes);
         Ok(outcomes)
     }
 
@@ -161,8 +185,8 @@ impl ClusterPipeline {
     ///   and it was not done: no redirect is followed, and `needs_refresh` tells of a MOVED;
     /// - `Io`, `Parse` or `Memory` (14, 15, 17): the link call of its node was refused, and the link is
     ///   closed. The command stands in the log, and may have been done or not. It is so of all commands to
-    ///   that node, also of those whose replies had come;
-    /// - `NotAsked` (20): the link of a node before its own failed, and nothing went out for it.
+    ///   that node, also of those whose replies had come. What becomes of one node changes nothing for the
+    ///   others.
     ///
     /// Of a split command of several slots this holds of all of its parts: it is what became of each of them,
     /// or the first error where all were answered. Where parts came to different ends it may be done in part:
@@ -170,8 +194,10 @@ impl ClusterPipeline {
     /// that it used, which is also told where its parts' replies make no value. `Memory` may be told of such
     /// a command also where that value had no room.
     ///
-    /// What goes out, the log, the slot map, `needs_refresh` and the links are those of `query`, and so is
-    /// what it costs: one round trip for each node that is used, one node after another. All outcomes are
+    /// Each node that is used gets all of its commands in one write, in order of first use, before the first
+    /// reply is taken; then the replies are taken in that order. So it waits once, for the node that takes
+    /// longest, and an MGET of many slots waits once too, as a pipeline of one command. Where no link fails, the
+    /// log, the slot map, `needs_refresh` and the links are those of `query`. All outcomes are
     /// held until the last; room for them is taken before the first byte, and behind it a link call alone
     /// takes memory, and the one value of several parts. With a split command of several slots the commands
     /// before the first such are looked up and copied once more.
@@ -182,7 +208,7 @@ impl ClusterPipeline {
     /// (`RedisError::position`);
     /// then command by command `NoNode` where no node serves its slot and `NoLink` where no usable link
     /// leads to the node; `Memory`. The client is as it was then, with an empty log.
-    pub fn query_each<L: ConnectionLike + Drop>(
+    pub fn query_each<L: PipelinedLink + Drop>(
         &self,
         alloc: Global,
         client: &mut ClusterClient<L>,

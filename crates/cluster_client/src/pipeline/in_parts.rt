@@ -5,7 +5,7 @@ ghost use Rattle.resp_core.specs.declared.errors.redis_error.Cause.TheVariants.{
 ghost use Rattle.resp_args.specs.Packed.{sent};
 ghost use Rattle.cluster_routing.specs.Info.{shown_split};
 ghost use Rattle.cluster_routing.specs.Split.{parts_by_place};
-ghost use Rattle.cluster_calls.specs.Calls.EachInParts.{first_unplaced, goes_to_slots, split_at};
+ghost use Rattle.cluster_calls.specs.Calls.InParts.{first_unplaced, goes_to_slots, split_at};
 ghost use Rattle.cluster_calls.specs.Calls.Parts.{if_one_slot, parts_of, reads_several_slots, whole_part};
 ghost use Rattle.cluster_steps.specs.CodeParts.{part_targets, split_in, targets_in};
 ghost use Rattle.cluster_steps.specs.WholeParts.{whole_at, whole_by};

@@ -138,7 +138,7 @@ impl<L: ConnectionLike + Drop> ClusterClient<L> {
         let dispatches = self.pipeline_dispatches(alloc, commands)?;
         let count = self.links.len();
         let places = places_of(alloc, &dispatches)?;
-        let groups = grouped(alloc, count, dispatches)?;
+        let groups = grouped(alloc, count, dispatches)?.groups;
         let answered = self.exchange_all(alloc, groups)?;
         let replies = drawn(alloc, count, &places, answered)?;
         reply_of_pipeline(alloc, commands, replies)

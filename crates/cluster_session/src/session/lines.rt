@@ -123,6 +123,7 @@ fn read_form(alloc: Global, word: &str, args: &[&str]) -> Result<Line, LineError
         "fan" => read_fan(alloc, args),
         "at" => read_at(alloc, args),
         "pipe" => read_alone(Line::Pipe, args),
+        "each" => read_alone(Line::Each, args),
         "multi" => read_alone(Line::Multi, args),
         "cmd" => read_command(alloc, false, args),
         "skip" => read_command(alloc, true, args),

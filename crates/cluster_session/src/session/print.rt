@@ -4,21 +4,23 @@ mod kinds;
 mod value;
 mod words;
 
-ghost use Rattle.std.specs.Prelude.{◌≡◌, ◌++◌, OnOk, map, string_bytes, codes};
+ghost use Rattle.std.specs.Prelude.{◌≡◌, ◌++◌, OnOk, decimal, length, map, string_bytes, codes};
 ghost use Rattle.cluster_session.specs.Output.{fault_line};
 ghost use Rattle.cluster_client.specs.Shown.{answer_result};
 ghost use Rattle.std.specs.List.{flat_map};
 ghost use Rattle.cluster_routing.specs.Address.{written};
 ghost use Rattle.cluster_routing.specs.Seen.{address};
-ghost use Rattle.cluster_session.specs.Printed.{call_line, hex_word, refused_line};
+ghost use Rattle.resp_core.specs.View.{view};
+ghost use Rattle.cluster_calls.specs.Links.World.{tree_result};
+ghost use Rattle.cluster_session.specs.Printed.{call_line, hex_word, outcome_line, refused_line};
 ghost use Rattle.cluster_session.specs.PrintedLines.{manner_word, request_line, sent_line};
 
 use cluster_client::{Answer, Asked, NodeAddress};
 use entries::{print_entries, print_rows};
-use resp_core::RedisError;
+use resp_core::{RedisError, Value};
 use std::alloc::AllocError;
 use value::print_value;
-use words::{print_bytes, push_number};
+use words::{print_bytes, print_count, push_number};
 
 /// The line of a text with a bad line: that line's number.
 pub(super) fn fault(output: &mut String, number: u64) -> Result<(), AllocError>
@@ -29,7 +31,7 @@ pub(super) fn fault(output: &mut String, number: u64) -> Result<(), AllocError>
     output.push_str("\n")
 }
 
-/// The line of a call.
+/// The line of a call; where it tells of each position of a pipeline, one more for each of these.
 pub(super) fn answered(
     output: &mut String,
     answer: &Result<Answer, RedisError>,
@@ -53,6 +55,11 @@ pub(super) fn answered(
             print_rows(output, &reply.keys)?;
             output.push_str("\n")
         }
+        Ok(Answer::Each(outcomes)) => {
+            print_count(output, "ok each ", outcomes.len())?;
+            output.push_str("\n")?;
+            print_outcomes(output, outcomes)
+        }
         // A refresh has nothing more to print, and no line of a session makes the others.
         Ok(_) => output.push_str("ok\n"),
         Err(error) => refused(output, error),
@@ -65,6 +72,38 @@ fn refused(output: &mut String, error: &RedisError) -> Result<(), AllocError>
     output.push_str("err ")?;
     kinds::push_kind(output, error.kind())?;
     output.push_str("\n")
+}
+
+// A line for each position.
+fn print_outcomes(
+    output: &mut String,
+    outcomes: &[Result<Value, RedisError>],
+) -> Result<(), AllocError>
+    ensures { OnOk result
+        (string_bytes output.new ≡ string_bytes output.old
+        ++ flat_map outcome_line (map (tree_result view) outcomes.now)) }
+{
+    for outcome in outcomes {
+        print_outcome(output, outcome)?;
+    }
+    Ok(())
+}
+
+fn print_outcome(output: &mut String, outcome: &Result<Value, RedisError>) -> Result<(), AllocError>
+    ensures { OnOk result
+        (string_bytes output.new ≡ string_bytes output.old ++ outcome_line (tree_result view outcome.now)) }
+{
+    match outcome {
+        Ok(value) => {
+            output.push_str("each ok ")?;
+            print_value(output, value)?;
+            output.push_str("\n")
+        }
+        Err(error) => {
+            output.push_str("each ")?;
+            refused(output, error)
+        }
+    }
 }
 
 /// A line for each request.

@@ -5,7 +5,7 @@ ghost use Rattle.cluster_routing.specs.Seen.{address};
 ghost use Rattle.cluster_client.specs.Shown.{call_in};
 ghost use Rattle.cluster_session.specs.Lines.{command, pieces, run};
 ghost use Rattle.cluster_session.specs.LinesRead.{access_in, meaning_in, words_in};
-ghost use Rattle.cluster_session.specs.Script.{add_call, add_fault, add_inside, add_to, add_unpiped, add_line, add_lines, add_node, add_outside, add_read_only, add_said, before_calls, begin_pipeline, begin_transaction, is_run, nothing_yet, put_fault, put_node, session_in_text, first_fault, set_budget, set_levels, set_fault};
+ghost use Rattle.cluster_session.specs.Script.{add_call, add_fault, add_inside, add_to, add_unpiped, add_line, add_lines, add_node, add_outside, add_read_only, add_said, before_calls, begin_pipeline, begin_transaction, is_run, nothing_yet, pipeline_call, put_fault, put_node, session_in_text, first_fault, set_budget, set_levels, set_fault};
 ghost use Rattle.cluster_session.specs.ScriptRead.{Makes, MakesAll, ReadsSession, draft_in, nodes_in, setup_in};
 
 use crate::session::levels::Levels;
@@ -78,6 +78,8 @@ pub(super) enum Line {
     Call(Call),
     /// It begins a pipeline.
     Pipe,
+    /// It begins a pipeline that tells of each of its commands.
+    Each,
     /// It begins a transaction.
     Multi,
     /// A command of a pipeline, or of a transaction.
@@ -117,6 +119,8 @@ pub(super) struct Script {
     pub calls: Vec<Call>,
     // The pipeline that no line has ended yet.
     pub pipeline: Option<ClusterPipeline>,
+    // Whether that pipeline tells of each of its commands.
+    pub tells_each: bool,
     // The commands of a transaction that no line has ended yet.
     pub transaction: Option<Vec<Cmd>>,
 }
@@ -132,6 +136,7 @@ impl Script {
             levels: None,
             calls: Vec::new(alloc),
             pipeline: None,
+            tells_each: false,
             transaction: None,
         }
     }
@@ -220,7 +225,8 @@ impl Script {
             Line::Budget(budget) => self.set_budget(budget),
             Line::Levels(levels) => self.set_levels(levels),
             Line::Call(call) => self.add_call(call),
-            Line::Pipe => self.begin_pipeline(alloc, later),
+            Line::Pipe => self.begin_pipeline(alloc, false, later),
+            Line::Each => self.begin_pipeline(alloc, true, later),
             Line::Multi => self.begin_transaction(alloc, later),
             Line::Command { .. } | Line::Run => Err(LineError::Bad),
         }
@@ -294,13 +300,20 @@ impl Script {
 
     // Refused where no line behind it ends the pipeline.
     #[tactic(auto, using(crate::proofs::Scripts::any_words))]
-    fn begin_pipeline(&mut self, alloc: Global, later: &[&[u8]]) -> Result<(), LineError>
-        ensures { Makes (begin_pipeline (words_in later.now) (draft_in self.old)) (draft_in self.new) result }
+    fn begin_pipeline(
+        &mut self,
+        alloc: Global,
+        tells_each: bool,
+        later: &[&[u8]],
+    ) -> Result<(), LineError>
+        ensures { Makes (begin_pipeline tells_each (words_in later.now) (draft_in self.old))
+            (draft_in self.new) result }
     {
         if !is_ended(later) {
             return Err(LineError::Bad);
         }
         self.pipeline = Some(ClusterPipeline::new(alloc));
+        self.tells_each = tells_each;
         Ok(())
     }
 
@@ -328,7 +341,7 @@ impl Script {
     {
         match self.pipeline.take() {
             None => Err(LineError::Bad),
-            Some(pipeline) => self.add_call(Call::Pipeline(pipeline)),
+            Some(pipeline) => self.add_call(pipeline_call(self.tells_each, pipeline)),
         }
     }
 
@@ -383,6 +396,17 @@ impl Script {
             None => Err(LineError::Bad),
             Some(commands) => self.add_call(Call::Transaction(commands)),
         }
+    }
+}
+
+// The call of a pipeline.
+fn pipeline_call(tells_each: bool, pipeline: ClusterPipeline) -> Call
+    ensures { call_in result ≡ pipeline_call tells_each pipeline }
+{
+    if tells_each {
+        Call::Each(pipeline)
+    } else {
+        Call::Pipeline(pipeline)
     }
 }
 

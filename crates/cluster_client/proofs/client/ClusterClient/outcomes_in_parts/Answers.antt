@@ -2,7 +2,7 @@ use Rattle.std.proofs.Common.{◌≡◌, ◌∙◌, Err, Ok, None, [], map, leng
 use Rattle.std.proofs.lemmas.List.{length-map}
 use Rattle.std.proofs.lemmas.Result.{err_from_is_err_and}
 use Rattle.resp_core.specs.View.{view}
-use Rattle.cluster_calls.specs.Calls.EachInParts.{in_parts}
+use Rattle.cluster_calls.specs.Calls.InParts.{in_parts}
 use Rattle.cluster_calls.specs.Links.Run.{with_log}
 use Rattle.cluster_calls.specs.Links.World.{tree_result}
 use Rattle.cluster_steps.specs.Joins.{AreOutcomesBy, width_of_all}

@@ -42,19 +42,19 @@ pub exchange_all-requires-clause-room : goal.exchange_all-requires-clause-room
 exchange_all-requires-clause-room g c =
     let dispatches = c.in_ok-dispatches.dispatches in
     room_for_fewer _ _ _ _ _ _ c.in_ok-dispatches.ensures.room
-    (ap request_count c.in_ok-groups.ensures) (requests_within dispatches.items) dispatches.ok.0
+    (ap request_count c.in_ok-groups.ensures.groups) (requests_within dispatches.items) dispatches.ok.0
 
 pub exchange_all-requires-clause-placed : goal.exchange_all-requires-clause-placed
 exchange_all-requires-clause-placed g c =
     let all : List Node = nodes g.L.ConnectionLike.seen c.pipeline_dispatches.new.self.links.nodes.items in
     all_unmapped (IsGroupPlaced all) group_of _
-    (subst (AllByRecursion (IsGroupPlaced all)) (sym c.in_ok-groups.ensures) (groups_placed all _ c.in_ok-dispatches.ensures.placed))
+    (subst (AllByRecursion (IsGroupPlaced all)) (sym c.in_ok-groups.ensures.groups) (groups_placed all _ c.in_ok-dispatches.ensures.placed))
 
 pub returns-in_err-answered : goal.returns-in_err-answered
 returns-in_err-answered g c strategy =
     let p = err_from_is_err_and c.from_residual-in_err-answered.result c.from_residual-in_err-answered.ensures.1 in
     let told = c.in_ok-dispatches.ensures in
-    rw (p.1, p.2) (reply_made strategy _ _ _ _ _ _ _ (Err c.in_err-answered.field-0.0) told.stays (told.planned (λ k. cc k) strategy) told.placed c.in_ok-groups.ensures c.in_err-answered.ensures refl)
+    rw (p.1, p.2) (reply_made strategy _ _ _ _ _ _ _ (Err c.in_err-answered.field-0.0) told.stays (told.planned (λ k. cc k) strategy) told.placed c.in_ok-groups.ensures.groups c.in_err-answered.ensures refl)
 
 pub drawn-requires-clause-places : goal.drawn-requires-clause-places
 drawn-requires-clause-places g c =
@@ -68,18 +68,18 @@ drawn-requires-clause-answered g c =
     let all : List Node = nodes g.L.ConnectionLike.seen c.pipeline_dispatches.new.self.links.nodes.items in
     let len : length all ≡ c.len-count.result = length-map _ _ ∙ sym c.pipeline_dispatches.new.self.links.nodes.ok.0 ∙ sym c.len-count.ensures in
     all_unmapped (λ a. a.0 < c.len-count.result) (answered_at view) _
-    (answers_within all c.len-count.result _ _ _ _ _ len c.in_ok-dispatches.ensures.placed c.in_ok-groups.ensures c.in_ok-answered.ensures)
+    (answers_within all c.len-count.result _ _ _ _ _ len c.in_ok-dispatches.ensures.placed c.in_ok-groups.ensures.groups c.in_ok-answered.ensures)
 
 pub returns-in_err-replies : goal.returns-in_err-replies
 returns-in_err-replies g c strategy =
     let p = err_from_is_err_and c.from_residual-in_err-replies.result c.from_residual-in_err-replies.ensures.1 in
     let told = c.in_ok-dispatches.ensures in
-    rw (p.1, p.2) (reply_made strategy _ _ _ _ _ _ _ (Err _) told.stays (told.planned (λ k. cc k) strategy) told.placed c.in_ok-groups.ensures c.in_ok-answered.ensures (λ had. absurd (had refl)))
+    rw (p.1, p.2) (reply_made strategy _ _ _ _ _ _ _ (Err _) told.stays (told.planned (λ k. cc k) strategy) told.placed c.in_ok-groups.ensures.groups c.in_ok-answered.ensures (λ had. absurd (had refl)))
 
 pub returns : goal.returns
 returns g c strategy =
     let told = c.in_ok-dispatches.ensures in
     let places = c.deref-2.ensures.value ∙ c.in_ok-places.ensures ∙ ap (map place_in) c.deref.ensures.value in
     let same = replies_are view _ _ c.in_ok-answered.answered.items _ c.in_ok-replies.ensures places in
-    reply_made strategy _ _ _ _ _ _ _ (tree_result view c.reply_of_pipeline.result) told.stays (told.planned (λ k. cc k) strategy) told.placed c.in_ok-groups.ensures c.in_ok-answered.ensures
+    reply_made strategy _ _ _ _ _ _ _ (tree_result view c.reply_of_pipeline.result) told.stays (told.planned (λ k. cc k) strategy) told.placed c.in_ok-groups.ensures.groups c.in_ok-answered.ensures
     (λ had. c.reply_of_pipeline.ensures (λ k. had (ap (tree_result view) k)) ∙ ap (pipeline_result c.args.commands.now) same)

@@ -3,7 +3,7 @@ use Rattle.resp_core.specs.Errors.{by_cause, kind_of}
 use Rattle.resp_core.specs.declared.errors.redis_error.Cause.TheVariants.{Memory}
 use Rattle.resp_args.specs.Packed.{sent}
 use Rattle.cluster_calls.specs.Calls.Call.{Entry}
-use Rattle.cluster_calls.specs.Calls.EachInParts.{goes_to_slots}
+use Rattle.cluster_calls.specs.Calls.InParts.{goes_to_slots}
 use Rattle.cluster_calls.specs.Calls.Parts.{parts_of, reads_several_slots}
 use Rattle.cluster_steps.proofs.PartTargets.{refused_targets}
 use Rattle.cluster_client.proofs.InParts.{goes_as, none_split, unparted}

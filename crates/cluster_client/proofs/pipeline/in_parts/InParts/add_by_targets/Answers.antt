@@ -3,7 +3,7 @@ use Rattle.std.proofs.Common.{◌∙◌, ◌≡◌, [], None, false, refl, ap, s
 use Rattle.resp_args.specs.Packed.{sent}
 use Rattle.cluster_routing.specs.Info.{shown_split}
 use Rattle.cluster_calls.specs.Calls.Call.{Entry}
-use Rattle.cluster_calls.specs.Calls.EachInParts.{split_at}
+use Rattle.cluster_calls.specs.Calls.InParts.{split_at}
 use Rattle.cluster_calls.specs.Calls.Parts.{if_one_slot, parts_of, reads_several_slots, whole_part}
 use Rattle.cluster_steps.specs.CodeParts.{split_in, targets_in}
 use Rattle.cluster_steps.specs.WholeParts.{whole_by}

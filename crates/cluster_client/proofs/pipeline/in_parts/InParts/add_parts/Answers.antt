@@ -3,7 +3,7 @@ use Rattle.std.proofs.Common.{◌∙◌, ◌≡◌, ◌++◌, ◌∷◌, [], Som
 use Rattle.std.proofs.lemmas.List.{map-append}
 use Rattle.cluster_routing.specs.Info.{shown_split}
 use Rattle.cluster_calls.specs.Calls.Call.{Entry}
-use Rattle.cluster_calls.specs.Calls.EachInParts.{split_at}
+use Rattle.cluster_calls.specs.Calls.InParts.{split_at}
 use Rattle.cluster_steps.specs.CodeParts.{routed_part}
 use Rattle.cluster_steps.specs.FirstPlaces.{part_of}
 use Rattle.cluster_steps.specs.Joins.{shown_join}
