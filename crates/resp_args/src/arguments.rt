@@ -6,7 +6,7 @@ ghost use Rattle.resp_args.specs.Table.{Ascends, end_of};
 
 use crate::cmd::Arg;
 use crate::write::RedisWrite;
-use std::alloc::{AllocError, Global};
+use std::alloc::{AllocError, AllocFailed, Global};
 use std::marker::Model;
 
 // How many bytes the first argument makes room for: those of a short command.
@@ -158,7 +158,7 @@ impl RedisWrite for Arguments {
         let end = self.buffer.len();
         match self.ends.push(Arg::Simple(end)) {
             Ok(()) => Ok(()),
-            Err(_) => {
+            Err(AllocFailed { .. }) => {
                 self.buffer.truncate(len);
                 Err(AllocError)
             }

@@ -3,6 +3,7 @@ use super::{Condition, Parser};
 use crate::device::LinkRead;
 use crate::errors::{Cause, RedisError};
 use crate::value::Value;
+use std::alloc::AllocError;
 
 // The room for one read, in bytes.
 const ROOM: usize = 4096;
@@ -203,7 +204,7 @@ impl Parser {
     {
         match self.feed(piece) {
             Ok(()) => Ok(()),
-            Err(_) => {
+            Err(AllocError) => {
                 self.condition = Condition::Starved;
                 Err(RedisError::from(Cause::Memory))
             }
