@@ -1,9 +1,10 @@
 -- What the calls of a connection do, to it and to its guest's queue in the proxy.
-use Rattle.std.specs.Prelude.{◌≡◌, ◌≢◌, ℕ, ◌⊎◌, Bool, true, false, List, [], ◌∷◌, Option, None, length}
+use Rattle.std.specs.Prelude.{◌≡◌, ◌≢◌, ℕ, ◌<◌, ◌⊎◌, Bool, true, false, List, [], ◌∷◌, Option, None, length}
+use Rattle.resp_requests.specs.Standing.{waiting}
 use Rattle.proxy_core.specs.declared.limits.Room.{Room}
 use Rattle.proxy_core.specs.declared.queue.Entry.{Entry}
 use Rattle.proxy_core.specs.Guests.{Queues, queue_at, entry_bytes, queue_bytes}
-use Rattle.proxy_core.specs.Moves.{IsFull, Puts, Takes}
+use Rattle.proxy_core.specs.Moves.{HasRoom, IsFull, Puts, Takes}
 use Rattle.proxy_core.specs.Queue.{first_reply}
 use Rattle.proxy_core.specs.Sees.{Came}
 use Rattle.proxy_connection.specs.declared.connection.Connection.{Connection}
@@ -44,6 +45,17 @@ Advances {T} {C} {V} w command reply share is_there g old new qs qs' Full = Keep
 Advances w command reply share is_there g old new qs qs' Ended =
     Keeps w g old new qs qs' × (new.pending ≡ pendings.Nothing) × (is_ended w new ≡ true)
 Advances w command reply share is_there g old new qs qs' NoGuest = Keeps w g old new qs qs' × (is_there ≡ false)
+
+-- What memory was wanted for, by what of the next command is pending in c, in such a share of which the guest holds q:
+-- for bytes that wait, of a guest that has not ended; for what its words or its fault mean; or for an entry that has
+-- room, of a guest that is there.
+abbrev pub IsUnderWay : {T C V : Type 0} → Ways T C V → (C → ℕ) → (V → ℕ) → Room → Bool → List (Entry C V)
+    → Connection T C V → Pending C V → Type 0
+IsUnderWay w command reply share is_there q c pendings.Nothing =
+    (is_ended w c ≡ false) × (0 < length (waiting c.requests))
+IsUnderWay w command reply share is_there q c (pendings.Entry e) = (is_there ≡ true)
+    × HasRoom share (length q) (queue_bytes command reply q) (entry_bytes command reply e)
+IsUnderWay w command reply share is_there q c _ = Unit {0}
 
 -- What came of looking for bytes to write to guest g: those that are left of the reply that is going out, or,
 -- where none are, those of the next reply; or no reply is there.

@@ -1,5 +1,5 @@
 -- What the calls of a proxy do: to the queues of its guests, qs before and qs' after, or to all of it.
-use Rattle.std.specs.Prelude.{◌≡◌, ◌≢◌, ℕ, ◌+◌, ◌<◌, ◌≤◌, ◌⊎◌, Bool, false, List, [], ◌∷◌, ◌++◌, length, slice_set}
+use Rattle.std.specs.Prelude.{◌≡◌, ◌≢◌, ℕ, ◌+◌, ◌<◌, ◌≤◌, ◌⊎◌, Bool, true, false, List, [], ◌∷◌, ◌++◌, length, slice_set}
 use Rattle.proxy_core.specs.declared.limits.Room.{Room}
 use Rattle.proxy_core.specs.declared.outcome.Outcome.{Outcome}
 use Rattle.proxy_core.specs.declared.queue.Entry.{Entry}
@@ -17,12 +17,16 @@ use Rattle.proxy_core.specs.State.{State}
 abbrev pub IsFull : Room → ℕ → ℕ → ℕ → Type 0
 IsFull share entries held size = (share.entries ≤ entries) ⊎ (share.bytes < held + size)
 
+-- and one that has room there
+abbrev pub HasRoom : Room → ℕ → ℕ → ℕ → Type 0
+HasRoom share entries held size = (entries < share.entries) × (held + size ≤ share.bytes)
+
 -- when an entry is refused so, by whether its guest is there, and by its share: what other guests hold is
--- no cause
+-- no cause, and memory is wanted only for an entry that has room
 abbrev pub IsDue : Refusal → Bool → Room → ℕ → ℕ → ℕ → Type 0
 IsDue NoGuest is_there share entries held size = is_there ≡ false
 IsDue Full is_there share entries held size = IsFull share entries held size
-IsDue NoMemory is_there share entries held size = Unit {0}
+IsDue NoMemory is_there share entries held size = (is_there ≡ true) × HasRoom share entries held size
 
 -- when a guest is refused so: all numbers below the limit are taken, or one of them is free, but no guest that
 -- left had it, so that a place has to be made for it

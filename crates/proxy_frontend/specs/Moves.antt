@@ -1,5 +1,5 @@
 -- What the calls of a frontend do.
-use Rattle.std.specs.Prelude.{◌≡◌, ℕ, ◌≤◌, ◌<◌, ◌⊎◌, Bool, true, false, cond, List, ◌++◌, length, Option, Some, None, is_some}
+use Rattle.std.specs.Prelude.{◌≡◌, ℕ, ◌≤◌, ◌<◌, ◌⊎◌, Bool, true, false, not, cond, List, ◌++◌, length, Option, Some, None, MatchOption, is_some}
 use Rattle.std.specs.Option.{option_map}
 use Rattle.proxy_core.specs.declared.limits.Room.{Room}
 use Rattle.proxy_core.specs.declared.outcome.Outcome.{Outcome}
@@ -7,7 +7,7 @@ use Rattle.proxy_core.specs.declared.queue.Entry.{Entry}
 use Rattle.proxy_core.specs.declared.refusal.JoinRefusal.{JoinRefusal}
 use Rattle.proxy_core.specs.declared.refusal.JoinRefusal.TheVariants as joins
 use Rattle.proxy_core.specs.Batch.{Asks}
-use Rattle.proxy_core.specs.Guests.{queue_at, free_from, entry_bytes, queue_bytes}
+use Rattle.proxy_core.specs.Guests.{queue_at, is_open_at, free_from, entry_bytes, queue_bytes}
 use Rattle.proxy_core.specs.Moves.{IsFull, Settles}
 use Rattle.proxy_core.specs.Queue.{first_reply}
 use Rattle.proxy_connection.specs.declared.connection.Connection.{Connection}
@@ -15,6 +15,7 @@ use Rattle.proxy_connection.specs.declared.pending.Pending.TheVariants as pendin
 use Rattle.proxy_connection.specs.declared.progress.Progress.{Progress}
 use Rattle.proxy_connection.specs.declared.progress.Progress.TheVariants.{Taken, Short, Full, Ended, NoGuest}
 use Rattle.proxy_connection.specs.History.{History}
+use Rattle.proxy_connection.specs.Moves.{IsUnderWay}
 use Rattle.proxy_connection.specs.Serving.{IsCaughtUp, is_empty, is_ended, rest_of}
 use Rattle.proxy_connection.specs.Ways.{Ways}
 use Rattle.proxy_frontend.specs.Histories.{entered, wrote, told}
@@ -58,12 +59,23 @@ Advances {T} {C} {V} w command reply old new g Taken =
     (e : Entry C V) × IsConnected old g × AllGo w old new (entered g e)
 Advances w command reply old new g why = AllStay w old new × RestsAt w command reply old new g why
 
+-- memory was wanted for the next command of guest g, of whose connection this stands now
+abbrev pub IsUnderWayAt : {T C V : Type 0} → Ways T C V → (C → ℕ) → (V → ℕ) → State T C V → State T C V → ℕ → Type 0
+IsUnderWayAt w command reply old new g = Always w old (λ histories. MatchOption (connection_at new.connections g) ⊥
+    (λ c. IsUnderWay w command reply old.proxy.limits.share (is_open_at old.proxy.openings g)
+    (queue_at old.proxy.queues g) c c.pending))
+
 -- what is to be written next to a guest with this connection and this queue: what is left of the reply that is going
 -- out, or else the next reply
 abbrev pub next_bytes : {T C V : Type 0} → Ways T C V → Option (Connection T C V) → List (Entry C V) → Option (List ℕ)
 next_bytes w None q = None
 next_bytes w (Some c) q = cond (is_empty (rest_of w.written c.reply c.count)) (option_map w.written (first_reply q))
     (Some (rest_of w.written c.reply c.count))
+
+-- there is something, and it has bytes
+abbrev pub has_bytes : Option (List ℕ) → Bool
+has_bytes None = false
+has_bytes (Some bytes) = not (is_empty bytes)
 
 -- to guest g there is this to be written next
 abbrev pub HasNext : {T C V : Type 0} → Ways T C V → State T C V → ℕ → (Option (List ℕ) → Type 0) → Type 0

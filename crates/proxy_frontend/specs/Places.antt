@@ -1,11 +1,11 @@
 -- What is done at the place of one guest among all connections.
-use Rattle.std.specs.Prelude.{◌≡◌, ◌≢◌, ℕ, Bool, true, false, List, ◌++◌, Option, Some, None, MatchOption, is_some, slice_set}
+use Rattle.std.specs.Prelude.{◌≡◌, ◌≢◌, ℕ, Bool, true, false, List, ◌++◌, Option, Some, None, MatchOption, slice_set}
 use Rattle.proxy_core.specs.Guests.{Queues, queue_at}
 use Rattle.proxy_connection.specs.declared.connection.Connection.{Connection}
 use Rattle.proxy_connection.specs.History.{written_more}
 use Rattle.proxy_connection.specs.Serving.{Goes, Stays}
 use Rattle.proxy_connection.specs.Ways.{Ways}
-use Rattle.proxy_frontend.specs.Moves.{next_bytes}
+use Rattle.proxy_frontend.specs.Moves.{has_bytes, next_bytes}
 use Rattle.proxy_frontend.specs.State.{connection_at}
 
 -- at place g there is this now, and every other place is as before
@@ -32,8 +32,8 @@ WritesNext w c c' qs qs' before after true = (bytes : List ℕ) × (after ≡ be
 WritesNext w c c' qs qs' before after false = (after ≡ before)
     × (next_bytes w (Some c) (queue_at qs c.guest) ≡ None) × (qs' ≡ qs) × Stays w c c' (queue_at qs c.guest)
 
--- there was something, for which there was no memory, and nothing of it is lost
+-- there were bytes, for which there was no memory, and none of them is lost
 abbrev pub KeepsNext : {T C V : Type 0} → Ways T C V → Connection T C V → Connection T C V → Queues C V → Queues C V
     → Type 0
-KeepsNext w c c' qs qs' = (is_some (next_bytes w (Some c) (queue_at qs c.guest)) ≡ true) × SameOthers c.guest qs qs'
+KeepsNext w c c' qs qs' = (has_bytes (next_bytes w (Some c) (queue_at qs c.guest)) ≡ true) × SameOthers c.guest qs qs'
     × Goes w c (queue_at qs c.guest) c' (queue_at qs' c.guest) (λ h. h)

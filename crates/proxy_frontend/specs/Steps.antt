@@ -1,5 +1,5 @@
 -- Runs of calls of a frontend, each call with what came of it.
-use Rattle.std.specs.Prelude.{◌≡◌, ℕ, ◌<◌, ◌⊎◌, true, List, [], ◌∷◌, ◌++◌, length, map, Some, None, is_some, Vec}
+use Rattle.std.specs.Prelude.{◌≡◌, ℕ, ◌<◌, ◌⊎◌, true, List, [], ◌∷◌, ◌++◌, length, map, Some, None, Vec}
 use Rattle.std.specs.Global.{Global}
 use Rattle.resp_requests.specs.declared.limits.Limits.{Limits}
 use Rattle.proxy_core.specs.declared.outcome.Outcome.{Outcome}
@@ -16,7 +16,7 @@ use Rattle.proxy_frontend.specs.declared.run.Answer.TheVariants as answers
 use Rattle.proxy_frontend.specs.declared.run.Call.{Call}
 use Rattle.proxy_frontend.specs.declared.run.Call.TheVariants as calls
 use Rattle.proxy_frontend.specs.Histories.{Histories, joined, heard, entered, wrote, left, told}
-use Rattle.proxy_frontend.specs.Moves.{IsJoinDue, IsConnected, RestsAt, HasNext}
+use Rattle.proxy_frontend.specs.Moves.{IsJoinDue, IsConnected, IsUnderWayAt, RestsAt, HasNext, has_bytes}
 use Rattle.proxy_frontend.specs.Serving.{AllGo}
 use Rattle.proxy_frontend.specs.State.{State}
 
@@ -98,13 +98,15 @@ Says w command reply asks (Joined g t) old s new s' =
     (g ≡ free_from 0 old.proxy.openings) × (g < old.proxy.limits.guests) × (s' ≡ s)
 Says w command reply asks (NotJoined t why) old s new s' = IsJoinDue old why × (s' ≡ s)
 Says w command reply asks (Heard g bytes) old s new s' = s' ≡ s
-Says w command reply asks (NotHeard g bytes) old s new s' = IsConnected old g × (s' ≡ s)
+Says w command reply asks (NotHeard g bytes) old s new s' =
+    IsConnected old g × (0 < length bytes.items) × (s' ≡ s)
 Says w command reply asks (Entered g e) old s new s' = IsConnected old g × (s' ≡ s)
 Says w command reply asks (Rested g why) old s new s' = RestsAt w command reply old new g why × (s' ≡ s)
-Says w command reply asks (NotAdvanced g) old s new s' = IsConnected old g × (s' ≡ s)
+Says w command reply asks (NotAdvanced g) old s new s' =
+    IsConnected old g × IsUnderWayAt w command reply old new g × (s' ≡ s)
 Says w command reply asks (Wrote g bytes) old s new s' = HasNext w old g (λ next. next ≡ Some bytes.items) × (s' ≡ s)
 Says w command reply asks (WroteNothing g) old s new s' = HasNext w old g (λ next. next ≡ None) × (s' ≡ s)
-Says w command reply asks (NotWritten g) old s new s' = HasNext w old g (λ next. is_some next ≡ true) × (s' ≡ s)
+Says w command reply asks (NotWritten g) old s new s' = HasNext w old g (λ next. has_bytes next ≡ true) × (s' ≡ s)
 Says w command reply asks (Left g) old s new s' = s' ≡ s
 Says w command reply asks (Turned batch outcomes) old s new s' = asks s batch outcomes s'
     × (length outcomes ≡ length batch) × Settles w.overlaps old.proxy.queues new.proxy.queues batch outcomes
