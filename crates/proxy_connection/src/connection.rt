@@ -1,10 +1,11 @@
 //! A guest's connection.
-ghost use Rattle.std.specs.Prelude.{◌≡◌, ◌≢◌, ℕ, List, [], ◌∷◌, ◌++◌, Some, None, OnOk, OnErr, IfOk, IfSome, IfNone, take, drop, false, true};
+ghost use Rattle.std.specs.Prelude.{◌≡◌, ◌≢◌, ℕ, Bool, List, [], ◌∷◌, ◌++◌, ◌<◌, length, Some, None, OnOk, OnErr, IfOk, IfSome, IfNone, take, drop, false, true};
+ghost use Rattle.proxy_core.specs.declared.limits.Room.{Room};
 ghost use Rattle.proxy_core.specs.declared.queue.Entry.{Entry};
 ghost use Rattle.proxy_core.specs.Guests.{openings, is_open_at, queue_at, queues};
 ghost use Rattle.proxy_connection.specs.declared.progress.Progress.TheVariants.{Short, Ended};
 ghost use Rattle.proxy_connection.specs.History.{History, beginning, fed_more, written_more};
-ghost use Rattle.proxy_connection.specs.Moves.{Advances, Fetches, HoldsEntry, Keeps, Rests};
+ghost use Rattle.proxy_connection.specs.Moves.{Advances, Fetches, HoldsEntry, IsUnderWay, Keeps, Rests};
 ghost use Rattle.proxy_connection.specs.Serving.{Goes, Serves, Stays, is_nothing, is_over, rest_of};
 ghost use Rattle.proxy_connection.specs.Ways.{ways};
 
@@ -74,6 +75,7 @@ impl<T: Translator<C, V>, C: Command, V: Written> Connection<T, C, V> {
             self.old q self.new q (λ h. fed_more h bytes.now)) }
         ensures err { OnErr result ((q : List (Entry C V))
             → Stays (ways C.overlaps V.written T.translates T.refuses T.has_ended) self.old self.new q) }
+        ensures some { OnErr result (0 < length bytes.now) }
         ensures guest { self.new.guest ≡ self.old.guest }
     {
         self.requests.feed(bytes)?;
@@ -94,6 +96,9 @@ impl<T: Translator<C, V>, C: Command, V: Written> Connection<T, C, V> {
             self.old.guest self.old self.new (queues proxy.old.guests.items) (queues proxy.new.guests.items) progress) }
         ensures err { OnErr result (Keeps (ways C.overlaps V.written T.translates T.refuses T.has_ended)
             self.old.guest self.old self.new (queues proxy.old.guests.items) (queues proxy.new.guests.items)) }
+        ensures due { OnErr result (IsUnderWay (ways C.overlaps V.written T.translates T.refuses T.has_ended) C.bytes V.bytes
+            proxy.old.limits.share (is_open_at (openings proxy.old.guests.items) self.old.guest)
+            (queue_at (queues proxy.old.guests.items) self.old.guest) self.new self.new.pending) }
         ensures guest { self.new.guest ≡ self.old.guest }
         ensures openings { openings proxy.new.guests.items ≡ openings proxy.old.guests.items }
         ensures limits { proxy.new.limits ≡ proxy.old.limits }
@@ -113,6 +118,9 @@ impl<T: Translator<C, V>, C: Command, V: Written> Connection<T, C, V> {
         ensures none { IfOk result (λ progress. IfSome progress (λ why.
             Rests (ways C.overlaps V.written T.translates T.refuses T.has_ended) self.old self.new why)) }
         ensures some { IfOk result (λ progress. IfNone progress (is_nothing self.new.pending ≡ false)) }
+        ensures due { OnErr result ((share : Room) (is_there : Bool) (q : List (Entry C V))
+            → IsUnderWay (ways C.overlaps V.written T.translates T.refuses T.has_ended) C.bytes V.bytes
+            share is_there q self.new self.new.pending) }
         ensures guest { self.new.guest ≡ self.old.guest }
     {
         if !self.pending.is_nothing() {
@@ -141,6 +149,9 @@ impl<T: Translator<C, V>, C: Command, V: Written> Connection<T, C, V> {
         ensures entry { OnOk result (HoldsEntry self.new.pending) }
         ensures stays { (q : List (Entry C V))
             → Stays (ways C.overlaps V.written T.translates T.refuses T.has_ended) self.old self.new q }
+        ensures due { OnErr result ((share : Room) (is_there : Bool) (q : List (Entry C V))
+            → IsUnderWay (ways C.overlaps V.written T.translates T.refuses T.has_ended) C.bytes V.bytes
+            share is_there q self.new self.new.pending) }
         ensures guest { self.new.guest ≡ self.old.guest }
     {
         let entry = match &self.pending {
@@ -165,6 +176,9 @@ impl<T: Translator<C, V>, C: Command, V: Written> Connection<T, C, V> {
             self.old.guest self.old self.new (queues proxy.old.guests.items) (queues proxy.new.guests.items) progress) }
         ensures err { OnErr result (Keeps (ways C.overlaps V.written T.translates T.refuses T.has_ended)
             self.old.guest self.old self.new (queues proxy.old.guests.items) (queues proxy.new.guests.items)) }
+        ensures due { OnErr result (IsUnderWay (ways C.overlaps V.written T.translates T.refuses T.has_ended) C.bytes V.bytes
+            proxy.old.limits.share (is_open_at (openings proxy.old.guests.items) self.old.guest)
+            (queue_at (queues proxy.old.guests.items) self.old.guest) self.new self.new.pending) }
         ensures guest { self.new.guest ≡ self.old.guest }
         ensures openings { openings proxy.new.guests.items ≡ openings proxy.old.guests.items }
         ensures limits { proxy.new.limits ≡ proxy.old.limits }

@@ -53,7 +53,7 @@ impl<C: Command, V: Bytes> Proxy<C, V> {
         }
         match self.add(alloc) {
             Ok(()) => Ok(number),
-            Err(_) => Err(JoinRefusal::NoMemory),
+            Err(AllocError) => Err(JoinRefusal::NoMemory),
         }
     }
 

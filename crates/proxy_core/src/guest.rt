@@ -9,6 +9,7 @@ use crate::limits::Room;
 use crate::outcome::Outcome;
 use crate::queue::{Entry, settle, take_first};
 use crate::refusal::{Refusal, Refused};
+use std::alloc::AllocFailed;
 use std::collections::VecDeque;
 
 /// A guest.
@@ -72,9 +73,9 @@ impl<C: Bytes, V: Bytes> Guest<C, V> {
                 self.bytes += size as u128;
                 Ok(())
             }
-            Err(failed) => Err(Refused {
+            Err(AllocFailed { value, .. }) => Err(Refused {
                 why: Refusal::NoMemory,
-                value: failed.value,
+                value,
             }),
         }
     }

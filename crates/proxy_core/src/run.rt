@@ -80,7 +80,7 @@ impl<C: Command, V: Bytes> Proxy<C, V> {
             }
             Call::Turn => match self.turn(alloc, servers) {
                 Ok(()) => Answer::Turned,
-                Err(_) => Answer::NoMemory,
+                Err(AllocError) => Answer::NoMemory,
             },
         }
     }

@@ -1,5 +1,5 @@
 -- What comes of looking for a guest's next command.
-use Rattle.std.proofs.Common.{◌≡◌, ◌≢◌, ℕ, List, [], ◌∷◌, ◌++◌, Option, Some, None, set, refl, sym, ◌∙◌, ap, subst}
+use Rattle.std.proofs.Common.{◌≡◌, ◌≢◌, ℕ, List, [], ◌∷◌, ◌++◌, Option, Some, None, MatchOption, set, refl, sym, ◌∙◌, ap, subst}
 use Rattle.std.specs.Prelude.{is_some}
 use Rattle.std.proofs.lemmas.List.{get_or-set_other}
 use Rattle.proxy_core.specs.Guests.{Queues, queue_at, is_open_at}
@@ -11,12 +11,12 @@ use Rattle.proxy_connection.specs.History.{History, then}
 use Rattle.proxy_connection.specs.Moves as moves
 use Rattle.proxy_connection.specs.Serving.{Serves}
 use Rattle.proxy_connection.specs.Ways.{Ways}
-use Rattle.proxy_frontend.specs.Moves.{Advances, Rests, RestsAt}
+use Rattle.proxy_frontend.specs.Moves.{Advances, IsUnderWayAt, Rests, RestsAt}
 use Rattle.proxy_frontend.specs.Places.{Changes}
 use Rattle.proxy_frontend.specs.Serving.{AllStay, IsServed}
 use Rattle.proxy_frontend.specs.State.{State, connection_at}
 use Rattle.proxy_frontend.proofs.Places.{changes_either}
-use Rattle.proxy_frontend.proofs.Served.{still, unmoved, moved, now_at}
+use Rattle.proxy_frontend.proofs.Served.{number_of, still, unmoved, moved, now_at}
 
 module _ {T C V : Type 0} (w : Ways T C V) (command : C → ℕ) (reply : V → ℕ) (old new : State T C V) (g : ℕ) (f : new.proxy.openings ≡ old.proxy.openings) where
   -- of a connection that is there
@@ -87,3 +87,17 @@ module _ {T C V : Type 0} (w : Ways T C V) (command : C → ℕ) (reply : V → 
   not_advanced m =
       changes_either old.connections new.connections g ⊥ (λ c c'. moves.Keeps w c.guest c c' old.proxy.queues new.proxy.queues) (AllStay w old new × (new.proxy.queues ≡ old.proxy.queues))
       (λ e k n. absurd n) (λ c c' was made k so. (keeps c c' was made k so, so.0)) m
+
+  abbrev Wants_so : ℕ → Connection T C V → Type 0
+  Wants_so n c = moves.IsUnderWay w command reply old.proxy.limits.share (is_open_at old.proxy.openings n) (queue_at old.proxy.queues n) c c.pending
+
+  pub under_way : Changes old.connections new.connections g ⊥ (λ c c'. Wants_so c.guest c') → IsUnderWayAt w command reply old new g
+  under_way m =
+      changes_either old.connections new.connections g ⊥ (λ c c'. Wants_so c.guest c') (IsUnderWayAt w command reply old new g)
+      (λ e k n. absurd n)
+      (λ c c' was made k so histories s.
+      let own : c.guest ≡ g =
+      number_of w g c (is_open_at old.proxy.openings g) (queue_at old.proxy.queues g) (histories g)
+      (subst (λ (x : Option (Connection T C V)). IsServed w g x (is_open_at old.proxy.openings g) (queue_at old.proxy.queues g) (histories g)) was (s g)) in
+      subst (λ (x : Option (Connection T C V)). MatchOption x ⊥ (Wants_so g)) (sym (now_at w old new g c c' (λ h. h) was made))
+      (subst (λ (i : ℕ). Wants_so i c') own so)) m

@@ -1,11 +1,11 @@
 -- What is to be written next to a guest.
-use Rattle.std.proofs.Common.{◌≡◌, ℕ, Bool, true, false, List, Option, Some, None, is_some, set, sym, ap, subst}
+use Rattle.std.proofs.Common.{◌≡◌, ℕ, Bool, true, false, List, Option, Some, None, set, sym, ap, subst}
 use Rattle.proxy_core.specs.Guests.{Queues, queue_at, is_open_at}
 use Rattle.proxy_connection.specs.declared.connection.Connection.{Connection}
 use Rattle.proxy_connection.specs.History.{written_more}
 use Rattle.proxy_connection.specs.Serving.{Serves}
 use Rattle.proxy_connection.specs.Ways.{Ways}
-use Rattle.proxy_frontend.specs.Moves.{HasNext, Writes, next_bytes}
+use Rattle.proxy_frontend.specs.Moves.{HasNext, Writes, has_bytes, next_bytes}
 use Rattle.proxy_frontend.specs.Places.{Changes, KeepsNext, WritesNext}
 use Rattle.proxy_frontend.specs.Serving.{IsServed}
 use Rattle.proxy_frontend.specs.State.{State, connection_at}
@@ -22,10 +22,10 @@ module _ {T C V : Type 0} (w : Ways T C V) (old new : State T C V) (g : ℕ) whe
       subst (λ (x : Option (Connection T C V)). is_so (next_bytes w x (queue_at old.proxy.queues g))) (sym was)
       (subst (λ (i : ℕ). is_so (next_bytes w (Some c) (queue_at old.proxy.queues i))) own so)
 
-  pub kept_next : Changes old.connections new.connections g ⊥ (λ c c'. KeepsNext w c c' old.proxy.queues new.proxy.queues) → HasNext w old g (λ next. is_some next ≡ true)
+  pub kept_next : Changes old.connections new.connections g ⊥ (λ c c'. KeepsNext w c c' old.proxy.queues new.proxy.queues) → HasNext w old g (λ next. has_bytes next ≡ true)
   kept_next m =
-      changes_either old.connections new.connections g ⊥ (λ c c'. KeepsNext w c c' old.proxy.queues new.proxy.queues) (HasNext w old g (λ next. is_some next ≡ true))
-      (λ e k n. absurd n) (λ c c' was made k so. has_next c (λ next. is_some next ≡ true) was so.0) m
+      changes_either old.connections new.connections g ⊥ (λ c c'. KeepsNext w c c' old.proxy.queues new.proxy.queues) (HasNext w old g (λ next. has_bytes next ≡ true))
+      (λ e k n. absurd n) (λ c c' was made k so. has_next c (λ next. has_bytes next ≡ true) was so.0) m
 
   module _ (f : new.proxy.openings ≡ old.proxy.openings) (before after : List ℕ) where
     writes_some : (c c' : Connection T C V) → connection_at old.connections g ≡ Some c → new.connections ≡ set old.connections g (Some c') → c'.guest ≡ c.guest

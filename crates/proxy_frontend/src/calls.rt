@@ -1,11 +1,11 @@
 //! The calls of a frontend.
-ghost use Rattle.std.specs.Prelude.{◌≡◌, ◌<◌, ◌⊎◌, ℕ, [], is_some, length, true, false, IfOk, IfErr, OnOk, OnErr, MatchOption};
+ghost use Rattle.std.specs.Prelude.{◌≡◌, ◌<◌, ◌⊎◌, ℕ, [], length, true, false, IfOk, IfErr, OnOk, OnErr, MatchOption};
 ghost use Rattle.std.specs.Option.{option_map};
 ghost use Rattle.proxy_core.specs.Guests.{free_from, openings, queue_at, queues};
 ghost use Rattle.proxy_connection.specs.Serving.{is_over};
 ghost use Rattle.proxy_connection.specs.Ways.{ways};
 ghost use Rattle.proxy_frontend.specs.Histories.{heard, joined, left, nobody};
-ghost use Rattle.proxy_frontend.specs.Moves.{Advances, HasNext, IsConnected, IsJoinDue, Turns, Writes};
+ghost use Rattle.proxy_frontend.specs.Moves.{Advances, HasNext, IsConnected, IsJoinDue, IsUnderWayAt, Turns, Writes, has_bytes};
 ghost use Rattle.proxy_frontend.specs.Serving.{AllGo, AllStay, Always, AreServed};
 ghost use Rattle.proxy_frontend.specs.State.{connection_at, state_of};
 
@@ -51,7 +51,7 @@ impl<T: Translator<C, V>, C: Command, V: Written> Frontend<T, C, V> {
         let connection = Connection::new(alloc, guest, translator, self.limits);
         match place_at(&mut self.connections, guest, connection) {
             Ok(()) => Ok(guest),
-            Err(_) => {
+            Err(AllocError) => {
                 self.proxy.leave(alloc, guest);
                 Err(JoinRefusal::NoMemory)
             }
@@ -67,6 +67,7 @@ impl<T: Translator<C, V>, C: Command, V: Written> Frontend<T, C, V> {
         ensures err { OnErr result (AllStay (ways C.overlaps V.written T.translates T.refuses T.has_ended)
             (state_of self.old) (state_of self.new)) }
         ensures due { OnErr result (IsConnected (state_of self.old) guest) }
+        ensures some { OnErr result (0 < length bytes.now) }
         ensures queues { queues self.new.proxy.guests.items ≡ queues self.old.proxy.guests.items }
         ensures openings { openings self.new.proxy.guests.items ≡ openings self.old.proxy.guests.items }
         ensures limits { self.new.limits ≡ self.old.limits }
@@ -84,6 +85,8 @@ impl<T: Translator<C, V>, C: Command, V: Written> Frontend<T, C, V> {
         ensures err { OnErr result (AllStay (ways C.overlaps V.written T.translates T.refuses T.has_ended)
             (state_of self.old) (state_of self.new)) }
         ensures due { OnErr result (IsConnected (state_of self.old) guest) }
+        ensures under_way { OnErr result (IsUnderWayAt (ways C.overlaps V.written T.translates T.refuses T.has_ended)
+            C.bytes V.bytes (state_of self.old) (state_of self.new) guest) }
         ensures queues { OnErr result (queues self.new.proxy.guests.items ≡ queues self.old.proxy.guests.items) }
         ensures openings { openings self.new.proxy.guests.items ≡ openings self.old.proxy.guests.items }
         ensures limits { self.new.limits ≡ self.old.limits }
@@ -103,7 +106,7 @@ impl<T: Translator<C, V>, C: Command, V: Written> Frontend<T, C, V> {
             (state_of self.old) (state_of self.new)) }
         ensures out { OnErr result (out.new.items ≡ out.old.items) }
         ensures due { OnErr result (HasNext (ways C.overlaps V.written T.translates T.refuses T.has_ended)
-            (state_of self.old) guest (λ next. is_some next ≡ true)) }
+            (state_of self.old) guest (λ next. has_bytes next ≡ true)) }
         ensures openings { openings self.new.proxy.guests.items ≡ openings self.old.proxy.guests.items }
         ensures limits { self.new.limits ≡ self.old.limits }
         ensures shares { self.new.proxy.limits ≡ self.old.proxy.limits }

@@ -1,10 +1,10 @@
 //! The connections of all guests, by their numbers.
-ghost use Rattle.std.specs.Prelude.{◌≡◌, ◌≤◌, List, Some, None, false, length, OnOk, OnErr, IfOk};
+ghost use Rattle.std.specs.Prelude.{◌≡◌, ◌≤◌, ◌<◌, List, Some, None, false, length, OnOk, OnErr, IfOk};
 ghost use Rattle.proxy_core.specs.declared.queue.Entry.{Entry};
 ghost use Rattle.proxy_core.specs.Guests.{openings, is_open_at, queue_at, queues};
 ghost use Rattle.proxy_connection.specs.declared.progress.Progress.TheVariants.{NoGuest};
 ghost use Rattle.proxy_connection.specs.History.{fed_more};
-ghost use Rattle.proxy_connection.specs.Moves.{Advances, Keeps};
+ghost use Rattle.proxy_connection.specs.Moves.{Advances, IsUnderWay, Keeps};
 ghost use Rattle.proxy_connection.specs.Serving.{Goes, Stays};
 ghost use Rattle.proxy_connection.specs.Ways.{ways};
 ghost use Rattle.proxy_frontend.specs.Places.{Changes, KeepsNext, Places, WritesNext};
@@ -56,6 +56,7 @@ pub(crate) fn feed_at<T: Translator<C, V>, C: Command, V: Written>(
     ensures err { OnErr result (Changes connections.old.items connections.new.items guest ⊥
         (λ c c'. (q : List (Entry C V)) → Stays (ways C.overlaps V.written T.translates T.refuses T.has_ended)
         c c' q)) }
+    ensures some { OnErr result (0 < length bytes.now) }
 {
     if connections.len() <= guest {
         return Ok(());
@@ -81,6 +82,10 @@ pub(crate) fn advance_at<T: Translator<C, V>, C: Command, V: Written>(
     ensures err { OnErr result (Changes connections.old.items connections.new.items guest ⊥
         (λ c c'. Keeps (ways C.overlaps V.written T.translates T.refuses T.has_ended) c.guest c c'
         (queues proxy.old.guests.items) (queues proxy.new.guests.items))) }
+    ensures under_way { OnErr result (Changes connections.old.items connections.new.items guest ⊥
+        (λ c c'. IsUnderWay (ways C.overlaps V.written T.translates T.refuses T.has_ended) C.bytes V.bytes
+        proxy.old.limits.share (is_open_at (openings proxy.old.guests.items) c.guest)
+        (queue_at (queues proxy.old.guests.items) c.guest) c' c'.pending)) }
     ensures openings { openings proxy.new.guests.items ≡ openings proxy.old.guests.items }
     ensures limits { proxy.new.limits ≡ proxy.old.limits }
 {

@@ -1,7 +1,7 @@
 //! Runs of calls, one after another, each with what it answered.
-ghost use Rattle.std.specs.Prelude.{◌≡◌, ◌≢◌, [], true, false, is_some, IfOk, MatchOption, OnErr, OnOk};
+ghost use Rattle.std.specs.Prelude.{◌≡◌, ◌≢◌, [], true, false, IfOk, MatchOption, OnErr, OnOk};
 ghost use Rattle.proxy_connection.specs.Ways.{ways};
-ghost use Rattle.proxy_frontend.specs.Moves.{HasNext, Writes};
+ghost use Rattle.proxy_frontend.specs.Moves.{HasNext, Writes, has_bytes};
 ghost use Rattle.proxy_frontend.specs.Serving.{AllStay};
 ghost use Rattle.proxy_frontend.specs.State.{state_of};
 ghost use Rattle.proxy_frontend.specs.Steps.{MakesOne, Plays};
@@ -63,7 +63,7 @@ impl<T: Translator<C, V>, C: Command, V: Written> Frontend<T, C, V> {
         ensures err { OnErr result (AllStay (ways C.overlaps V.written T.translates T.refuses T.has_ended)
             (state_of self.old) (state_of self.new)) }
         ensures due { OnErr result (HasNext (ways C.overlaps V.written T.translates T.refuses T.has_ended)
-            (state_of self.old) guest (λ next. is_some next ≡ true)) }
+            (state_of self.old) guest (λ next. has_bytes next ≡ true)) }
         ensures limits { self.new.limits ≡ self.old.limits }
         ensures shares { self.new.proxy.limits ≡ self.old.proxy.limits }
     {
@@ -92,16 +92,16 @@ impl<T: Translator<C, V>, C: Command, V: Written> Frontend<T, C, V> {
             },
             Call::Hear(guest, bytes) => match self.hear(guest, &bytes) {
                 Ok(()) => Answer::Heard,
-                Err(_) => Answer::NoMemory,
+                Err(AllocError) => Answer::NoMemory,
             },
             Call::Advance(guest) => match self.advance(alloc, guest) {
                 Ok(progress) => Answer::Advanced(progress),
-                Err(_) => Answer::NoMemory,
+                Err(AllocError) => Answer::NoMemory,
             },
             Call::Write(guest) => match self.next_of(alloc, guest) {
                 Ok(Some(bytes)) => Answer::Wrote(bytes),
                 Ok(None) => Answer::WroteNothing,
-                Err(_) => Answer::NoMemory,
+                Err(AllocError) => Answer::NoMemory,
             },
             Call::Leave(guest) => {
                 self.leave(alloc, guest);
@@ -109,7 +109,7 @@ impl<T: Translator<C, V>, C: Command, V: Written> Frontend<T, C, V> {
             }
             Call::Turn => match self.turn(alloc, servers) {
                 Ok(()) => Answer::Turned,
-                Err(_) => Answer::NoMemory,
+                Err(AllocError) => Answer::NoMemory,
             },
         }
     }

@@ -10,6 +10,7 @@ use Rattle.resp_requests.specs.declared.reader.RequestReader.{RequestReader}
 use Rattle.resp_requests.specs.Gaps.{Gap, short, fault, Read}
 use Rattle.resp_requests.specs.Given.{Fails, texts}
 use Rattle.resp_requests.specs.Arrays.{count_at, argument_at}
+use Rattle.resp_requests.specs.Lines.{head_at, line_at}
 use Rattle.resp_requests.specs.Requests.{Command, Ending, faulty, Requests, as_command, inline_at, request_at, requests}
 use Rattle.resp_requests.specs.Standing.{waiting, open_at, going, GoesOn, StandsIn, Stands, IsNext, AreAll, AreBeforeFault}
 use Rattle.resp_requests.specs.Advancing.{SameNext, Ends, Halts, Stops, SameStanding, StarWaits, OtherWaits, FollowsStop}
@@ -108,9 +109,19 @@ nothing_read : (l : Limits) → request_at l [] ≡ Err short
 unfolding request_at
 nothing_read l = refl
 
-pub nothing_stops : (r : RequestReader) → r.missing ≡ 0 → waiting r ≡ [] → Stops stops.Short r r
-nothing_stops r none empty =
+no_argument : (l : Limits) → argument_at l [] ≡ Err short
+unfolding argument_at head_at line_at
+no_argument l = refl
+
+-- whether an array is open or not, nothing is read of no bytes
+nothing_open : (r : RequestReader) (n : ℕ) → r.missing ≡ n → waiting r ≡ [] → Stops stops.Short r r
+nothing_open r zero none empty =
     stops_by stops.Short r (between_reads r none [] ∙ ap (λ (w : List ℕ). request_at r.limits (w ++ [])) empty ∙ nothing_read r.limits)
+nothing_open r (suc n) some empty =
+    argument_stops stops.Short r (omega (arith, some)) (ap (argument_at r.limits) empty ∙ no_argument r.limits)
+
+pub nothing_stops : (r : RequestReader) → waiting r ≡ [] → Stops stops.Short r r
+nothing_stops r empty = nothing_open r r.missing refl empty
 
 -- between a standing and what goes on
 to_going : (r : RequestReader) (cs : List Command) (bytes : List ℕ) → r.fault ≡ None → Stands r cs bytes → GoesOn r.limits (going r) cs bytes

@@ -39,6 +39,7 @@ impl RequestReader {
     ghost use Rattle.resp_requests.specs.declared.fault.Fault.{Fault};
     ghost use Rattle.resp_requests.specs.declared.error.RequestError.TheVariants.{Protocol, Memory};
     ghost use Rattle.resp_requests.specs.declared.stop.Stop.TheVariants.{Short};
+    ghost use Rattle.resp_requests.specs.declared.stop.Stop.TheVariants as stops;
     ghost use Rattle.resp_requests.specs.Given.{texts};
     ghost use Rattle.resp_requests.specs.Requests.{Command};
     ghost use Rattle.resp_requests.specs.Standing.{Stands, IsNext, AreAll, AreBeforeFault, waiting, going, told, limits_of, kept, room};
@@ -86,6 +87,7 @@ impl RequestReader {
             → Stands self.old commands bytes → Stands self.new commands bytes) }
         ensures fed { OnOk result (waiting self.new ≡ waiting self.old ++ piece.now) }
         ensures not_fed { OnErr result (waiting self.new ≡ waiting self.old) }
+        ensures due { OnErr result (0 < length piece.now) }
         // What was taken is half of what it keeps at most.
         ensures kept { kept self.new ≤ 2 * length (waiting self.new) }
         ensures told { told self.new ≡ told self.old }
@@ -136,6 +138,8 @@ impl RequestReader {
             → AreBeforeFault (limits_of self.old) bytes commands f × Stands self.new commands bytes }
         ensures memory { IsErrOf result Memory → (commands : List Command) (bytes : List ℕ)
             → Stands self.old commands bytes → Stands self.new commands bytes }
+        // Memory is wanted only for bytes that wait.
+        ensures due { IsErrOf result Memory → 0 < length (waiting self.new) }
         // A fault is told for good.
         ensures told { (f : Fault) → IsErrOf result (Protocol f) ↔ told self.new ≡ Some f }
         ensures stays { (f : Fault) → told self.old ≡ Some f → IsErrOf result (Protocol f) }
@@ -161,6 +165,7 @@ impl RequestReader {
     fn next_command(&mut self) -> Result<Vec<Vec<u8>>, Stop>
         requires { self.old.fault ≡ None }
         ensures follows { Follows result self.old self.new }
+        ensures due { IsErrOf result stops.Memory → self.new.front < vec_len self.new.buffer }
         ensures buffer { self.new.buffer ≡ self.old.buffer }
         ensures told { self.new.fault ≡ self.old.fault }
         ensures limits { self.new.limits ≡ self.old.limits }
@@ -178,15 +183,16 @@ impl RequestReader {
     fn advance(&mut self) -> Result<Option<Vec<Vec<u8>>>, Stop>
         ensures advances { Advances result self.old self.new }
         ensures moves { IfOk result (λ _. self.old.front < self.new.front) }
+        ensures due { IsErrOf result stops.Memory → self.new.front < vec_len self.new.buffer }
         ensures buffer { self.new.buffer ≡ self.old.buffer }
         ensures told { self.new.fault ≡ self.old.fault }
         ensures limits { self.new.limits ≡ self.old.limits }
     {
-        if self.missing > 0 {
-            return self.take_argument();
-        }
         if self.front == self.buffer.len() {
             return Err(Stop::Short);
+        }
+        if self.missing > 0 {
+            return self.take_argument();
         }
         if self.buffer[self.front] == b'*' {
             self.begin_array()
@@ -200,6 +206,7 @@ impl RequestReader {
         requires star { StarWaits self.old }
         ensures advances { Advances result self.old self.new }
         ensures moves { IfOk result (λ _. self.old.front < self.new.front) }
+        ensures stays { OnErr result (self.new.front ≡ self.old.front) }
         ensures buffer { self.new.buffer ≡ self.old.buffer }
         ensures told { self.new.fault ≡ self.old.fault }
         ensures limits { self.new.limits ≡ self.old.limits }
@@ -223,6 +230,7 @@ impl RequestReader {
         requires { 0 < self.old.missing }
         ensures advances { Advances result self.old self.new }
         ensures moves { IfOk result (λ _. self.old.front < self.new.front) }
+        ensures stays { OnErr result (self.new.front ≡ self.old.front) }
         ensures buffer { self.new.buffer ≡ self.old.buffer }
         ensures told { self.new.fault ≡ self.old.fault }
         ensures limits { self.new.limits ≡ self.old.limits }
@@ -249,6 +257,7 @@ impl RequestReader {
         requires no_star { OtherWaits self.old }
         ensures advances { Advances result self.old self.new }
         ensures moves { IfOk result (λ _. self.old.front < self.new.front) }
+        ensures stays { OnErr result (self.new.front ≡ self.old.front) }
         // What waits of an unfinished line is not searched again.
         ensures searched { IsErrOf result Short → self.new.searched ≡ length (waiting self.new) }
         ensures buffer { self.new.buffer ≡ self.old.buffer }

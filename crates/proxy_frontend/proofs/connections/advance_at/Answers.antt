@@ -10,3 +10,7 @@ returns-in-Some-clause-ok g c =
 pub returns-in-Some-clause-err : goal.returns-in-Some-clause-err
 returns-in-Some-clause-err g c =
     on_err_weaker c.advance.result (λ keeps. changes_at c.args.connections.now.items c.args.guest _ c.in-Some.connection c.advance.new.self _ _ c.index_mut.ensures.value c.in-Some.is (omega arith) c.advance.ensures.guest keeps) c.advance.ensures.err
+
+pub returns-in-Some-clause-under_way : goal.returns-in-Some-clause-under_way
+returns-in-Some-clause-under_way g c =
+    on_err_weaker c.advance.result (λ due. changes_at c.args.connections.now.items c.args.guest _ c.in-Some.connection c.advance.new.self _ _ c.index_mut.ensures.value c.in-Some.is (omega arith) c.advance.ensures.guest due) c.advance.ensures.due

@@ -1,5 +1,6 @@
 use Rattle.std.proofs.Common.{◌≡◌, ◌∙◌, refl, subst}
-use Rattle.proxy_core.specs.Guests.{is_open_at, openings, queues}
+use Rattle.std.proofs.lemmas.Result.{err_from_is_err_and}
+use Rattle.proxy_core.specs.Guests.{is_open_at, openings, queue_at, queues}
 use Rattle.proxy_connection.specs.Moves.{Advances}
 use Rattle.proxy_connection.specs.Ways.{ways}
 use Rattle.proxy_connection.proofs.Served.{advances_behind, rests_advances}
@@ -18,3 +19,17 @@ returns-clause-ok g c =
     (queues old.guests.items) (queues c.put.new.proxy.guests.items) c.in_ok-progress-2.progress) same c.in_ok-progress-2.ensures.ok in
     advances_behind _ _ _ _ _ _ c.understand.new.self c.put.new.self _ _ c.args.self.now c.in_ok-progress-2.progress
     (λ q h s. c.understand.ensures.stays q h (c.hear.ensures.stays q h s)) put
+
+pub returns-in_err-progress-clause-due : goal.returns-in_err-progress-clause-due
+returns-in_err-progress-clause-due g c =
+    let e = err_from_is_err_and c.from_residual.result c.from_residual.ensures.1 in
+    let old = c.args.proxy.now in
+    let n = c.args.self.now.guest in
+    rw e.1 (c.in_err-progress.ensures.due old.limits.share (is_open_at (openings old.guests.items) n) (queue_at (queues old.guests.items) n))
+
+pub returns-in_err-understand-clause-due : goal.returns-in_err-understand-clause-due
+returns-in_err-understand-clause-due g c =
+    let e = err_from_is_err_and c.from_residual-in_err-understand.result c.from_residual-in_err-understand.ensures.1 in
+    let old = c.args.proxy.now in
+    let n = c.args.self.now.guest in
+    rw e.1 (c.in_err-understand.ensures.due old.limits.share (is_open_at (openings old.guests.items) n) (queue_at (queues old.guests.items) n))

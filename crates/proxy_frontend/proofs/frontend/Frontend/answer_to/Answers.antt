@@ -1,4 +1,4 @@
-use Rattle.std.proofs.Common.{List, ℕ, refl, subst}
+use Rattle.std.proofs.Common.{List, ℕ, ◌<◌, length, refl, subst}
 use Rattle.proxy_connection.specs.Ways.{ways}
 use Rattle.proxy_frontend.specs.Histories.{heard}
 use Rattle.proxy_frontend.specs.Serving.{AllGo}
@@ -27,7 +27,8 @@ returns-in-Ok-hear g c =
 pub returns-in-Hear : goal.returns-in-Hear
 returns-in-Hear g c =
     let e = c.in-Err-hear.ensures in
-    (NotHeard c.in-Hear.guest c.in-Hear.bytes, c.in-Hear.is, refl, (e.err, (e.limits, e.shares), (e.due, refl)))
+    let some = subst (λ (bytes : List ℕ). 0 < length bytes) c.deref.ensures.value e.some in
+    (NotHeard c.in-Hear.guest c.in-Hear.bytes, c.in-Hear.is, refl, (e.err, (e.limits, e.shares), (e.due, some, refl)))
 
 pub returns-in-Ok-advance : goal.returns-in-Ok-advance
 returns-in-Ok-advance g c =
@@ -39,7 +40,7 @@ returns-in-Ok-advance g c =
 pub returns-in-Advance : goal.returns-in-Advance
 returns-in-Advance g c =
     let e = c.in-Err-advance.ensures in
-    (NotAdvanced c.in-Advance.guest, c.in-Advance.is, refl, (e.err, (e.limits, e.shares), (e.due, refl)))
+    (NotAdvanced c.in-Advance.guest, c.in-Advance.is, refl, (e.err, (e.limits, e.shares), (e.due, e.under_way, refl)))
 
 pub returns-in-Ok-Some : goal.returns-in-Ok-Some
 returns-in-Ok-Some g c =

@@ -6,6 +6,5 @@ use Rattle.resp_requests.proofs.reader.RequestReader.advance.Goals as goal
 pub returns-then-self-len-clause-advances : goal.returns-then-self-len-clause-advances
 returns-then-self-len-clause-advances c =
     let r = c.args.self.now in
-    let none : r.missing ≡ 0 = omega arith in
     let empty : drop r.front r.buffer.items ≡ [] = drop_all r.front r.buffer.items (omega arith) in
-    nothing_stops r none empty
+    nothing_stops r empty
