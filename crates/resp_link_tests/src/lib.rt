@@ -2,6 +2,8 @@
 #![tactic(auto)]
 
 #[cfg(test)]
+mod failing_once;
+#[cfg(test)]
 mod lasting;
 #[cfg(test)]
 mod links;
