@@ -67,7 +67,7 @@ counted : (args : List (List ℕ)) (rest : List ℕ) → packed args ++ rest ≡
 counted args rest = simp append_assoc
 
 -- a command, then more
-packed-same : (args others : List (List ℕ)) → (rest more : List ℕ) → Sendable args → Sendable others → packed args ++ rest ≡ packed others ++ more → (args ≡ others) × (rest ≡ more)
+pub packed-same : (args others : List (List ℕ)) → (rest more : List ℕ) → Sendable args → Sendable others → packed args ++ rest ≡ packed others ++ more → (args ≡ others) × (rest ≡ more)
 packed-same args others rest more h k e =
     let one = counted args rest in
     let other = counted others more in

@@ -10,6 +10,7 @@ use Rattle.resp_core.specs.Parts.{first_error}
 use Rattle.resp_core.specs.declared.errors.redis_error.Cause.TheVariants.{Io, Memory}
 use Rattle.cluster_routing.specs.Choice.{Strategy}
 use Rattle.cluster_routing.specs.HashSlot.{hash_slot}
+use Rattle.cluster_routing.specs.Lists.{concat}
 use Rattle.cluster_routing.specs.Routing.{destination}
 use Rattle.cluster_routing.specs.Split.{splitting_of}
 use Rattle.cluster_routing.specs.Table.{rule_of, table}
@@ -27,6 +28,7 @@ use Rattle.cluster_calls.specs.Calls.Answer.{Value}
 use Rattle.cluster_calls.specs.Calls.Call.{Call, Refresh, Query, FanOut}
 use Rattle.cluster_calls.specs.Calls.Legal.{IsLegalCall}
 use Rattle.cluster_calls.specs.OneServer.Commands.{is_on_slots}
+use Rattle.cluster_calls.specs.OneServer.SentLists.{AreReadOf, commands_of}
 use Rattle.cluster_calls.specs.OneServer.Headline.{PlayedCall, RepliedCall, with_replies, IsPlayedFrom}
 use Rattle.cluster_calls.specs.WholeCalls.Base.{on_halves, a_fault, taken, query, plain, log_over, text, one, error, error_text}
 use Rattle.cluster_calls.specs.WholeCalls.KeyRuns.{set_a, get_a, get_b, played, answered, three_calls}
@@ -165,6 +167,46 @@ pub a_request_goes_out_once : IsSentFor false ((plain n2 get_a ∷ []) ∷ [])
     (codes "*2\r\n$3\r\nGET\r\n$1\r\na\r\n*2\r\n$3\r\nGET\r\n$1\r\na\r\n") → ⊥
 unfolding digits
 a_request_goes_out_once e = false≢true (ap (λ q. length q == 20) e)
+
+-- ---- bytes of a node whose write failed: its earlier link calls are read in their order, and then a front of the last
+
+abbrev pub three_link_calls : List (List Request)
+three_link_calls = (plain n2 get_a ∷ []) ∷ (plain n2 get_b ∷ []) ∷ (plain n2 set_a ∷ []) ∷ []
+
+pub earlier_link_calls_are_read : AreReadOf true three_link_calls (get_a ∷ get_b ∷ []) (codes "*3\r\n$3\r\nSE")
+unfolding digits
+earlier_link_calls_are_read = (
+  (plain n2 get_a ∷ []) ∷ (plain n2 get_b ∷ []) ∷ [],
+  plain n2 set_a ∷ [],
+  [],
+  codes "T\r\n$1\r\na\r\n$1\r\n1\r\n",
+  refl,
+  refl,
+  refl,
+)
+
+abbrev is_of_b : List (List (List ℕ)) → Bool
+is_of_b ((name ∷ (byte ∷ bytes) ∷ args) ∷ commands) = byte == 98
+is_of_b _ = false
+
+pub and_in_no_other_order : (rest : List ℕ) → AreReadOf true three_link_calls (get_b ∷ get_a ∷ []) rest → ⊥
+and_in_no_other_order rest h = by h.0 h.1 h.2 h.4 h.5
+  where
+    too_many : (x y z : List Request) (before : List (List Request)) (last : List Request)
+        → three_link_calls ≡ x ∷ y ∷ z ∷ (before ++ last ∷ []) → ⊥
+    too_many x y z [] last e = cc
+    too_many x y z (w ∷ before) last e = cc
+
+    by : (before : List (List Request)) (last : List Request) (more : List (List (List ℕ)))
+        → three_link_calls ≡ before ++ last ∷ [] → get_b ∷ get_a ∷ [] ≡ commands_of (concat before) ++ more → ⊥
+    by [] last more e f = cc
+    by (x ∷ []) last more e f = cc
+    by (x ∷ y ∷ []) last more e f =
+        let first : x ≡ plain n2 get_a ∷ [] = cc in
+        let of_a : get_b ∷ get_a ∷ [] ≡ get_a ∷ (commands_of (y ++ []) ++ more) =
+        f ∙ ap (λ qs. commands_of (qs ++ (y ++ [])) ++ more) first in
+        false≢true (sym (ap is_of_b of_a))
+    by (x ∷ y ∷ z ∷ before) last more e f = too_many x y z before last e
 
 -- ---- a node that changes without being asked, and one that is asked over a closed link
 
