@@ -1,8 +1,7 @@
 //! A batch as one pipeline.
-ghost use Rattle.std.specs.Prelude.{◌≡◌, ◌≤◌, ◌+◌, [], length, map, vec_capacity, vec_len, Err, IfOk};
+ghost use Rattle.std.specs.Prelude.{◌≡◌, ◌≤◌, ◌+◌, [], length, map, vec_capacity, vec_len, IfOk};
 ghost use Rattle.std.specs.List.{list_any, AllByRecursion};
 ghost use Rattle.resp_core.specs.View.{view};
-ghost use Rattle.cluster_calls.specs.Calls.Each.{fate_of};
 ghost use Rattle.cluster_calls.specs.Links.World.{tree_result};
 ghost use Rattle.cluster_steps.specs.Joins as joins;
 ghost use Rattle.proxy_core.specs.Batch.{batch_of};
@@ -13,8 +12,9 @@ ghost use Rattle.cluster_servers.specs.Together.{AreTold, IsTold, entries_of};
 use crate::command::GuestCommand;
 use crate::reply::Reply;
 use cluster_client::ClusterPipeline;
+use cluster_steps::join;
 use proxy_core::{Asked, Fate, Outcome};
-use resp_core::{ErrorKind, Protocol, RedisError, ServerErrorKind, Value};
+use resp_core::{Protocol, RedisError, Value};
 use std::alloc::{AllocError, Global};
 use std::collections::VecDeque;
 
@@ -32,16 +32,14 @@ pub(crate) fn pipeline_of(
     Ok(pipeline)
 }
 
-fn refused_fate(error: &RedisError) -> Fate
-    requires { joins.IsTold (Err error.now) }
-    ensures { result ≡ fate_by (fate_of (Err error.now)) }
+/// The fate of a position, as the proxy is told.
+fn fate_by(fate: join::Fate) -> Fate
+    ensures { result ≡ fate_by (joins.fate_in fate) }
 {
-    match error.cause() {
-        Some(_) => Fate::Lost,
-        None => match error.kind() {
-            ErrorKind::Server(ServerErrorKind::Moved | ServerErrorKind::Ask) => Fate::Redirected,
-            _ => Fate::Answered,
-        },
+    match fate {
+        join::Fate::Answered => Fate::Answered,
+        join::Fate::Redirected => Fate::Redirected,
+        join::Fate::Lost => Fate::Lost,
     }
 }
 
@@ -50,12 +48,8 @@ fn outcome_of(alloc: Global, told: Result<Value, RedisError>, protocol: Protocol
     requires { joins.IsTold (tree_result view told) }
     ensures { IsTold protocol (tree_result view told) result }
 {
-    let fate = match &told {
-        Ok(_) => Fate::Answered,
-        Err(error) => refused_fate(error),
-    };
     Outcome {
-        fate,
+        fate: fate_by(join::fate_of(&told)),
         reply: Reply::new(alloc, told, protocol),
     }
 }

@@ -17,11 +17,14 @@ use resp_core::{Cause, ErrorKind, RedisError, ServerErrorKind, Value};
 use std::alloc::{AllocError, Global};
 use std::collections::VecDeque;
 
-/// What became of a part, by its outcome.
+/// What became of a part, or of a position of a pipeline, by its outcome.
 #[derive(Clone, Copy)]
-enum Fate {
+pub enum Fate {
+    /// It was done, or refused by a server that serves it: its reply is data, or an error that is no redirect.
     Answered,
+    /// A node sent it on, and did nothing of it.
     Redirected,
+    /// No reply is there: it may have been done.
     Lost,
 }
 
@@ -46,7 +49,8 @@ fn refused_fate(error: &RedisError) -> Fate
     }
 }
 
-fn fate_of(outcome: &Result<Value, RedisError>) -> Fate
+/// The fate that an outcome tells.
+pub fn fate_of(outcome: &Result<Value, RedisError>) -> Fate
     requires { IsTold (tree_result view outcome.now) }
     ensures { fate_in result ≡ fate_of (tree_result view outcome.now) }
 {
