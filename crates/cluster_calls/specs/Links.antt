@@ -8,6 +8,7 @@ pub mod Places
 pub mod Play
 pub mod Faults
 pub mod Events
+pub mod Lacking
 pub mod Leaves
 pub mod Nodes
 pub mod Happened

@@ -1,5 +1,5 @@
 -- A command sent to several nodes, one after another, and what this makes of the whole call.
-use Rattle.std.specs.Prelude.{◌≡◌, ◌≢◌, ℕ, ◌||◌, false, List, [], ◌∷◌, ◌++◌, map, Option, Some, None, Result, Ok, Err, Vec}
+use Rattle.std.specs.Prelude.{◌≡◌, ◌≢◌, ℕ, ◌||◌, true, false, List, [], ◌∷◌, ◌++◌, map, Option, Some, None, Result, Ok, Err, Vec}
 use Rattle.std.specs.List.{AllByRecursion}
 use Rattle.std.specs.declared.alloc.Global.{Global}
 use Rattle.resp_core.specs.Trees.{Tree}
@@ -20,6 +20,7 @@ use Rattle.cluster_steps.specs.Dispatches.{dispatch_of}
 use Rattle.cluster_calls.specs.Links.Request.{Request}
 use Rattle.cluster_calls.specs.Links.World.{World, tree_result}
 use Rattle.cluster_calls.specs.Links.Faults.{LinkFault}
+use Rattle.cluster_calls.specs.Links.Lacking.{ends_lacking}
 use Rattle.cluster_calls.specs.Links.Events.{Event, Runs, log_of, exchanges_of, Agrees, lack_memory, StopsAtMemory, answered_moved}
 use Rattle.cluster_calls.specs.Links.Chains.{IsSingle}
 use Rattle.cluster_calls.specs.Calls.Parts.{Part, part_to, at_node}
@@ -90,6 +91,7 @@ pub record NodesAsked (old new : World) (ds : List Dispatch)
   pub settings : new.settings ≡ old.settings
   pub picked : new.picked ≡ old.picked
   pub answered : result ≢ Err (by_cause Memory) → NodesAnswered ds events result
+  pub room : result ≡ Err (by_cause Memory) → events ≢ [] → ends_lacking events ≡ true
 
 -- ---- the whole call's reply
 

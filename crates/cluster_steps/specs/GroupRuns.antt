@@ -1,5 +1,5 @@
 -- Groups of requests, each sent in one write, one after another.
-use Rattle.std.specs.Prelude.{◌≡◌, ◌≢◌, ◌<◌, ℕ, ◌||◌, Bool, false, List, [], ◌∷◌, ◌++◌, map, length, take, drop, Some, Result, Ok, Err, MatchBool, Vec}
+use Rattle.std.specs.Prelude.{◌≡◌, ◌≢◌, ◌<◌, ℕ, ◌||◌, Bool, true, false, List, [], ◌∷◌, ◌++◌, map, length, take, drop, Some, Result, Ok, Err, MatchBool, Vec}
 use Rattle.std.specs.List.{list_any, AllByRecursion}
 use Rattle.std.specs.declared.alloc.Global.{Global}
 use Rattle.resp_core.specs.Trees.{Tree, ErrorText}
@@ -15,6 +15,7 @@ use Rattle.cluster_calls.specs.Links.World.{World, Node}
 use Rattle.cluster_calls.specs.Links.Places.{IsOpenAt}
 use Rattle.cluster_calls.specs.Links.Exchanges.{Exchanges}
 use Rattle.cluster_calls.specs.Links.Faults.{LinkFault}
+use Rattle.cluster_calls.specs.Links.Lacking.{ends_lacking}
 use Rattle.cluster_calls.specs.Links.Events.{Event, AllTo, Runs, log_of, exchanges_of, Agrees, lack_memory, StopsAtMemory, answered_moved}
 use Rattle.cluster_steps.specs.Groups.{Group}
 use Rattle.cluster_calls.specs.Calls.Refusals.{pipeline_refusal}
@@ -112,3 +113,4 @@ pub record GroupsMade (old new : World) (gs : List Group)
   pub settings : new.settings ≡ old.settings
   pub picked : new.picked ≡ old.picked
   pub answered : result ≢ Err (by_cause Memory) → GroupsAnswered gs events result
+  pub room : result ≡ Err (by_cause Memory) → events ≢ [] → ends_lacking events ≡ true

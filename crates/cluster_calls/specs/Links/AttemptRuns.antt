@@ -1,6 +1,6 @@
 -- The attempts at a transaction, one behind another: its requests, and the same again behind each redirect
 -- that is followed.
-use Rattle.std.specs.Prelude.{◌≡◌, ◌≢◌, ℕ, ◌||◌, false, List, ◌++◌, Result, Err}
+use Rattle.std.specs.Prelude.{◌≡◌, ◌≢◌, ℕ, ◌||◌, false, List, [], ◌++◌, Result, Err}
 use Rattle.std.specs.List.{AllByRecursion}
 use Rattle.resp_core.specs.Trees.{Tree}
 use Rattle.resp_core.specs.Errors.{Refusal, by_cause}
@@ -12,6 +12,7 @@ use Rattle.cluster_calls.specs.Calls.Transactions.{FollowsAttempts, attempt, sen
 use Rattle.cluster_calls.specs.Links.Events.{Event, Runs, log_of, exchanges_of, Agrees, lack_memory, StopsAtMemory, answered_moved}
 use Rattle.cluster_calls.specs.Links.Faults.{LinkFault}
 use Rattle.cluster_calls.specs.Links.Happened.{client_of}
+use Rattle.cluster_calls.specs.Links.Lacking.{LacksWhere}
 use Rattle.cluster_calls.specs.Links.Log.{Exchange}
 use Rattle.cluster_calls.specs.Links.World.{World}
 
@@ -45,3 +46,5 @@ pub record AttemptsMade (old new : World) (hop : Hop) (commands : List (List (Li
   pub settings : new.settings ≡ old.settings
   pub picked : new.picked ≡ old.picked
   pub answered : reply ≢ Err (by_cause Memory) → AttemptsAnswered old hop commands events reply
+  pub room : reply ≡ Err (by_cause Memory) → events ≢ [] → LacksWhere (client_of old).links events
+      ((place : ℕ) → AreAttempts (client_of old) hop commands (exchanges_of place events))

@@ -9,6 +9,7 @@ use Rattle.cluster_calls.specs.Links.Request.{Request}
 use Rattle.cluster_calls.specs.Links.Log.{Exchange, is_answered, behind_answers}
 use Rattle.cluster_calls.specs.Links.World.{World}
 use Rattle.cluster_calls.specs.Links.Faults.{LinkFault}
+use Rattle.cluster_calls.specs.Links.Lacking.{LacksWhere}
 use Rattle.cluster_calls.specs.Links.Events.{Event, Runs, log_of, exchanges_of, Agrees, lack_memory, StopsAtMemory, answered_moved}
 use Rattle.cluster_calls.specs.Calls.Plan.{Client}
 use Rattle.cluster_calls.specs.Calls.Redirects.{Hop, FollowsRedirects}
@@ -24,6 +25,10 @@ IsSingle x = (q : Request) × (x.requests ≡ q ∷ [])
 abbrev pub IsChain : Client → Hop → List (List ℕ) → List Exchange → Type 0
 IsChain client hop args xs = FollowsRedirects client.links client.settings.budget hop args
     (λ last behind. behind ≡ []) xs
+
+-- these exchanges are a whole chain, and none of them is answered
+abbrev pub IsUnanswered : Client → Hop → List (List ℕ) → List Exchange → Type 0
+IsUnanswered client hop args xs = IsChain client hop args xs × (list_any is_answered xs ≡ false)
 
 -- only the last exchange can be answered: it is, with this reply; or none is, and the refusal is by the last
 -- one
@@ -55,3 +60,5 @@ pub record ChainMade (old new : World) (hop : Hop) (args : List (List ℕ))
   pub settings : new.settings ≡ old.settings
   pub picked : new.picked ≡ old.picked
   pub answered : result ≢ Err (by_cause Memory) → ChainAnswered old new hop args events result
+  pub room : result ≡ Err (by_cause Memory) → LacksWhere (client_of old).links events
+      ((place : ℕ) → IsUnanswered (client_of old) hop args (exchanges_of place events))

@@ -18,6 +18,7 @@ use Rattle.cluster_calls.specs.Links.Faults.{LinkFault}
 use Rattle.cluster_calls.specs.Calls.Answer.{Answer, answer_of, IsAnswerOf, TellsNoMemory}
 use Rattle.cluster_calls.specs.Calls.After.{map_after, flag_after}
 use Rattle.cluster_calls.specs.Links.Events.{Event, Runs, log_of, taken_of, calls_of, exchanges_of, Agrees, lack_memory, StopsAtMemory, answered_moved}
+use Rattle.cluster_calls.specs.Links.Lacking.{MayLack}
 use Rattle.cluster_calls.specs.Links.Nodes.{NodesMade, link_calls}
 
 abbrev pub client_of : World → Client
@@ -56,6 +57,11 @@ pub record Happened (strategy : Option Strategy) (old new : World) (call : Call)
   pub map_stays : is_refresh call ≡ false → new.entries ≡ old.entries
   pub flag : is_refresh call ≡ false → new.needs_refresh ≡ (old.needs_refresh || answered_moved events)
 
+-- what happened is a call that lacks memory no earlier than it must
+abbrev pub LacksLate : Option Strategy → World → World → Call → Type 0
+LacksLate strategy old new call = (happened : Happened strategy old new call)
+    × MayLack (client_of old) new.picked call happened.events
+
 -- ---- unless memory was refused
 
 -- the log is legal, and the answer, the map and the flag are what its replies make, wherever the call stands
@@ -93,7 +99,9 @@ pub record Played (old new : World) (call : Call) (taken : Address → List Tree
 
 -- ---- a call
 
--- No picks are shown where memory was refused before a request was written down.
+-- No picks are shown where memory was refused before a request was written down. Behind the first byte memory
+-- lacks only in a link call, which is the last, for a request that a redirect sends on, or when nothing more
+-- was to be sent.
 pub record CallMade (strategy : Option Strategy) (old new : World) (call : Call)
     (answer : Result Answer Refusal) : Type 0 where
   pub happened : Happened strategy old new call
@@ -101,3 +109,5 @@ pub record CallMade (strategy : Option Strategy) (old new : World) (call : Call)
   pub played : TellsNoMemory answer → Played old new call (taken_of happened.events) answer
   pub memory : answer ≡ Err (by_cause Memory) → is_refresh call ≡ true → LeavesMap old new
   pub unpicked : answer ≡ Err (by_cause Memory) → new.log ≡ [] → new.picked ≡ []
+  pub room : answer ≡ Err (by_cause Memory) → new.log ≢ []
+      → MayLack (client_of old) new.picked call happened.events

@@ -13,6 +13,7 @@ use Rattle.cluster_calls.specs.Links.Faults.{LinkFault}
 use Rattle.cluster_calls.specs.Links.Events.{Event, Runs, log_of, exchanges_of, Agrees, lack_memory, StopsAtMemory, answered_moved}
 use Rattle.cluster_calls.specs.Links.Chains.{IsSingle}
 use Rattle.cluster_calls.specs.Links.Happened.{client_of}
+use Rattle.cluster_calls.specs.Links.Lacking.{LacksWhere}
 use Rattle.cluster_calls.specs.Calls.Plan.{Client, Dispatch}
 use Rattle.cluster_calls.specs.Calls.Legal.{PartByPart}
 use Rattle.cluster_calls.specs.Calls.Replies.{args_slot, reply_or_nil, reply_of_parts}
@@ -55,6 +56,8 @@ pub record PartsMade (old new : World) (ds : List Dispatch)
   pub settings : new.settings ≡ old.settings
   pub picked : new.picked ≡ old.picked
   pub answered : result ≢ Err (by_cause Memory) → PartsAnswered old new ds events result
+  pub room : result ≡ Err (by_cause Memory) → events ≢ [] → LacksWhere (client_of old).links events
+      ((place : ℕ) → PartByPart (client_of old) ds (exchanges_of place events))
 
 -- ---- the whole call's reply
 
