@@ -16,6 +16,7 @@ pub mod Played
 pub mod AnyStrategy
 pub mod PlayedRuns
 pub mod PlayLoop
+pub mod LackingLists
 pub mod ChainLoop
 pub mod PartLoop
 pub mod LastCommand

@@ -1,5 +1,6 @@
 -- A call that has ended is made when its picks are forgotten, where memory was refused before a request was written down.
-use Rattle.std.proofs.Common.{◌≡◌, ◌≢◌, ℕ, false, List, [], Option, Some, None, refl, sym, ap, ◌∙◌, subst, Result, Ok, Err}
+use Rattle.std.specs.Prelude.{◌⊎◌}
+use Rattle.std.proofs.Common.{◌≡◌, ◌≢◌, ℕ, false, inl, inr, List, [], Option, Some, None, refl, sym, ap, ◌∙◌, subst, Result, Ok, Err}
 use Rattle.std.proofs.lemmas.Bool.{false≢true}
 use Rattle.resp_core.specs.Errors.{Refusal, by_cause, by_server, at_position, by_servers, kind_by, kind_of, named_kind, server_kind}
 use Rattle.resp_core.specs.View.{view}
@@ -25,7 +26,8 @@ use Rattle.cluster_calls.proofs.LinkLaws.ManyParts as parts
 use Rattle.cluster_calls.specs.Links.Converted.{value_answer}
 use Rattle.cluster_calls.specs.Calls.Legal.{IsLegalCall}
 use Rattle.cluster_calls.specs.Links.Events.{Runs, exchanges_of}
-use Rattle.cluster_calls.specs.Links.Happened.{BeginsLegal, CallMade, Happened, client_of, is_refresh}
+use Rattle.cluster_calls.specs.Links.Happened.{BeginsLegal, CallMade, Happened, LacksLate, client_of, is_refresh}
+use Rattle.cluster_calls.specs.Links.Lacking.{MayLack}
 use Rattle.cluster_calls.specs.Links.Run.{with_log}
 use Rattle.cluster_calls.specs.Links.Typed.{record_answer}
 use Rattle.cluster_calls.specs.Links.World.{World, tree_result}
@@ -67,11 +69,23 @@ memory_kind (by_server error) k = no_server_kind (server_kind error.code) (by_se
 memory_kind (at_position position) k = cc
 memory_kind (by_servers first more) k = no_server_kind (server_kind first.1.code) (by_servers first more) k
 
+-- ---- where memory lacked, of a call whose answer is read otherwise
+
+pub room_read : (strategy : Option Strategy) (old new : World) (call : Call) (answer : Result Answer Refusal) (m : CallMade strategy old new call answer) → (answer ≡ Err (by_cause Memory)) ⊎ (answer ≢ Err (by_cause Memory)) → new.log ≢ []
+    → MayLack (client_of old) new.picked call m.happened.events
+room_read strategy old new call answer m (inl lacks) some = m.room lacks some
+room_read strategy old new call answer m (inr had) some = inr (inr (m.answered had).legal)
+
+-- the call's own refusal was for want of memory, or that of the reply's conversion
+pub lacks_late : {strategy : Option Strategy} {old new : World} {call : Call} {answer : Result Answer Refusal} → CallMade strategy old new call answer → (answer ≡ Err (by_cause Memory)) ⊎ (answer ≢ Err (by_cause Memory)) → new.log ≢ []
+    → LacksLate strategy old new call
+lacks_late {strategy} {old} {new} {call} {answer} m either some = (m.happened, room_read strategy old new call answer m either some)
+
 -- ---- nothing was sent
 
 pub unsent_ended : (strategy : Option Strategy) (old new : World) (call : Call) (refusal : Refusal) → is_refresh call ≡ false → Untouched old new
     → (refused_by refusal ≢ Err (by_cause Memory) → (plan (client_of old) new.picked call ≡ Err refusal) × ArePicks strategy (client_of old) call new.picked) → CommandEnded strategy old new call (Err refusal)
-unsent_ended strategy old new call refusal n u why = record { happened = nothing_happened strategy old new call u; answered = unsent_answered strategy old new call refusal n u why }
+unsent_ended strategy old new call refusal n u why = record { happened = nothing_happened strategy old new call u; answered = unsent_answered strategy old new call refusal n u why; room = λ e some. absurd (some u.log) }
 
 -- a plan by no picks, where the picks are none
 pub planned_with : (strategy : Option Strategy) (client : Client) (call : Call) (refusal : Refusal) (picks none : List Address) → picks ≡ none → IsPlanned strategy client call none (Err refusal) → (plan client picks call ≡ Err refusal) × ArePicks strategy client call picks
@@ -90,6 +104,7 @@ module _ (strategy : Option Strategy) (old new : World) (call : Call) (command :
   command_ended = record {
     happened = parts.happened strategy old new call command number order task value plain ds picks result reply planned picked m made;
     answered = parts.many_answered strategy old new call command number order task value plain ds picks result reply planned picked m made;
+    room = parts.many_room strategy old new call command number order task value plain ds picks result reply planned picked m made;
   }
 
 -- ---- the picks are forgotten
@@ -149,6 +164,7 @@ module _ {T : Type 0} (r : Result T Refusal) (answer : Result Answer Refusal) (t
       })
       (λ e n. absurd (false≢true (sym plain ∙ n)))
       (λ e none. forgotten (told e) (sym same_log ∙ none))
+      (λ e some. subst (λ ps. MayLack (client_of old) ps call m.happened.events) (sym (kept_sent some)) (m.room e (λ none. some (same_log ∙ none))))
 
 module _ (strategy : Option Strategy) (old mid new : World) (call : Call) where
   pub unpicked_made : (r : Result CodeValue Refusal) → is_refresh call ≡ false → CommandEnded strategy old mid call (value_answer (tree_result view r))

@@ -1,8 +1,8 @@
 -- Groups of requests, one link call after another.
 use Rattle.std.specs.Prelude.{◌||◌, ◌&&◌}
 use Rattle.std.specs.List.{list_any}
-use Rattle.std.proofs.Common.{◌≡◌, ◌≢◌, ◌<◌, ℕ, ◌+◌, Bool, false, List, [], ◌∷◌, ◌++◌, map, length, Option, Some, Ok, Err, refl, sym, ap, ◌∙◌, subst, inl, inr, append-nil, append_assoc}
-use Rattle.std.proofs.lemmas.List.{length-map, map-append}
+use Rattle.std.proofs.Common.{◌≡◌, ◌≢◌, ◌<◌, ℕ, ◌+◌, Bool, false, List, [], ◌∷◌, ◌++◌, map, length, Option, Some, Result, Ok, Err, refl, sym, ap, ◌∙◌, subst, inl, inr, append-nil, append_assoc, arith}
+use Rattle.std.proofs.lemmas.List.{length-map, map-append, nil_from_length}
 use Rattle.resp_core.specs.Trees.{Tree}
 use Rattle.resp_core.specs.Errors.{Refusal, by_cause}
 use Rattle.resp_core.specs.declared.errors.redis_error.Cause.TheVariants.{Memory}
@@ -10,13 +10,14 @@ use Rattle.resp_link.specs.Replies.{replies_of}
 use Rattle.cluster_routing.specs.Lists.{concat}
 use Rattle.cluster_calls.specs.Links.Log.{Exchange, is_moved}
 use Rattle.cluster_calls.specs.Links.World.{World, Node, addresses_of, is_linked, open_links}
-use Rattle.cluster_calls.specs.Links.Events.{Event, Runs, LinkCalled, log_of, exchanges_at, exchanges_of, is_answer_ending, lack_memory, answered_moved}
+use Rattle.cluster_calls.specs.Links.Events.{Event, Runs, LinkCalled, log_of, exchanges_at, exchanges_of, is_answer_ending, is_memory_ending, lack_memory, answered_moved}
 use Rattle.cluster_steps.specs.Groups.{Group}
 use Rattle.cluster_steps.specs.GroupRuns.{is_moved_tree, GroupExchanged, group_node, IsGroupPlaced, request_lists, group_nodes, GroupByGroup, GroupsMade}
 use Rattle.cluster_calls.specs.Calls.Refusals.{pipeline_refusal}
 use Rattle.cluster_calls.proofs.LinkLaws.LinkRuns.{Runs-snoc, addresses}
 use Rattle.cluster_calls.proofs.LinkLaws.EventLists.{log-append, exchanged, exchanges-append, memory-append, moved-append, stops-had, stops-append, stops-one}
 use Rattle.cluster_calls.proofs.LinkLaws.FaultsAgree.{Agrees-last}
+use Rattle.cluster_calls.proofs.LinkLaws.LackingLists.{ends-snoc, lacking}
 use Rattle.cluster_calls.proofs.LinkLaws.ChainLoop.{or_assoc, or_none}
 use Rattle.cluster_calls.proofs.LinkLaws.PartLoop.{place_same}
 use Rattle.cluster_calls.proofs.LinkLaws.PipeErrors.{refused_behind}
@@ -70,32 +71,34 @@ groups_start old gs = record {
 
 -- ---- the ends
 
--- nothing more was done
-pub record StaysSo (now new : World) : Type 0 where
-  pub nodes : new.nodes ≡ now.nodes
-  pub log : new.log ≡ now.log
-  pub flag : new.needs_refresh ≡ now.needs_refresh
-  pub entries : new.entries ≡ now.entries
-  pub settings : new.settings ≡ now.settings
-  pub picked : new.picked ≡ now.picked
+abbrev all_refused : Refusal → Result (List (ℕ × List Tree)) Refusal
+all_refused e = Err e
 
-pub stays_so : (now : World) → StaysSo now now
-stays_so now = record { nodes = refl; log = refl; flag = refl; entries = refl; settings = refl; picked = refl }
+abbrev one_refused : Refusal → Result (List Tree) Refusal
+one_refused e = Err e
 
-pub groups_stopped : (old now new : World) (gs rest : List Group) (answers : List (ℕ × List Tree)) → GroupLoop old now gs rest answers → StaysSo now new → GroupsMade old new gs (Err (by_cause Memory))
-groups_stopped old now new gs rest answers l s = record {
-  events = l.events;
-  runs = subst (λ ns. Runs old.nodes ns l.events) (sym s.nodes) l.runs;
-  stops = stops-had l.events l.memory;
-  logged = s.log ∙ l.logged;
-  unasked = group_nodes rest;
-  in_order = l.in_order;
-  begins = λ p. let more = some_groups (request_lists rest) in (more.0, l.leads p more.0 more.1);
-  flag = s.flag ∙ l.flag;
-  entries = s.entries ∙ l.entries;
-  settings = s.settings ∙ l.settings;
-  picked = s.picked ∙ l.picked;
+pub answers_had : (answers : List (ℕ × List Tree)) → Ok answers ≡ all_refused (by_cause Memory) → ⊥
+answers_had answers e = cc
+
+pub group_lacks : (refusal : Refusal) → all_refused refusal ≡ all_refused (by_cause Memory) → one_refused refusal ≡ one_refused (by_cause Memory)
+group_lacks refusal e = let same : refusal ≡ by_cause Memory = cc in ap one_refused same
+
+-- nothing was done, for want of memory
+pub groups_unsent : (old : World) (gs : List Group) → GroupsMade old old gs (Err (by_cause Memory))
+groups_unsent old gs = record {
+  events = [];
+  runs = refl;
+  stops = tt;
+  logged = sym (append-nil old.log);
+  unasked = group_nodes gs;
+  in_order = refl;
+  begins = λ p. some_groups (request_lists gs);
+  flag = sym (or_none old.needs_refresh);
+  entries = refl;
+  settings = refl;
+  picked = refl;
   answered = λ m. absurd (m refl);
+  room = λ lacks some. absurd (some refl);
 }
 
 abbrev pub groups_done : (old now : World) (gs : List Group) (answers : List (ℕ × List Tree)) → GroupLoop old now gs [] answers → GroupsMade old now gs (Ok answers)
@@ -116,6 +119,7 @@ groups_done old now gs answers l = record {
     whole = λ p. subst (λ xs. GroupByGroup (request_lists gs) xs) (append-nil (exchanges_of p l.events)) (l.leads p [] refl);
     tells = λ faults agrees p. (sym (append-nil (map (λ (a : ℕ × List Tree). a.0) answers)) ∙ l.places, sym (append-nil (map (λ (a : ℕ × List Tree). length a.1) answers)) ∙ l.counts, exchanged l.events p ∙ sym (append-nil (log_of l.events)) ∙ l.sent, l.replied p);
   };
+  room = λ lacks some. absurd (answers_had answers lacks);
 }
 
 -- ---- one more group
@@ -225,12 +229,16 @@ module _ (old now new : World) (gs : List Group) (g : Group) (rest : List Group)
                   ∙ refused_behind faults (exchanges_of place l.events) (exchanges_at (at place) x) errors (all_replied (exchanges_of place l.events) (concat (trees_in answers)) (l.replied place))
                   ∙ failed_refusal now.nodes new.nodes g refusal p m faults (Agrees-last faults l.events x agreed) (at place) errors;
             };
+        room = λ lacks some. ends-snoc (λ (y : Event). is_memory_ending y.ending) l.events x (lacking (Err refusal) (group_lacks refusal lacks));
       }
 
-  pub groups_failed : (refusal : Refusal) → GroupExchanged now new g.which g.requests (Err refusal) → GroupsMade old new gs (Err refusal)
-  groups_failed refusal e = elim (exchanged_group now.nodes new.nodes now.log new.log g (Err refusal) p e.exchange) as (λ _. GroupsMade old new gs (Err refusal)) [
-    | inl same ↦ let memory : by_cause Memory ≡ refusal = cc (same.2) in
-        subst (λ k. GroupsMade old new gs (Err k)) memory (groups_stopped old now new gs (g ∷ rest) answers l (record { nodes = same.0; log = same.1; flag = e.flag ∙ or_none now.needs_refresh; entries = e.entries; settings = e.settings; picked = e.picked }))
+  -- the log has its requests, whatever became of them
+  unsent_none : (n : ℕ) → n ≡ n + length g.requests → g.requests ≡ []
+  unsent_none n e = nil_from_length g.requests (omega (arith, e))
+
+  pub groups_failed : (refusal : Refusal) → GroupExchanged now new g.which g.requests (Err refusal) → length new.log ≡ length now.log + length g.requests → GroupsMade old new gs (Err refusal)
+  groups_failed refusal e grown = elim (exchanged_group now.nodes new.nodes now.log new.log g (Err refusal) p e.exchange) as (λ _. GroupsMade old new gs (Err refusal)) [
+    | inl same ↦ absurd (p.some (unsent_none (length now.log) (sym (ap length same.1) ∙ grown)))
     | inr made ↦ failed_made refusal e made.0 made.1
   ]
 

@@ -1,5 +1,5 @@
 -- A client whose log was only given room, and how far that room goes.
-use Rattle.std.proofs.Common.{◌≡◌, ◌≤◌, ◌+◌, ℕ, List, [], Err, sym, subst, arith}
+use Rattle.std.proofs.Common.{◌≡◌, ◌≤◌, ◌+◌, ℕ, List, [], length, Err, sym, subst, arith}
 use Rattle.resp_core.specs.Errors.{by_cause}
 use Rattle.resp_core.specs.declared.errors.redis_error.Cause.TheVariants.{Memory}
 use Rattle.cluster_routing.specs.Address.{Address}
@@ -12,9 +12,9 @@ use Rattle.cluster_calls.specs.Links.Places.{IsOpenAt}
 use Rattle.cluster_calls.specs.Links.Request.{Request}
 use Rattle.cluster_calls.specs.Links.World.{Node, World}
 use Rattle.cluster_calls.proofs.LinkLaws.ChainLoop.{Loop}
-use Rattle.cluster_calls.proofs.LinkLaws.PartLoop.{PartLoop, parts_start, parts_stopped}
+use Rattle.cluster_calls.proofs.LinkLaws.PartLoop.{PartLoop, parts_start, parts_unsent}
 use Rattle.cluster_client.specs.NodeRuns.{NodesAsked}
-use Rattle.cluster_client.proofs.NodeLoop.{AskLoop, asks_start, asks_stopped}
+use Rattle.cluster_client.proofs.NodeLoop.{AskLoop, asks_start, none_asked}
 
 -- ---- the log has the same requests
 
@@ -23,13 +23,13 @@ module _ (world : World) (log : List Request) (same : log ≡ world.log) (ds : L
   parts_with_room = subst (λ l. PartLoop world (record world { log = l }) ds ds []) (sym same) (parts_start world ds)
 
   pub parts_not_begun : PartsMade world (record world { log = log }) ds (Err (by_cause Memory))
-  parts_not_begun = parts_stopped world (record world { log = log }) ds ds [] parts_with_room
+  parts_not_begun = subst (λ l. PartsMade world (record world { log = l }) ds (Err (by_cause Memory))) (sym same) (parts_unsent world ds)
 
   pub nodes_with_room : AskLoop world (record world { log = log }) ds ds []
   nodes_with_room = subst (λ l. AskLoop world (record world { log = l }) ds ds []) (sym same) (asks_start world ds)
 
   pub nodes_not_begun : NodesAsked world (record world { log = log }) ds (Err (by_cause Memory))
-  nodes_not_begun = asks_stopped world (record world { log = log }) ds ds [] nodes_with_room
+  nodes_not_begun = subst (λ l. NodesAsked world (record world { log = l }) ds (Err (by_cause Memory))) (sym same) (none_asked world ds)
 
 pub chain_with_room : (old now : World) (args : List (List ℕ)) (first : Hop) (left : ℕ) (hop : Hop) (which : ℕ) (log : List Request) → log ≡ now.log → Loop old now args first left hop which
     → Loop old (record now { log = log }) args first left hop which
@@ -53,3 +53,8 @@ room_behind used first others room count later more h e f k = omega (arith, h, e
 
 pub room_for_fewer : (used count room total fewer most : ℕ) → used + count ≤ room → total ≡ fewer → fewer ≤ most → count ≡ most → used + total ≤ room
 room_for_fewer used count room total fewer most h e k f = omega (arith, h, e, k, f)
+
+-- ---- a log that has grown
+
+pub grown_by : (old new : List Request) (m n count : ℕ) → m ≡ length old → n ≡ length new → n ≡ m + count → length new ≡ length old + count
+grown_by old new m n count e f g = omega (arith, e, f, g)

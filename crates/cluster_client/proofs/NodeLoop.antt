@@ -1,7 +1,7 @@
 -- A command sent to several nodes one after another.
 use Rattle.std.specs.Prelude.{◌||◌, IfErr}
 use Rattle.std.specs.List.{AllByRecursion}
-use Rattle.std.proofs.Common.{◌≡◌, ◌≢◌, ℕ, ◌+◌, Bool, false, List, [], ◌∷◌, ◌++◌, map, length, inl, inr, refl, sym, ap, ◌∙◌, subst, append-nil, append_assoc, Result, Ok, Err}
+use Rattle.std.proofs.Common.{◌≡◌, ◌≢◌, ℕ, ◌+◌, Bool, false, List, [], ◌∷◌, ◌++◌, map, length, inl, inr, refl, sym, ap, ◌∙◌, subst, append-nil, append_assoc, Result, Ok, Err, arith}
 use Rattle.std.proofs.lemmas.List.{map-append}
 use Rattle.resp_core.specs.Trees.{Tree}
 use Rattle.resp_core.specs.Errors.{Refusal, by_cause}
@@ -18,7 +18,7 @@ use Rattle.cluster_calls.specs.Links.Log.{Exchange, is_moved_reply}
 use Rattle.cluster_calls.specs.Links.World.{World, Node, is_usable, one_reply, tree_result}
 use Rattle.cluster_calls.specs.Links.Places.{IsOpenAt}
 use Rattle.cluster_calls.specs.Links.Faults.{LinkFault}
-use Rattle.cluster_calls.specs.Links.Events.{Event, Runs, log_of, exchanges_of, Agrees, lack_memory, answered_moved, faults_of}
+use Rattle.cluster_calls.specs.Links.Events.{Event, Runs, log_of, exchanges_of, Agrees, is_memory_ending, lack_memory, answered_moved, faults_of}
 use Rattle.cluster_calls.specs.Links.Exchanges.{Exchanges}
 use Rattle.cluster_calls.specs.Links.Chains.{IsSingle}
 use Rattle.cluster_steps.specs.Dispatches.{IsPlaced}
@@ -28,6 +28,7 @@ use Rattle.cluster_calls.specs.Calls.Plan.{Dispatch}
 use Rattle.cluster_calls.specs.Calls.Legal.{direct}
 use Rattle.cluster_calls.specs.Calls.Replies.{outcome_by, outcomes, reply_error, unless_error}
 use Rattle.cluster_calls.proofs.LinkLaws.LinkPlaces.{linked}
+use Rattle.cluster_calls.proofs.LinkLaws.LackingLists.{ends-append, lacking}
 use Rattle.cluster_calls.proofs.LinkLaws.LinkRuns.{Runs-append, or_parts}
 use Rattle.cluster_calls.proofs.LinkLaws.LinkCalls.{leaves}
 use Rattle.cluster_calls.proofs.LinkLaws.EventLists.{log-append, exchanges-append, memory-append, moved-append, stops-had, stops-append}
@@ -58,6 +59,7 @@ nothing_asked old new d same nodes log flag = record {
   settings = same.settings;
   picked = same.picked;
   answered = λ m. absurd (m refl);
+  room = λ lacks some. absurd (some refl);
 }
 
 -- a request without ASKING
@@ -96,8 +98,8 @@ module _ (old new : World) (d : Dispatch) (same : Keeps old new) (reply : Result
     moved : answered_moved (event ∷ []) ≡ is_moved_reply (tree_in reply)
     moved = or_none _ ∙ single_moved old.nodes new.nodes (direct d) reply o ∙ ap is_moved_reply (same_reply reply)
 
-    one_asked : (r : Result (List Outcome) Refusal) → (r ≢ Err (by_cause Memory) → NodesAnswered (d ∷ []) (event ∷ []) r) → NodesAsked old new (d ∷ []) r
-    one_asked r answered = record {
+    one_asked : (r : Result (List Outcome) Refusal) → (r ≢ Err (by_cause Memory) → NodesAnswered (d ∷ []) (event ∷ []) r) → (r ≡ Err (by_cause Memory) → reply ≡ Err (by_cause Memory)) → NodesAsked old new (d ∷ []) r
+    one_asked r answered alike = record {
       events = event ∷ [];
       runs = (new.nodes, o.called, refl);
       stops = (λ lacks. refl, tt);
@@ -109,6 +111,7 @@ module _ (old new : World) (d : Dispatch) (same : Keeps old new) (reply : Result
       settings = same.settings;
       picked = same.picked;
       answered = answered;
+      room = λ lacks some. lacking (one_reply reply) (ap one_reply (alike lacks));
     }
 
     one_told : (outcome : Result Tree Refusal) → IsOutcomeOf reply outcome → NodesAsked old new (d ∷ []) (Ok ((d.node, outcome) ∷ []))
@@ -121,6 +124,7 @@ module _ (old new : World) (d : Dispatch) (same : Keeps old new) (reply : Result
               ap (λ r. Ok ((d.node, r) ∷ []))
               (told_by old.nodes new.nodes (direct d) reply outcome faults o told agrees ∙ ap (outcome_by (faults d.node)) (sym (one_reply_is old.nodes new.nodes (direct d) reply o)));
         })
+        (λ lacks. cc)
 
   -- the same from what the code says of its exchange
   module _ (which : ℕ) (at : IsOpenAt old.nodes d.node which) (q : Request) (is : q ≡ direct d) (x : Exchanges old.nodes new.nodes which old.log new.log (q ∷ []) (skipped q.asking) 1 (one_reply reply)) where
@@ -138,12 +142,12 @@ module _ (old new : World) (d : Dispatch) (same : Keeps old new) (reply : Result
       | inr made ↦ one_told made.1 made.0 outcome told
     ]
 
-    -- memory was refused in its exchange or behind it
-    pub node_lost : NodesAsked old new (d ∷ []) (Err (by_cause Memory))
-    node_lost = elim (exchanged_one old.nodes new.nodes which old.log new.log (direct d) reply at asked) as (λ _. NodesAsked old new (d ∷ []) (Err (by_cause Memory))) [
+    -- memory was refused in its exchange
+    pub node_lost : reply ≡ Err (by_cause Memory) → NodesAsked old new (d ∷ []) (Err (by_cause Memory))
+    node_lost lost = elim (exchanged_one old.nodes new.nodes which old.log new.log (direct d) reply at asked) as (λ _. NodesAsked old new (d ∷ []) (Err (by_cause Memory))) [
       | inl none ↦ nothing_asked old new d same none.0 none.1
           (flag ∙ ap (λ r. old.needs_refresh || is_moved_reply (tree_in r)) (none_replied reply none.2) ∙ or_none old.needs_refresh)
-      | inr made ↦ one_asked made.1 made.0 (Err (by_cause Memory)) (λ m. absurd (m refl))
+      | inr made ↦ one_asked made.1 made.0 (Err (by_cause Memory)) (λ m. absurd (m refl)) (λ lacks. lost)
     ]
 
 -- ---- the run
@@ -177,20 +181,21 @@ asks_start old ds = record {
   picked = refl;
 }
 
--- no further node was asked, for want of memory
-pub asks_stopped : (old now : World) (ds rest : List Dispatch) (os : List Outcome) → AskLoop old now ds rest os → NodesAsked old now ds (Err (by_cause Memory))
-asks_stopped old now ds rest os l = record {
-  events = l.events;
-  runs = l.runs;
-  stops = stops-had l.events l.memory;
-  logged = l.logged;
-  single = l.single;
-  begins = (map direct rest, l.sent);
-  flag = l.flag;
-  entries = l.entries;
-  settings = l.settings;
-  picked = l.picked;
+-- no node was asked, for want of memory
+pub none_asked : (old : World) (ds : List Dispatch) → NodesAsked old old ds (Err (by_cause Memory))
+none_asked old ds = record {
+  events = [];
+  runs = refl;
+  stops = tt;
+  logged = sym (append-nil old.log);
+  single = tt;
+  begins = (map direct ds, refl);
+  flag = sym (or_none old.needs_refresh);
+  entries = refl;
+  settings = refl;
+  picked = refl;
   answered = λ m. absurd (m refl);
+  room = λ lacks some. absurd (some refl);
 }
 
 -- all nodes were asked
@@ -209,6 +214,7 @@ asks_done old now ds os l =
       settings = l.settings;
       picked = l.picked;
       answered = λ m. record { memory = l.memory; sent = sent; tells = λ faults agrees place. ap (λ all. Ok all) (sym (l.tells faults agrees place)) };
+      room = λ lacks some. cc;
     }
 
 module _ (old now new : World) (ds : List Dispatch) (d : Dispatch) (rest : List Dispatch) (os : List Outcome) (l : AskLoop old now ds (d ∷ rest) os) where
@@ -235,9 +241,15 @@ module _ (old now new : World) (ds : List Dispatch) (d : Dispatch) (rest : List 
         ap (λ qs. qs ++ (later ++ map direct rest)) (log-append l.events m.events) ∙ append_assoc (log_of l.events) (log_of m.events) (later ++ map direct rest)
         ∙ ap (λ qs. log_of l.events ++ qs) (sym (append_assoc (log_of m.events) later (map direct rest)) ∙ ap (λ qs. qs ++ map direct rest) is) ∙ l.sent
 
+  -- a log that has grown is that of some link calls
+  grown_some : (events : List Event) → new.log ≡ now.log ++ log_of events → length new.log ≡ length now.log + 1 → events ≢ []
+  grown_some events logged grown none =
+      let stays : length new.log ≡ length now.log = ap length (logged ∙ ap (λ xs. now.log ++ log_of xs) none ∙ append-nil now.log) in
+      absurd (omega (arith, stays, grown))
+
   -- memory was refused at the node
-  pub asks_refused : (e : Refusal) → NodesAsked now new (d ∷ []) (Err e) → NodesAsked old new ds (Err e)
-  asks_refused e m = record {
+  pub asks_refused : (e : Refusal) → NodesAsked now new (d ∷ []) (Err e) → length new.log ≡ length now.log + 1 → NodesAsked old new ds (Err e)
+  asks_refused e m grown = record {
     events = l.events ++ m.events;
     runs = runs_more (Err e) m;
     stops = stops-append l.events m.events l.memory m.stops;
@@ -251,6 +263,7 @@ module _ (old now new : World) (ds : List Dispatch) (d : Dispatch) (rest : List 
     answered = λ had.
         let told : failed e ≡ Ok (outcomes (faults_of m.events) (exchanges_of 0 m.events)) = (m.answered had).tells (faults_of m.events) (agrees now.nodes new.nodes m.events m.runs) 0 in
         cc told;
+    room = λ lacks some. ends-append (λ (x : Event). is_memory_ending x.ending) l.events m.events (m.room lacks (grown_some m.events m.logged grown));
   }
 
   -- the node has an outcome

@@ -1,7 +1,7 @@
 -- A pipeline's call, from the link calls of its groups and the reply that is made of theirs.
 use Rattle.std.specs.Prelude.{filter, nat_eq, unwrap_or, ◌||◌}
 use Rattle.std.specs.List.{AllByRecursion}
-use Rattle.std.proofs.Common.{◌≡◌, ◌≢◌, ◌<◌, ℕ, ◌==◌, false, List, [], ◌∷◌, ◌++◌, map, length, Option, Result, Ok, Err, refl, sym, ap, ◌∙◌, subst}
+use Rattle.std.proofs.Common.{◌≡◌, ◌≢◌, ◌<◌, ℕ, ◌==◌, false, List, [], ◌∷◌, ◌++◌, map, length, Option, Result, Ok, Err, refl, sym, ap, ◌∙◌, subst, inl, inr}
 use Rattle.std.proofs.lemmas.Bool.{false≢true}
 use Rattle.std.proofs.lemmas.List.{length-map}
 use Rattle.resp_core.specs.Trees.{Tree, nil}
@@ -21,6 +21,7 @@ use Rattle.cluster_calls.specs.Links.Events.{Event, exchanges_of, faults_of}
 use Rattle.cluster_calls.specs.Links.PipeReplies.{errors_in, pipeline_result}
 use Rattle.cluster_calls.specs.Links.Converted.{value_answer}
 use Rattle.cluster_calls.specs.Links.Happened.{client_of, Happened, CallMade}
+use Rattle.cluster_calls.specs.Links.Lacking.{MayLack}
 use Rattle.cluster_calls.specs.Links.Run.{with_log}
 use Rattle.cluster_calls.specs.Calls.Answer.{Value}
 use Rattle.cluster_calls.specs.Calls.Call.{Entry, Pipeline}
@@ -32,6 +33,7 @@ use Rattle.cluster_calls.specs.Calls.Refusals.{errors_from, errors_refusal, pipe
 use Rattle.cluster_calls.specs.Calls.Replies.{args_slot, in_pipeline_order, not_ignored, pipeline_reply, reply_or_nil}
 use Rattle.cluster_calls.specs.Calls.Task.{pipeline_of}
 use Rattle.cluster_calls.proofs.LinkLaws.FaultsAgree.{agrees}
+use Rattle.cluster_calls.proofs.LinkLaws.LackingLists.{some_events, value_lacked}
 use Rattle.cluster_calls.proofs.LinkLaws.LinkCalls.{AreLinkCalls, link_calls_made}
 use Rattle.cluster_calls.proofs.LinkLaws.LinkRuns.{or_parts}
 use Rattle.cluster_calls.proofs.LinkLaws.MovedLaws.{answered_plain}
@@ -218,6 +220,11 @@ module _ (strategy : Option Strategy) (old new : World) (entries : List Entry) (
       (λ faults agrees place. rw plans (told cds old.nodes (client_of old) entries placed slots faults (exchanges_of place m.events) result reply (a.tells faults agrees place) made there)))
       (λ e n. absurd (false≢true n))
       (λ e none. m.picked)
+      (λ e some. by result refl made (value_lacked reply e) (some_events new.log m.events m.logged some))
+    where
+      by : (r : Result (List (ℕ × List Tree)) Refusal) → result ≡ r → IsMadeOfGroups entries cds r reply → reply ≡ Err (by_cause Memory) → m.events ≢ [] → MayLack (client_of old) new.picked (Pipeline entries) m.events
+      by (Ok answers) is all lacks some = inr (inr (λ place. legal (exchanges_of place m.events) ((m.answered (λ k. cc)).whole place)))
+      by (Err refusal) is one lacks some = let same : refusal ≡ by_cause Memory = let told = sym one ∙ lacks in cc in inl (m.room (is ∙ ap (λ k. Err k) same) some)
 
 -- the same from what the code says of its steps
 pub reply_made : (strategy : Option Strategy) (old mid new : World) (entries : List Entry) (cds : List CodeDispatch) (gs : List Group) (result : Result (List (ℕ × List Tree)) Refusal) (reply : Result Tree Refusal)

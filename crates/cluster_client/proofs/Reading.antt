@@ -27,7 +27,7 @@ use Rattle.cluster_calls.specs.Links.PartRuns.{PartsMade}
 use Rattle.cluster_calls.specs.Links.Run.{with_log}
 use Rattle.cluster_calls.specs.Links.World.{World}
 use Rattle.cluster_calls.specs.Calls.TaskParts.{task_parts}
-use Rattle.cluster_calls.proofs.LinkLaws.ReadMade.{IsReadOfParts, happened, read_answered, rows_of_parts}
+use Rattle.cluster_calls.proofs.LinkLaws.ReadMade.{IsReadOfParts, happened, read_answered, read_room, rows_of_parts}
 use Rattle.cluster_calls.proofs.ServerLaws.ReadParts.{plan_reads}
 use Rattle.cluster_steps.specs.Dispatches.{AreDispatched, IsPlanned}
 use Rattle.cluster_steps.specs.Reads.{read_places, rows_at}
@@ -102,6 +102,7 @@ module _ (options : ReadSettings) (streams : List Stream) (by_key : is_by_key op
     read_ended_by made = record {
       happened = happened options streams strategy old new call read_task refl ds picks result answer planned picked m made;
       answered = read_answered options streams strategy old new call read_task refl ds picks result answer planned picked m made;
+      room = read_room options streams strategy old new call read_task refl ds picks result answer planned picked m made;
     }
 
   module _ (strategy : Option Strategy) (old new : World) (ds : List Dispatch) (picks : List Address) (planned : plan (client_of old) picks call ≡ Ok ds) (picked : ArePicks strategy (client_of old) call picks) where

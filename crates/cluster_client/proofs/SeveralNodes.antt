@@ -5,7 +5,7 @@ use Rattle.std.specs.Cmp.Lexicographic.{slice_cmp, nat_list_cmp_total}
 use Rattle.std.specs.Ordering.{match_ordering, nat_cmp, ordering_then, then_cmp}
 use Rattle.std.specs.declared.cmp.Ordering.{Ordering}
 use Rattle.std.specs.declared.cmp.Ordering.TheVariants.{Less, Equal, Greater}
-use Rattle.std.proofs.Common.{◌≡◌, ◌≢◌, ℕ, Bool, true, false, List, [], ◌∷◌, ◌++◌, map, Option, Some, None, refl, sym, ap, ◌∙◌, subst, Result, Ok, Err}
+use Rattle.std.proofs.Common.{◌≡◌, ◌≢◌, ℕ, Bool, true, false, List, [], ◌∷◌, ◌++◌, map, Option, Some, None, refl, sym, ap, ◌∙◌, subst, Result, Ok, Err, inl, inr}
 use Rattle.std.proofs.lemmas.Bool.{false≢true}
 use Rattle.std.proofs.lemmas.List.{map-append}
 use Rattle.resp_core.specs.Trees.{Tree}
@@ -41,6 +41,7 @@ use Rattle.cluster_calls.specs.Links.World.{World, tree_result}
 use Rattle.cluster_calls.specs.Links.Faults.{LinkFault}
 use Rattle.cluster_calls.specs.Links.Events.{log_of, exchanges_of}
 use Rattle.cluster_calls.specs.Links.Happened.{client_of, Happened, CallMade}
+use Rattle.cluster_calls.specs.Links.Lacking.{MayLack}
 use Rattle.cluster_calls.specs.Links.Run.{with_log}
 use Rattle.cluster_calls.specs.Links.Converted.{value_answer}
 use Rattle.cluster_calls.specs.Calls.Call.{FanOut}
@@ -53,6 +54,7 @@ use Rattle.cluster_calls.specs.Calls.Replies.{outcomes, policy_in, reply_by_outc
 use Rattle.cluster_calls.specs.Calls.Refusals.{refusal_in}
 use Rattle.cluster_calls.specs.Calls.Answer.{answer_in, tree_in}
 use Rattle.cluster_calls.proofs.LinkLaws.EventLists.{exchanged}
+use Rattle.cluster_calls.proofs.LinkLaws.LackingLists.{some_events, value_lacked}
 use Rattle.cluster_calls.proofs.LinkLaws.LinkCalls.{link_calls_made}
 use Rattle.cluster_calls.proofs.LinkLaws.MovedLaws.{answered_plain}
 use Rattle.cluster_calls.proofs.LinkLaws.OneCommand.{Untouched, not_sent, refused_by, relogged}
@@ -335,6 +337,11 @@ module _ (strategy : Option Strategy) (old new : World) (command : Command) (ds 
       rw plans (ap value_answer is ∙ answer_is command (several_reply faults command (exchanges_of place m.events)))))
       (λ e n. absurd (false≢true n))
       (λ e none. m.picked)
+      (λ e some. by result refl made (value_lacked reply e) (some_events new.log m.events m.logged some))
+    where
+      by : (r : Result (List Outcome) Refusal) → result ≡ r → IsMadeOfOutcomes command r reply → reply ≡ Err (by_cause Memory) → m.events ≢ [] → MayLack (client_of old) new.picked (FanOut command) m.events
+      by (Ok os) is all lacks some = inr (inr (λ place. legal (exchanges_of place m.events) (exchanged m.events place ∙ (m.answered (λ k. cc)).sent)))
+      by (Err refusal) is one lacks some = let same : refusal ≡ by_cause Memory = let told = sym one ∙ lacks in cc in inl (m.room (is ∙ ap (λ k. Err k) same) some)
 
 -- ---- the same from what the code says
 

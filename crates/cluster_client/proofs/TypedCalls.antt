@@ -1,5 +1,6 @@
 -- A call on streams is its command's call, whose reply is read as a record.
-use Rattle.std.proofs.Common.{◌≡◌, ◌≢◌, ℕ, List, [], map, Option, Some, None, option_map, option_and_then, refl, sym, ap, ◌∙◌, subst, Result, Ok, Err}
+use Rattle.std.specs.Prelude.{◌⊎◌}
+use Rattle.std.proofs.Common.{◌≡◌, ◌≢◌, ℕ, List, [], map, Option, Some, None, option_map, option_and_then, refl, sym, ap, ◌∙◌, subst, Result, Ok, Err, inl, inr}
 use Rattle.std.proofs.lemmas.Bool.{false≢true}
 use Rattle.std.proofs.lemmas.Simd.{map-map}
 use Rattle.resp_core.specs.Trees.{Tree}
@@ -13,7 +14,8 @@ use Rattle.stream_commands.specs.Commands as commands
 use Rattle.stream_commands.specs.Settings.{ReadSettings}
 use Rattle.stream_commands.specs.Commands.{plain_command}
 use Rattle.cluster_calls.specs.Links.Converted.{value_answer}
-use Rattle.cluster_calls.specs.Links.Events.{exchanges_of, log_of}
+use Rattle.cluster_calls.specs.Links.Events.{Event, exchanges_of, log_of}
+use Rattle.cluster_calls.specs.Links.Lacking.{MayLack, follows_redirects}
 use Rattle.cluster_calls.specs.Links.Faults.{LinkFault}
 use Rattle.cluster_calls.specs.Links.Happened.{client_of, BeginsLegal, Happened, CallMade}
 use Rattle.cluster_calls.specs.Links.Log.{Exchange}
@@ -31,6 +33,7 @@ use Rattle.cluster_calls.specs.Calls.Plan.{Client, Dispatch, call_parts, dispatc
 use Rattle.cluster_calls.specs.Calls.Refusals.{sent_refusal}
 use Rattle.cluster_calls.specs.Calls.Task.{one_command, sentence, sentence_task, stream_keys, stream_ids, stream_refusal, stream_task}
 use Rattle.cluster_calls.specs.Calls.TaskParts.{task_parts}
+use Rattle.cluster_client.proofs.Ending.{room_read}
 use Rattle.cluster_calls.proofs.LinkLaws.OneCommand.{refused_by, relogged_untouched, not_begun, not_sent}
 use Rattle.cluster_calls.proofs.LinkLaws.Played.{call_made}
 use Rattle.cluster_steps.proofs.Dispatched.{plan_unparted, picks_unparted}
@@ -83,6 +86,11 @@ module _ (strategy : Option Strategy) (old new : World) (call : StreamCall) (fit
   begins_alike : (client : Client) (picks : List Address) (xs : List Exchange) → BeginsLegal client picks query xs → BeginsLegal client picks (OnStreams call) xs
   begins_alike client picks xs b = record { later = b.later; legal = legal_alike client picks _ b.legal }
 
+  lacks_alike : (events : List Event) → MayLack (client_of old) new.picked query events → MayLack (client_of old) new.picked (OnStreams call) events
+  lacks_alike events (inl lacks) = inl lacks
+  lacks_alike events (inr (inl redirected)) = inr (inl (ap follows_redirects sentenced, redirected.1))
+  lacks_alike events (inr (inr whole)) = inr (inr (λ place. legal_alike (client_of old) new.picked (exchanges_of place events) (whole place)))
+
   abbrev happened_alike : Happened strategy old new query → Happened strategy old new (OnStreams call)
   happened_alike h = record {
     events = h.events;
@@ -105,8 +113,8 @@ module _ (strategy : Option Strategy) (old new : World) (call : StreamCall) (fit
 
   -- the call was made, if its command was, and answers what the reply reads as
   pub typed_made : (r : Result Tree Refusal) (a : Result Answer Refusal) → CallMade strategy old new query (value_answer r) → (a ≢ Err (by_cause Memory) → a ≡ read_by (stream_answer call) r)
-      → (a ≡ Err (by_cause Memory) → new.log ≡ [] → new.picked ≡ []) → CallMade strategy old new (OnStreams call) a
-  typed_made r a m is none =
+      → (a ≡ Err (by_cause Memory) → new.log ≡ [] → new.picked ≡ []) → (a ≡ Err (by_cause Memory) → (value_answer r ≡ Err (by_cause Memory)) ⊎ (value_answer r ≢ Err (by_cause Memory))) → CallMade strategy old new (OnStreams call) a
+  typed_made r a m is none either =
       call_made strategy old new (OnStreams call) a (happened_alike m.happened)
       (λ had.
       let told = m.answered (had_memory (stream_answer call) r a is had) in
@@ -121,6 +129,7 @@ module _ (strategy : Option Strategy) (old new : World) (call : StreamCall) (fit
       })
       (λ e n. absurd (false≢true n))
       none
+      (λ e some. lacks_alike m.happened.events (room_read strategy old new query (value_answer r) m (either e) some))
 
 -- ---- the conversion
 

@@ -15,7 +15,7 @@ ghost use Rattle.cluster_calls.specs.Calls.Answer.{Value};
 ghost use Rattle.cluster_calls.specs.Calls.Call.{Query, Refresh};
 ghost use Rattle.cluster_calls.specs.Links.Chains.{ChainMade};
 ghost use Rattle.cluster_calls.specs.Links.Converted.{ValueMade, refresh_answer, value_answer};
-ghost use Rattle.cluster_calls.specs.Links.Happened.{CallMade, Happened, client_of};
+ghost use Rattle.cluster_calls.specs.Links.Happened.{CallMade, Happened, LacksLate, client_of};
 ghost use Rattle.cluster_steps.specs.Dispatches.{IsPlaced, IsPlanned, dispatch_of, dispatches_in, prepared_by, set_out_by, split_in};
 ghost use Rattle.cluster_calls.specs.Links.Orders.{command_call, routes_in_order};
 ghost use Rattle.cluster_calls.specs.Links.PartRuns.{PartsMade};
@@ -189,6 +189,11 @@ impl<L: ConnectionLike + Drop> ClusterClient<L> {
         ensures answered { result ≢ Err (by_cause Memory)
             → ValueMade (option_map (λ s. admits s.now) strategy.entry) (whole L.seen self.old)
             (whole L.seen self.new) (Query cmd.now number) T.meaning T.convert result }
+        // Behind the first byte memory lacks in the last link call, for a request that a redirect sends
+        // on, or when nothing more was to be sent.
+        ensures room { result ≡ Err (by_cause Memory) → (whole L.seen self.new).log ≢ []
+            → LacksLate (option_map (λ s. admits s.now) strategy.entry) (whole L.seen self.old)
+            (whole L.seen self.new) (Query cmd.now number) }
         ensures unpicked { result ≡ Err (by_cause Memory) → (whole L.seen self.new).log ≡ []
             → (whole L.seen self.new).picked ≡ [] }
     {

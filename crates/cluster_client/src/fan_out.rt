@@ -216,6 +216,7 @@ fn unless_memory(
     ensures same { IfOk result (λ o. o ≡ outcome) }
     ensures memory { IfOk result (λ o. IfErr o (λ e. e ≢ by_cause Memory)) }
     ensures only { IfErr result (λ e. e ≡ by_cause Memory) }
+    ensures lacked { IfErr result (λ e. outcome ≡ Err (by_cause Memory)) }
 {
     match outcome {
         Ok(value) => Ok(Ok(value)),

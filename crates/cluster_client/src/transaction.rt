@@ -11,7 +11,7 @@ ghost use Rattle.cluster_calls.specs.Calls.OneSlot.{args_of};
 ghost use Rattle.cluster_calls.specs.Links.AttemptRuns.{AttemptsMade};
 ghost use Rattle.cluster_calls.specs.Calls.Plan.{plan};
 ghost use Rattle.cluster_calls.specs.Links.Converted.{ValueMade, value_answer};
-ghost use Rattle.cluster_calls.specs.Links.Happened.{CallMade, Happened, client_of};
+ghost use Rattle.cluster_calls.specs.Links.Happened.{CallMade, Happened, LacksLate, client_of};
 ghost use Rattle.cluster_calls.specs.Links.Request.{skipped};
 ghost use Rattle.cluster_calls.specs.Links.Run.{with_log};
 ghost use Rattle.cluster_calls.specs.Links.World.{nodes, tree_result, tree_results};
@@ -183,6 +183,9 @@ impl<L: ConnectionLike + Drop> ClusterClient<L> {
         ensures answered { result ≢ Err (by_cause Memory)
             → ValueMade None (whole L.seen self.old) (whole L.seen self.new)
             (Transaction commands.now) T.meaning T.convert result }
+        ensures room { result ≡ Err (by_cause Memory) → (whole L.seen self.new).log ≢ []
+            → LacksLate None (whole L.seen self.old) (whole L.seen self.new)
+            (Transaction commands.now) }
         ensures picks { (whole L.seen self.new).picked ≡ [] }
     {
         let reply = self.reply_to_transaction(alloc, commands)?;

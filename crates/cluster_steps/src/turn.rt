@@ -5,7 +5,8 @@ ghost use Rattle.resp_core.specs.View.{view, error_text};
 ghost use Rattle.resp_core.specs.declared.errors.redis_error.Cause.TheVariants.{Memory};
 ghost use Rattle.cluster_routing.specs.Address.{address_read};
 ghost use Rattle.cluster_routing.specs.Seen.{address};
-ghost use Rattle.cluster_calls.specs.Links.Reply.{error_sort, redirect_target};
+ghost use Rattle.cluster_calls.specs.Links.Log.{is_data};
+ghost use Rattle.cluster_calls.specs.Links.Reply.{error_sort, redirect_target, sort_of};
 ghost use Rattle.cluster_calls.specs.Links.World.{nodes, open_links};
 ghost use Rattle.cluster_steps.specs.Turns.{next_by, goes_on, LeadsOn, TurnsBy, turns_on, TurnsOn};
 ghost use Rattle.cluster_calls.specs.Calls.Redirects.{Stays, hop_by_link, next_of, sort_next};
@@ -127,6 +128,8 @@ pub(crate) fn next_place<K: NodeLinks>(
     ensures on { IfOk result (λ o. LeadsOn (K.nodes links.now) o) }
     ensures some { IfOk result (λ o. goes_on o ≡ true → left ≢ 0) }
     ensures only { IfErr result (λ e. e ≡ by_cause Memory) }
+    // Memory is taken for the error that the reply is.
+    ensures error { IfErr result (λ e. is_data (sort_of (view reply.now)) ≡ false) }
 {
     if left == 0 {
         return Ok(Onward::Stay);
@@ -149,6 +152,8 @@ pub fn turn_by<L: ConnectionLike>(
         (view reply) result }
     ensures on { IfOk result (λ turn. TurnsOn (nodes L.seen links.now.nodes.items) turn) }
     ensures some { IfOk result (λ turn. turns_on turn ≡ true → left ≢ 0) }
+    // Also where memory is refused: the reply is or holds an error.
+    ensures error { IfErr result (λ e. is_data (sort_of (view reply)) ≡ false) }
 {
     turn_over(alloc, links, left, reply)
 }
@@ -165,6 +170,8 @@ pub fn turn_over<K: NodeLinks>(
         (view reply) result }
     ensures on { IfOk result (λ turn. TurnsOn (K.nodes links.now) turn) }
     ensures some { IfOk result (λ turn. turns_on turn ≡ true → left ≢ 0) }
+    // Also where memory is refused: the reply is or holds an error.
+    ensures error { IfErr result (λ e. is_data (sort_of (view reply)) ≡ false) }
 {
     match next_place(alloc, links, left, &reply)? {
         Onward::Stay => answer(reply),
@@ -176,6 +183,7 @@ pub fn turn_over<K: NodeLinks>(
 fn answer(reply: Value) -> Result<Turn, RedisError>
     ensures turns { result ≢ Err (by_cause Memory) → TurnsBy Stays (view reply) result }
     ensures only { IfOk result (λ turn. turns_on turn ≡ false) }
+    ensures error { IfErr result (λ e. is_data (sort_of (view reply)) ≡ false) }
 {
     Ok(Turn::Answered(reply.extract_error()?))
 }

@@ -88,6 +88,7 @@ get_a_made = (
     played = λ told. played None one_lost here no_a_found.call no_a_found.answer happened answer told;
     memory = λ lacks refreshes. absurd (false≢true refreshes);
     unpicked = λ lacks none. refl;
+    room = λ lacks some. cc;
   },
   refl,
 )

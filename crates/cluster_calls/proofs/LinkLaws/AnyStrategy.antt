@@ -33,6 +33,7 @@ with_strategy strategy other old new call answer same m =
     (λ had. let a = m.answered had in record { memory = a.memory; logged = a.logged; picks = same a.picks; legal = a.legal; answered = a.answered; entries = a.entries; flag = a.flag })
     m.memory
     m.unpicked
+    m.room
 
 -- a refresh has no picks
 no_picks : (strategy : Option Strategy) (client : Client) (node : Address) → ArePicks strategy client (Refresh node) []

@@ -1,7 +1,7 @@
 -- The attempts at a transaction, one by one.
 use Rattle.std.specs.Prelude.{◌||◌, ◌/◌}
 use Rattle.std.specs.List.{AllByRecursion}
-use Rattle.std.proofs.Common.{◌≡◌, ◌≢◌, ℕ, suc, ◌+◌, ◌-◌, ◌*◌, ◌<◌, inl, inr, false, List, [], ◌∷◌, ◌++◌, map, length, drop, None, Result, Ok, Err, refl, sym, ap, ◌∙◌, subst, append-nil, append_assoc, length-append, arith}
+use Rattle.std.proofs.Common.{◌≡◌, ◌≢◌, ℕ, suc, ◌+◌, ◌-◌, ◌*◌, ◌<◌, inl, inr, true, false, List, [], ◌∷◌, ◌++◌, map, length, drop, None, Result, Ok, Err, refl, sym, ap, ◌∙◌, subst, append-nil, append_assoc, length-append, arith}
 use Rattle.std.proofs.lemmas.Nat.{div-mul-add}
 use Rattle.resp_core.specs.Trees.{Tree}
 use Rattle.resp_core.specs.Errors.{Refusal, by_cause}
@@ -13,10 +13,11 @@ use Rattle.cluster_calls.specs.Calls.Plan.{Client}
 use Rattle.cluster_calls.specs.Calls.Redirects.{Hop, Next, Stays, Lost, Goes, is_going}
 use Rattle.cluster_calls.specs.Calls.Transactions.{attempt, attempt_answer, attempt_count, exec_reply, FollowsAttempts, last_answer, last_attempt, next_attempt, replies_in, sent_answer, size, unless_lost}
 use Rattle.cluster_calls.specs.Links.AttemptRuns.{AreAttempts, AttemptsAnswered, AttemptsMade, IsAttempt}
-use Rattle.cluster_calls.specs.Links.Events.{Event, Runs, log_of, exchanges_at, exchanges_of, lack_memory, answered_moved}
+use Rattle.cluster_calls.specs.Links.Events.{Event, Runs, log_of, exchanges_at, exchanges_of, is_memory_ending, lack_memory, answered_moved}
 use Rattle.cluster_calls.specs.Links.Exchanges.{Exchanges}
 use Rattle.cluster_calls.specs.Links.Faults.{LinkFault}
 use Rattle.cluster_calls.specs.Links.Happened.{client_of}
+use Rattle.cluster_calls.specs.Links.Lacking.{LacksWhere, ends_redirected, is_redirected}
 use Rattle.cluster_calls.specs.Links.Log.{Exchange, requests}
 use Rattle.cluster_calls.specs.Links.Places.{IsOpenAt}
 use Rattle.cluster_calls.specs.Links.Request.{Request, skipped}
@@ -24,6 +25,7 @@ use Rattle.cluster_calls.specs.Links.World.{World, Node, open_links}
 use Rattle.cluster_calls.proofs.LinkLaws.ChainLoop.{Keeps, or_assoc, or_none}
 use Rattle.cluster_calls.proofs.LinkLaws.EventLists.{exchanged, exchanges-append, log-append, memory-append, moved-append, stops-append, stops-had, stops-one}
 use Rattle.cluster_calls.proofs.LinkLaws.FaultsAgree.{Agrees-last}
+use Rattle.cluster_calls.proofs.LinkLaws.LackingLists.{attempt_redirected, ends-snoc, lacking}
 use Rattle.cluster_calls.proofs.LinkLaws.LinkRuns.{Runs-snoc}
 use Rattle.cluster_calls.proofs.LinkLaws.AttemptCalls.{AttemptMade, answered_heard, attempt_exchanged, attempt_fault, attempt_had_memory, attempt_moved, attempt_open, attempt_to, called_event, failed_few, heard, last_lost, lost_told, moved_in, none_lost}
 use Rattle.cluster_calls.proofs.LogLaws.Attempts.{attempt_ends, attempt_goes, attempt_length, lost_stays, requests_length, size_of}
@@ -103,6 +105,7 @@ pub record Loop (old now : World) (commands : List (List (List ℕ))) (first : H
   pub leads : (p : ℕ) → Leads (client_of old) first commands (exchanges_of p events) left hop
   pub counted : length (log_of events) ≡ count * size commands
   pub budget : count + left ≡ old.settings.budget
+  pub sent_on : events ≢ [] → ends_redirected (client_of old).links events ≡ true
   pub at : IsOpenAt now.nodes hop.node which
   pub opens : open_links now.nodes ≡ open_links old.nodes
   pub flag : now.needs_refresh ≡ (old.needs_refresh || answered_moved events)
@@ -121,6 +124,7 @@ loop_start old commands hop which at = record {
   leads = λ p more h. h;
   counted = omega arith;
   budget = omega arith;
+  sent_on = λ some. absurd (some refl);
   at = at;
   opens = refl;
   flag = sym (or_none old.needs_refresh);
@@ -147,6 +151,7 @@ module _ (old now new : World) (commands : List (List (List ℕ))) (first : Hop)
     settings = same.settings ∙ l.settings;
     picked = same.picked ∙ l.picked;
     answered = λ m. absurd (m refl);
+    room = λ lacks some. inr (inl (l.sent_on some));
   }
 
   -- one more link call
@@ -196,8 +201,9 @@ module _ (old now new : World) (commands : List (List (List ℕ))) (first : Hop)
         (go.0, rw (snoc p, append_assoc) (l.leads p (last p ++ go.0) go.1))
 
     -- the attempts ended behind this link call
-    pub loop_made : (outcome : Result Tree Refusal) → (outcome ≢ Err (by_cause Memory) → AttemptsAnswered old first commands more_events outcome) → AttemptsMade old new first commands outcome
-    loop_made outcome answered = record {
+    pub loop_made : (outcome : Result Tree Refusal) → (outcome ≢ Err (by_cause Memory) → AttemptsAnswered old first commands more_events outcome)
+        → (outcome ≡ Err (by_cause Memory) → LacksWhere (client_of old).links more_events ((p : ℕ) → AreAttempts (client_of old) first commands (exchanges_of p more_events))) → AttemptsMade old new first commands outcome
+    loop_made outcome answered room = record {
       events = more_events;
       runs = runs_more;
       attempts = attempts_more;
@@ -209,6 +215,7 @@ module _ (old now new : World) (commands : List (List (List ℕ))) (first : Hop)
       settings = same.settings ∙ l.settings;
       picked = same.picked ∙ l.picked;
       answered = answered;
+      room = λ lacks some. room lacks;
     }
 
     module _ (m : result ≢ Err (by_cause Memory)) where
@@ -239,6 +246,7 @@ module _ (old now new : World) (commands : List (List (List ℕ))) (first : Hop)
             ∙ ap (λ why. unless why (unless_lost (next_attempt (client_of old).links left (replies_in (last (Err e) o log flag' p))) (attempt_answer (replies_in (last (Err e) o log flag' p))))) (sym (lost_told faults hop.node (attempt hop commands) (replies_of o.taken) (p + length (log_of l.events)) (attempt_to hop commands) few))
             ∙ sym (told_here (Err e) o log flag' (λ k. had (refusal_same k)) faults p);
       })
+      (λ lacks. inl (ends-snoc (λ (y : Event). is_memory_ending y.ending) l.events (called_event hop commands o.taken (Err e)) (lacking (Err e) (let memory : e ≡ by_cause Memory = cc in ap lists_failed memory))))
     where
       lists_failed : Refusal → Result (List Tree) Refusal
       lists_failed a = Err a
@@ -257,6 +265,20 @@ module _ (old now new : World) (commands : List (List (List ℕ))) (first : Hop)
     next_here : (p : ℕ) → next_attempt (open_links old.nodes) left (replies_in (last (Ok trees) o log flag p)) ≡ next_attempt (open_links new.nodes) left (heard trees)
     next_here p = ap (next_attempt (open_links old.nodes) left) (here p) ∙ ap (λ ls. next_attempt ls left (heard trees)) (sym opens_more)
 
+    -- where they send the transaction on, one of them does
+    redirected : (next : Hop) → next_attempt (open_links new.nodes) left (heard trees) ≡ Goes next → ends_redirected (client_of old).links (more_events (Ok trees) o log flag) ≡ true
+    redirected next go =
+        let links = open_links old.nodes in
+        let x = called_event hop commands o.taken (Ok trees) in
+        ends-snoc (is_redirected links) l.events x
+        (attempt_redirected links left (exchanges_at 0 x) (heard trees) (Goes next) (answered_heard now.nodes new.nodes hop commands trees o 0) (ap (λ ls. next_attempt ls left (heard trees)) (sym opens_more) ∙ go) refl)
+
+    lacks_by : (n : Next) → next_attempt (open_links new.nodes) left (heard trees) ≡ n
+        → LacksWhere (client_of old).links (more_events (Ok trees) o log flag) ((p : ℕ) → AreAttempts (client_of old) first commands (exchanges_of p (more_events (Ok trees) o log flag)))
+    lacks_by Stays is = inr (inr (λ p. stops_here (Ok trees) o log flag (λ k. cc k) p (ap is_going (next_here p ∙ is))))
+    lacks_by Lost is = inr (inr (λ p. stops_here (Ok trees) o log flag (λ k. cc k) p (ap is_going (next_here p ∙ is))))
+    lacks_by (Goes next) is = inr (inl (redirected next is))
+
     -- the replies make the answer, or refuse the transaction; or memory was refused behind them
     pub loop_answered : (outcome : Result Tree Refusal) → (outcome ≢ Err (by_cause Memory) → (is_going (next_attempt (open_links new.nodes) left (heard trees)) ≡ false)
         × (outcome ≡ unless_lost (next_attempt (open_links new.nodes) left (heard trees)) (attempt_answer (heard trees)))) → AttemptsMade old new first commands outcome
@@ -271,6 +293,7 @@ module _ (old now new : World) (commands : List (List (List ℕ))) (first : Hop)
               ∙ ap (λ why. unless why (unless_lost (next_attempt (open_links old.nodes) left (replies_in (last (Ok trees) o log flag p))) (attempt_answer (replies_in (last (Ok trees) o log flag p))))) (sym (none_lost faults (last (Ok trees) o log flag p) trees (here p)))
               ∙ sym (told_here (Ok trees) o log flag (λ k. cc k) faults p);
         })
+        (λ lacks. lacks_by (next_attempt (open_links new.nodes) left (heard trees)) refl)
 
     -- the transaction goes on, whole
     pub loop_more : (next : Hop) (place : ℕ) → next_attempt (open_links new.nodes) left (heard trees) ≡ Goes next → left ≢ 0 → IsOpenAt new.nodes next.node place → Loop old new commands first (left - 1) next place
@@ -290,6 +313,7 @@ module _ (old now new : World) (commands : List (List (List ℕ))) (first : Hop)
           leads = λ p more h. rw (snoc (Ok trees) o log flag p, append_assoc) (l.leads p (last (Ok trees) o log flag p ++ more) (attempt_goes (client_of old).links left hop next commands (last (Ok trees) o log flag p) more (own (Ok trees) o log flag p) (next_here p ∙ go) h));
           counted = omega (arith, size', one, c, grown);
           budget = omega (arith, b, some);
+          sent_on = λ any. redirected next go;
           at = at;
           opens = opens_more;
           flag = flag_more (Ok trees) o log flag;

@@ -15,17 +15,19 @@ use Rattle.cluster_calls.specs.Links.Log.{Exchange, is_answered, is_data, is_mov
 use Rattle.cluster_calls.specs.Links.World.{World, Node, open_links, one_reply}
 use Rattle.cluster_calls.specs.Links.Places.{IsOpenAt}
 use Rattle.cluster_calls.specs.Links.Faults.{refusal_by_fault}
-use Rattle.cluster_calls.specs.Links.Events.{Event, Runs, log_of, exchanges_of, lack_memory, answered_moved}
+use Rattle.cluster_calls.specs.Links.Events.{Event, Runs, log_of, exchanges_of, is_memory_ending, lack_memory, answered_moved}
 use Rattle.cluster_calls.specs.Links.Exchanges.{Exchanges}
 use Rattle.cluster_calls.specs.Links.Happened.{client_of}
-use Rattle.cluster_calls.specs.Links.Chains.{IsSingle, IsChain, ChainAnswered, ChainMade}
+use Rattle.cluster_calls.specs.Links.Chains.{IsSingle, IsChain, IsUnanswered, ChainAnswered, ChainMade}
+use Rattle.cluster_calls.specs.Links.Lacking.{LacksWhere, is_redirected}
 use Rattle.cluster_calls.specs.Calls.Plan.{Client}
-use Rattle.cluster_calls.specs.Calls.Redirects.{Hop, Next, Stays, Lost, Goes, is_going, MatchNext, next_of, request_of, FollowsRedirects}
+use Rattle.cluster_calls.specs.Calls.Redirects.{Hop, Next, Stays, Lost, Goes, is_going, MatchNext, next_of, reply_next, request_of, FollowsRedirects}
 use Rattle.cluster_calls.specs.Calls.Replies.{reply_or_nil}
 use Rattle.cluster_calls.specs.Calls.Refusals.{stop_refusal, last_refusal}
 use Rattle.cluster_calls.proofs.LinkLaws.LinkRuns.{Runs-snoc}
-use Rattle.cluster_calls.proofs.LinkLaws.EventLists.{log-append, exchanges-append, memory-append, moved-append, exchanged, stops-had, stops-append, stops-one}
+use Rattle.cluster_calls.proofs.LinkLaws.EventLists.{log-append, exchanges-append, memory-append, moved-append, exchanged, stops-append, stops-one}
 use Rattle.cluster_calls.proofs.LinkLaws.FaultsAgree.{Agrees-last}
+use Rattle.cluster_calls.proofs.LinkLaws.LackingLists.{ends-snoc, going_reply, lacking}
 use Rattle.cluster_calls.proofs.LinkLaws.Pairing.{any-append}
 use Rattle.cluster_calls.specs.OneServer.Laws.{is_redirect_sort}
 use Rattle.cluster_calls.proofs.LogLaws.Repeats.{redirect_reply}
@@ -173,22 +175,6 @@ abbrev pub failed_by : Refusal → Result Tree Refusal
 failed_by e = Err e
 
 module _ (old now new : World) (args : List (List ℕ)) (first : Hop) (left : ℕ) (hop : Hop) (which : ℕ) (l : Loop old now args first left hop which) (same : Keeps now new) where
-  -- nothing more was done, for want of memory
-  pub loop_ended : new.nodes ≡ now.nodes → new.log ≡ now.log → new.needs_refresh ≡ now.needs_refresh → ChainMade old new first args (Err (by_cause Memory))
-  loop_ended ns log flag = record {
-    events = l.events;
-    runs = subst (λ w. Runs old.nodes w l.events) (sym ns) l.runs;
-    stops = stops-had l.events l.memory;
-    logged = log ∙ l.logged;
-    single = l.one_each;
-    begins = λ p. (record { request = request_of hop args; place = 0; reply = None } ∷ [], l.leads p _ (unanswered_ends (client_of old).links left hop args));
-    flag = flag ∙ l.flag;
-    entries = same.entries ∙ l.entries;
-    settings = same.settings ∙ l.settings;
-    picked = same.picked ∙ l.picked;
-    answered = λ m. absurd (m refl);
-  }
-
   -- one more link call
   module _ (result : Result Tree Refusal) (o : OneMade now.nodes new.nodes (request_of hop args) result) (log : new.log ≡ now.log ++ request_of hop args ∷ [])
       (flag : new.needs_refresh ≡ (now.needs_refresh || one_moved result)) where
@@ -218,8 +204,9 @@ module _ (old now new : World) (args : List (List ℕ)) (first : Hop) (left : �
         (go.0, rw (exchanges-snoc p l.events (request_of hop args) o.taken result reply refl, append_assoc) (l.leads p (x ∷ go.0) (refl, go.1)))
 
     -- the chain ended behind this link call
-    pub chain_made : (outcome : Result Tree Refusal) → (outcome ≢ Err (by_cause Memory) → ChainAnswered old new first args more_events outcome) → ChainMade old new first args outcome
-    chain_made outcome answered = record {
+    pub chain_made : (outcome : Result Tree Refusal) → (outcome ≢ Err (by_cause Memory) → ChainAnswered old new first args more_events outcome)
+        → (outcome ≡ Err (by_cause Memory) → LacksWhere (client_of old).links more_events ((p : ℕ) → IsUnanswered (client_of old) first args (exchanges_of p more_events))) → ChainMade old new first args outcome
+    chain_made outcome answered room = record {
       events = more_events;
       runs = runs_more;
       stops = stops-append l.events (single (request_of hop args) o.taken result ∷ []) l.memory (stops-one (single (request_of hop args) o.taken result));
@@ -231,6 +218,7 @@ module _ (old now new : World) (args : List (List ℕ)) (first : Hop) (left : �
       settings = same.settings ∙ l.settings;
       picked = same.picked ∙ l.picked;
       answered = answered;
+      room = room;
     }
 
     module _ (m : result ≢ Err (by_cause Memory)) where
@@ -266,6 +254,7 @@ module _ (old now new : World) (args : List (List ℕ)) (first : Hop) (left : �
               ap (λ t. option_and_then (λ (y : Exchange). last_refusal (client_of old) (length (exchanges_of p l.events ++ x ∷ [])) (faults y.request.node) y.reply) t) (last-snoc (exchanges_of p l.events) x) ∙ ap Some (sym fault),
             );
       })
+      (λ lacks. inl (ends-snoc (λ (x : Event). is_memory_ending x.ending) l.events (single (request_of hop args) o.taken (Err e)) (lacking (one_reply (Err e)) (ap one_reply lacks))))
 
   module _ (tree : Tree) (o : OneMade now.nodes new.nodes (request_of hop args) (Ok tree)) (log : new.log ≡ now.log ++ request_of hop args ∷ [])
       (flag : new.needs_refresh ≡ (now.needs_refresh || is_moved_sort (sort_of tree))) where
@@ -275,10 +264,28 @@ module _ (old now new : World) (args : List (List ℕ)) (first : Hop) (left : �
     here : (n : Next) → next_of (open_links new.nodes) left (Some tree) ≡ n → next_of (open_links old.nodes) left (Some tree) ≡ n
     here n is = ap (λ ls. next_of ls left (Some tree)) (sym opens_more) ∙ is
 
+    -- with no data for a reply the part is not answered
+    unanswered_here : is_data (sort_of tree) ≡ false → (p : ℕ) → list_any is_answered (exchanges_of p (more_events (Ok tree) o log flag)) ≡ false
+    unanswered_here bad p =
+        let x = next_exchange p l.events (request_of hop args) (Some tree) in
+        rw (snoc (Ok tree) o log flag (λ k. cc k) p) (any-append is_answered (exchanges_of p l.events) (x ∷ []) ∙ ap (λ b. b || (is_data (sort_of tree) || false)) (l.unanswered p) ∙ ap (λ b. b || false) bad)
+
+    -- such a reply sends its request on, or nothing more was to be sent
+    lacks_by : is_data (sort_of tree) ≡ false → (n : Next) → next_of (open_links old.nodes) left (Some tree) ≡ n
+        → LacksWhere (client_of old).links (more_events (Ok tree) o log flag) ((p : ℕ) → IsUnanswered (client_of old) first args (exchanges_of p (more_events (Ok tree) o log flag)))
+    lacks_by bad Stays is = inr (inr (λ p. (stops (Ok tree) o log flag (λ k. cc k) Stays is refl p, unanswered_here bad p)))
+    lacks_by bad Lost is = inr (inr (λ p. (stops (Ok tree) o log flag (λ k. cc k) Lost is refl p, unanswered_here bad p)))
+    lacks_by bad (Goes next) is =
+        let links = open_links old.nodes in
+        let got = one_reply_is now.nodes new.nodes (request_of hop args) (Ok tree) o in
+        let sent_on : is_redirected links (single (request_of hop args) o.taken (Ok tree)) ≡ true =
+        ap (λ r. is_going (reply_next links r) || false) got ∙ ap (λ b. b || false) (going_reply links left (Some tree) (Goes next) is refl) in
+        inr (inl (ends-snoc (is_redirected links) l.events (single (request_of hop args) o.taken (Ok tree)) sent_on))
+
     -- the reply refuses the part, or memory was refused behind it
-    pub loop_refused : (e : Refusal) → (failed_by e ≢ Err (by_cause Memory) → (is_going (next_of (open_links new.nodes) left (Some tree)) ≡ false) × (is_data (sort_of tree) ≡ false)
+    pub loop_refused : (e : Refusal) → is_data (sort_of tree) ≡ false → (failed_by e ≢ Err (by_cause Memory) → (is_going (next_of (open_links new.nodes) left (Some tree)) ≡ false) × (is_data (sort_of tree) ≡ false)
         × (stop_refusal (next_of (open_links new.nodes) left (Some tree)) tree ≡ Some e)) → ChainMade old new first args (Err e)
-    loop_refused e why = chain_made (Ok tree) o log flag (Err e) (λ m.
+    loop_refused e bad why = chain_made (Ok tree) o log flag (Err e) (λ m.
         let n = next_of (open_links new.nodes) left (Some tree) in
         let told = why m in
         record {
@@ -293,6 +300,7 @@ module _ (old now new : World) (args : List (List ℕ)) (first : Hop) (left : �
                 ap (λ t. option_and_then (λ (y : Exchange). last_refusal (client_of old) (length xs) (faults y.request.node) y.reply) t) (last-snoc (exchanges_of p l.events) x) ∙ ap (λ k. stop_refusal k tree) there ∙ told.2,
               );
         })
+        (λ lacks. lacks_by bad (next_of (open_links old.nodes) left (Some tree)) refl)
 
     -- the reply is the answer
     answered_so : next_of (open_links new.nodes) left (Some tree) ≡ Stays → is_data (sort_of tree) ≡ true → ChainMade old new first args (Ok tree)
@@ -306,6 +314,7 @@ module _ (old now new : World) (args : List (List ℕ)) (first : Hop) (left : �
             ap (λ ys. map reply_or_nil ys) (filter-append is_answered (exchanges_of p l.events) (x ∷ []) ∙ ap (λ ys. ys ++ filter is_answered (x ∷ [])) (filter-none (exchanges_of p l.events) (l.unanswered p)) ∙ ap (λ b. cond b (x ∷ []) []) data'),
           );
     })
+        (λ lacks. cc)
 
     pub loop_answered : (value : Tree) → value ≡ tree → next_of (open_links new.nodes) left (Some tree) ≡ Stays → is_data (sort_of tree) ≡ true → ChainMade old new first args (Ok value)
     loop_answered value same_tree is data' = subst (λ t. ChainMade old new first args (Ok t)) (sym same_tree) (answered_so is data')
@@ -343,9 +352,10 @@ module _ (old now new : World) (args : List (List ℕ)) (first : Hop) (left : �
   asked : (result : Result Tree Refusal) → Exchanged result → Exchanges now.nodes new.nodes which now.log new.log (request_of hop args ∷ []) (skipped (request_of hop args).asking) 1 (one_reply result)
   asked result x = subst (λ p. Exchanges now.nodes new.nodes which now.log new.log (p ∷ []) (skipped p.asking) 1 (one_reply result)) is x
 
-  pub loop_err : (e : Refusal) → Exchanged (Err e) → new.needs_refresh ≡ now.needs_refresh → ChainMade old new first args (Err e)
-  loop_err e x flag = elim (exchanged_one now.nodes new.nodes which now.log new.log (request_of hop args) (Err e) l.at (asked (Err e) x)) as (λ _. ChainMade old new first args (Err e)) [
-    | inl none ↦ let memory : by_cause Memory ≡ e = cc (none.2) in subst (λ k. ChainMade old new first args (Err k)) memory (loop_ended old now new args first left hop which l same none.0 none.1 flag)
+  -- the log has the request, whatever became of it
+  pub loop_err : (e : Refusal) → Exchanged (Err e) → length new.log ≡ length now.log + 1 → new.needs_refresh ≡ now.needs_refresh → ChainMade old new first args (Err e)
+  loop_err e x grown flag = elim (exchanged_one now.nodes new.nodes which now.log new.log (request_of hop args) (Err e) l.at (asked (Err e) x)) as (λ _. ChainMade old new first args (Err e)) [
+    | inl none ↦ let same_length : length new.log ≡ length now.log = ap length none.1 in absurd (omega (arith, same_length, grown))
     | inr made ↦ loop_failed old now new args first left hop which l same e made.1 made.0 flag
   ]
 

@@ -13,6 +13,7 @@ use Rattle.cluster_calls.specs.Calls.Legal.{IsLegalCall}
 use Rattle.cluster_calls.specs.Calls.Picks.{ArePicks}
 use Rattle.cluster_calls.specs.Links.Events.{Event, LinkCalled, Runs, exchanges_of}
 use Rattle.cluster_calls.specs.Links.Happened.{client_of, BeginsLegal, Happened, Answered, CallMade}
+use Rattle.cluster_calls.specs.Links.Lacking.{MayLack}
 use Rattle.cluster_calls.specs.Links.World.{Node, World, link_at, set_link, is_usable, open_links}
 use Rattle.cluster_calls.specs.OneServer.ClosedLinks.{with_nodes, IsAlsoMade}
 use Rattle.cluster_calls.proofs.LinkLaws.Addresses.{same_true}
@@ -178,6 +179,7 @@ module _ (strategy : Option Strategy) (old new : World) (call : Call) (answer : 
       played = λ told. played strategy (with_nodes old nodes) (with_nodes new nodes') call answer happened (answered (made.answered told.0)) told;
       memory = λ lacks refreshes. let l = made.memory lacks refreshes in record { entries = l.entries; flag = l.flag };
       unpicked = made.unpicked;
+      room = λ lacks some. subst (λ c. MayLack c new.picked call made.happened.events) same (made.room lacks some);
     },
     refl,
   )

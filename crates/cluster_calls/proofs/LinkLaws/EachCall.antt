@@ -1,6 +1,6 @@
 -- A pipeline that was made and told each position's outcome is a call that was made.
 use Rattle.std.specs.Prelude.{◌||◌}
-use Rattle.std.proofs.Common.{◌≡◌, ◌≢◌, ℕ, true, false, List, [], ◌∷◌, Option, Result, Ok, Err, MatchResult, refl, sym, ap, ◌∙◌, subst, append-nil}
+use Rattle.std.proofs.Common.{◌≡◌, ◌≢◌, ℕ, List, [], ◌∷◌, Option, Result, Ok, Err, MatchResult, refl, sym, ap, ◌∙◌, subst, append-nil}
 use Rattle.std.proofs.lemmas.Bool.{false≢true}
 use Rattle.resp_core.specs.Trees.{Tree}
 use Rattle.resp_core.specs.Errors.{Refusal, by_cause}
@@ -51,6 +51,10 @@ module _ (strategy : Option Strategy) (old new : World) (entries : List Entry) w
   none_picked : (events : List Event) (result : Result Outcomes Refusal) → IsTold events result → new.picked ≡ []
   none_picked events (Ok outcomes) told = told.unpicked
   none_picked events (Err refusal) told = ap (λ (w : World). w.picked) told.stays
+
+  unsent_lacking : (events : List Event) (result : Result Outcomes Refusal) → IsTold events result → told_answer result ≡ Err (by_cause Memory) → new.log ≡ []
+  unsent_lacking events (Ok outcomes) told lacks = cc
+  unsent_lacking events (Err refusal) told lacks = ap (λ (w : World). w.log) told.stays
 
   are_picks : (events : List Event) (result : Result Outcomes Refusal) → IsTold events result → ArePicks strategy client (Each entries) new.picked
   are_picks events result told = subst (ArePicks strategy client (Each entries)) (sym (none_picked events result told)) (each_unpicked strategy client entries)
@@ -114,6 +118,7 @@ each_made strategy old new entries result made =
     let h = made.happened in
     call_made strategy old new (Each entries) (told_answer result) (each_happened strategy old new entries h result made.told) (told_answered strategy old new entries h result made.told) (λ e r. absurd (false≢true r))
     (λ e l. none_picked strategy old new entries h.events result made.told)
+    (λ e some. absurd (some (unsent_lacking strategy old new entries h.events result made.told e)))
 
 -- its link calls are those that happened
 pub each_events : (strategy : Option Strategy) (old new : World) (entries : List Entry) (result : Result (List (Result Tree Refusal)) Refusal) (made : EachMade strategy old new entries result)

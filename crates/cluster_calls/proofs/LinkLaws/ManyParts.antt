@@ -1,6 +1,6 @@
 -- A call of one command, from the run of its parts and the reply that is made of theirs.
 use Rattle.std.specs.Prelude.{filter}
-use Rattle.std.proofs.Common.{◌≡◌, ◌≢◌, ℕ, false, List, [], ◌∷◌, ◌++◌, map, length, Option, Some, None, option_and_then, refl, sym, ap, ◌∙◌, subst, Result, Ok, Err}
+use Rattle.std.proofs.Common.{◌≡◌, ◌≢◌, ℕ, false, List, [], ◌∷◌, ◌++◌, map, length, inr, Option, Some, None, option_and_then, refl, sym, ap, ◌∙◌, subst, Result, Ok, Err}
 use Rattle.std.proofs.lemmas.List.{length-map}
 use Rattle.resp_core.specs.Trees.{Tree, nil}
 use Rattle.resp_core.specs.Errors.{Refusal, by_cause}
@@ -16,6 +16,7 @@ use Rattle.cluster_calls.specs.Links.World.{World}
 use Rattle.cluster_calls.specs.Links.Faults.{LinkFault}
 use Rattle.cluster_calls.specs.Links.Events.{exchanges_of, faults_of}
 use Rattle.cluster_calls.specs.Links.Happened.{client_of, is_refresh, Answered, Happened}
+use Rattle.cluster_calls.specs.Links.Lacking.{MayLack, follows_redirects}
 use Rattle.cluster_calls.specs.Links.Run.{with_log}
 use Rattle.cluster_calls.specs.Links.Converted.{value_answer}
 use Rattle.cluster_calls.specs.Links.PartRuns.{ArePartResults, PartsMade, replies_with_slots, IsMadeOfParts}
@@ -29,6 +30,7 @@ use Rattle.cluster_calls.specs.Calls.Replies.{exchange_slot, reply_or_nil, part_
 use Rattle.cluster_calls.specs.Calls.Refusals.{part_refusal}
 use Rattle.cluster_calls.specs.Calls.Answer.{Value, answer_in}
 use Rattle.cluster_calls.proofs.LinkLaws.FaultsAgree.{agrees}
+use Rattle.cluster_calls.proofs.LinkLaws.LackingLists.{may_lack, some_events}
 use Rattle.cluster_calls.proofs.LinkLaws.LinkCalls.{AreLinkCalls, link_calls_made}
 use Rattle.cluster_calls.proofs.LinkLaws.PlainAnswers.{by_task, plain_answer}
 use Rattle.cluster_calls.proofs.LinkLaws.MovedLaws.{answered_plain}
@@ -127,3 +129,13 @@ module _ (strategy : Option Strategy) (old new : World) (call : Call) (command :
       (λ faults agrees place.
       plain_answer (client_of old) new.picked faults call (exchanges_of place m.events) (value_answer reply) (by_task call (one_command command number order) task refl)
       (rw (plans, task) (told call value (sent command) (client_of old) faults ds (exchanges_of place m.events) result reply (a.tells faults agrees place) made there)))
+
+  -- where memory lacked behind the first byte
+  pub many_room : value_answer reply ≡ Err (by_cause Memory) → new.log ≢ [] → MayLack (client_of old) new.picked call m.events
+  many_room lacks some = by result refl made
+    where
+      by : (r : Result (List Tree) Refusal) → result ≡ r → IsMadeOfParts (sent command) ds r reply → MayLack (client_of old) new.picked call m.events
+      by (Ok trees) is all = inr (inr (λ place. legal (exchanges_of place m.events) ((m.answered (λ k. cc)).parts place)))
+      by (Err refusal) is one =
+          let same : refusal ≡ by_cause Memory = let told = sym (ap value_answer one) ∙ lacks in cc in
+          may_lack (client_of old) new.picked call m.events (ap follows_redirects task) (λ parts place. legal (exchanges_of place m.events) (parts place)) (m.room (is ∙ ap (λ k. Err k) same) (some_events new.log m.events m.logged some))

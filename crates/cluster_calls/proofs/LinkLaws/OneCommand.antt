@@ -72,6 +72,7 @@ nothing_happened strategy old new call u = record {
 pub not_begun : (strategy : Option Strategy) (old new : World) (call : Call) → Untouched old new → new.picked ≡ [] → CallMade strategy old new call (Err (by_cause Memory))
 not_begun strategy old new call u none =
     call_made strategy old new call (Err (by_cause Memory)) (nothing_happened strategy old new call u) (λ m. absurd (m refl)) (λ e r. record { entries = u.entries; flag = u.flag }) (λ e l. none)
+    (λ e some. absurd (some u.log))
 
 abbrev pub refused_by : Refusal → Result Answer Refusal
 refused_by e = Err e
@@ -100,3 +101,4 @@ pub not_sent : (strategy : Option Strategy) (old new : World) (call : Call) (ref
     → (refused_by refusal ≢ Err (by_cause Memory) → (plan (client_of old) new.picked call ≡ Err refusal) × ArePicks strategy (client_of old) call new.picked) → CallMade strategy old new call (Err refusal)
 not_sent strategy old new call refusal n u none why =
     call_made strategy old new call (Err refusal) (nothing_happened strategy old new call u) (unsent_answered strategy old new call refusal n u why) (λ e r. absurd (false≢true (sym n ∙ r))) (λ e l. none)
+    (λ e some. absurd (some u.log))

@@ -146,6 +146,7 @@ module _ (strategy : Option Strategy) (old new : World) (node : Address) (comman
       (λ m. by ends m)
       (λ e n. absurd (false≢true n))
       (λ e l. none)
+      (λ e some. inr (inr (λ place. rw (waits, linked) refl)))
     where
       by : (reply ≡ lacks) ⊎ (reply ≡ told result) → value_answer reply ≢ Err (by_cause Memory) → Answered strategy old new (At node command) (happened result flag logged o).events (value_answer reply)
       by (inl lost) m = absurd (m (ap value_answer lost))

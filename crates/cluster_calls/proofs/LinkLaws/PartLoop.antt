@@ -13,7 +13,8 @@ use Rattle.cluster_calls.specs.Links.Log.{Exchange, is_answered, is_unanswered, 
 use Rattle.cluster_calls.specs.Links.World.{World, Node, addresses_of, place_at, is_linked, open_links, one_reply}
 use Rattle.cluster_calls.specs.Links.Places.{IsOpenAt}
 use Rattle.cluster_calls.specs.Links.Events.{Event, Runs, log_of, exchanges_of, lack_memory, answered_moved, faults_of}
-use Rattle.cluster_calls.specs.Links.Chains.{IsSingle, IsChain, ChainMade}
+use Rattle.cluster_calls.specs.Links.Chains.{IsSingle, IsChain, IsUnanswered, ChainMade}
+use Rattle.cluster_calls.specs.Links.Lacking.{LacksWhere}
 use Rattle.cluster_calls.specs.Links.PartRuns.{PartsAnswered, PartsMade}
 use Rattle.cluster_calls.specs.Links.Happened.{client_of}
 use Rattle.cluster_calls.specs.Calls.Plan.{Client, Dispatch}
@@ -28,6 +29,7 @@ use Rattle.cluster_calls.proofs.LinkLaws.EventLists.{log-append, exchanges-appen
 use Rattle.cluster_calls.proofs.LinkLaws.FaultsAgree.{agrees, Agrees-back}
 use Rattle.cluster_calls.proofs.LinkLaws.OpenLinks.{filter_all, links_behind}
 use Rattle.cluster_calls.proofs.LinkLaws.ChainLoop.{next_none, or_assoc, or_none}
+use Rattle.cluster_calls.proofs.LinkLaws.LackingLists.{lacks_behind}
 
 -- ---- behind the answers
 
@@ -243,22 +245,22 @@ parts_start old ds = record {
   picked = refl;
 }
 
-module _ (old now : World) (ds rest : List Dispatch) (trees : List Tree) (l : PartLoop old now ds rest trees) where
-  -- nothing more was done, for want of memory
-  pub parts_stopped : PartsMade old now ds (Err (by_cause Memory))
-  parts_stopped = record {
-    events = l.events;
-    runs = l.runs;
-    stops = stops-had l.events l.memory;
-    logged = l.logged;
-    single = l.single;
-    begins = λ p. let more = some_parts (client_of old) rest in (more.0, l.leads p more.0 more.1);
-    flag = l.flag;
-    entries = l.entries;
-    settings = l.settings;
-    picked = l.picked;
-    answered = λ m. absurd (m refl);
-  }
+-- nothing was done, for want of memory
+pub parts_unsent : (old : World) (ds : List Dispatch) → PartsMade old old ds (Err (by_cause Memory))
+parts_unsent old ds = record {
+  events = [];
+  runs = refl;
+  stops = tt;
+  logged = sym (append-nil old.log);
+  single = tt;
+  begins = λ p. some_parts (client_of old) ds;
+  flag = sym (or_none old.needs_refresh);
+  entries = refl;
+  settings = refl;
+  picked = refl;
+  answered = λ m. absurd (m refl);
+  room = λ lacks some. absurd (some refl);
+}
 
 -- all parts were answered
 pub parts_done : (old now : World) (ds : List Dispatch) (trees : List Tree) → PartLoop old now ds [] trees → PartsMade old now ds (Ok trees)
@@ -278,6 +280,7 @@ parts_done old now ds trees l = record {
     parts = λ p. subst (λ xs. PartByPart (client_of old) ds xs) (append-nil (exchanges_of p l.events)) (l.leads p [] refl);
     tells = λ faults agrees p. (l.behind p, sym (append-nil (args_sent (exchanges_of p l.events))) ∙ l.sent p, l.replied p);
   };
+  room = λ lacks some. cc;
 }
 
 module _ (old now new : World) (ds : List Dispatch) (d : Dispatch) (rest : List Dispatch) (trees : List Tree) (l : PartLoop old now ds (d ∷ rest) trees) where
@@ -326,8 +329,19 @@ module _ (old now new : World) (ds : List Dispatch) (d : Dispatch) (rest : List 
         ap (λ xs. before p ++ xs) (append_assoc (here p) begun.0 more.0) ∙ sym (append_assoc (before p) (here p) (begun.0 ++ more.0)) ∙ ap (λ xs. xs ++ (begun.0 ++ more.0)) (sym (both p)) in
         (begun.0 ++ more.0, subst (λ xs. PartByPart client ds xs) same (l.leads p ((here p ++ begun.0) ++ more.0) more.1))
 
-    parts_made : (result : Result (List Tree) Refusal) → (result ≢ Err (by_cause Memory) → PartsAnswered old new ds more_events result) → PartsMade old new ds result
-    parts_made result answered = record {
+    -- with a part that is not answered nothing more is to be sent
+    unanswered_parts : ((p : ℕ) → IsUnanswered client (first_hop d) d.args (exchanges_of p m.events)) → (p : ℕ) → PartByPart client ds (exchanges_of p more_events)
+    unanswered_parts un p =
+        let there = un (p + length (log_of l.events)) in
+        subst (λ xs. PartByPart client ds xs) (sym (both p)) (l.leads p (here p) (ends_here client.links client.settings.budget (first_hop d) d.args (PartByPart client rest) (here p) there.0 there.1))
+
+    room_more : r ≡ Err (by_cause Memory) → LacksWhere client.links more_events ((p : ℕ) → PartByPart client ds (exchanges_of p more_events))
+    room_more lacks =
+        lacks_behind client.links l.events m.events unanswered_parts
+        (subst (λ c. LacksWhere c.links m.events ((p : ℕ) → IsUnanswered c (first_hop d) d.args (exchanges_of p m.events))) same_client (m.room lacks))
+
+    parts_made : (result : Result (List Tree) Refusal) → (result ≢ Err (by_cause Memory) → PartsAnswered old new ds more_events result) → (result ≡ Err (by_cause Memory) → r ≡ Err (by_cause Memory)) → PartsMade old new ds result
+    parts_made result answered alike = record {
       events = more_events;
       runs = runs_more;
       stops = stops-append l.events m.events l.memory m.stops;
@@ -339,6 +353,7 @@ module _ (old now new : World) (ds : List Dispatch) (d : Dispatch) (rest : List 
       settings = m.settings ∙ l.settings;
       picked = m.picked ∙ l.picked;
       answered = answered;
+      room = λ lacks some. room_more (alike lacks);
     }
 
   -- the part was refused, or memory was
@@ -358,6 +373,7 @@ module _ (old now new : World) (ds : List Dispatch) (d : Dispatch) (rest : List 
             ∙ ap (λ xs. part_refusal client faults xs) (behind_more (exchanges_of p l.events) (exchanges_of (at p) m.events) (l.behind p) ∙ none_behind (exchanges_of (at p) m.events) told.0)
             ∙ ap (λ c. part_refusal c faults (exchanges_of (at p) m.events)) (sym same_client) ∙ told.1;
       })
+      (λ lacks. let memory : e ≡ by_cause Memory = cc in ap (λ k. Err k) memory)
 
   -- the part was answered
   pub parts_more : (tree : Tree) → PartMade (Ok tree) → PartLoop old new ds rest (trees ++ tree ∷ [])

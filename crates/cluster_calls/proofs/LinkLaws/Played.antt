@@ -16,6 +16,7 @@ use Rattle.cluster_calls.specs.Calls.Answer.{Answer, answer_of, IsAnswerOf, Tell
 use Rattle.cluster_calls.specs.Calls.Plan.{Client}
 use Rattle.cluster_calls.specs.Calls.After.{map_after, flag_after, client_after}
 use Rattle.cluster_calls.specs.Links.Events.{taken_of, calls_of, exchanges_of, faults_of}
+use Rattle.cluster_calls.specs.Links.Lacking.{MayLack}
 use Rattle.cluster_calls.specs.Links.Nodes.{NodeMade, NodesMade, link_calls}
 use Rattle.cluster_calls.specs.Links.Happened.{client_of, is_each, is_refresh, Happened, Answered, LeavesMap, log_with_replies, Played, CallMade}
 use Rattle.cluster_calls.proofs.LinkLaws.PlainAnswers.{no_memory_answer, plain_is}
@@ -69,8 +70,8 @@ plain_played strategy old new call answer n m had =
 -- so code proves what happened and what was answered
 unfoldable pub call_made : (strategy : Option Strategy) (old new : World) (call : Call) (answer : Result Answer Refusal) (h : Happened strategy old new call)
     → (answer ≢ Err (by_cause Memory) → Answered strategy old new call h.events answer) → (answer ≡ Err (by_cause Memory) → is_refresh call ≡ true → LeavesMap old new)
-    → (answer ≡ Err (by_cause Memory) → new.log ≡ [] → new.picked ≡ []) → CallMade strategy old new call answer
-call_made strategy old new call answer h a m u = record { happened = h; answered = a; played = λ told. played strategy old new call answer h (a told.0) told; memory = m; unpicked = u }
+    → (answer ≡ Err (by_cause Memory) → new.log ≡ [] → new.picked ≡ []) → (answer ≡ Err (by_cause Memory) → new.log ≢ [] → MayLack (client_of old) new.picked call h.events) → CallMade strategy old new call answer
+call_made strategy old new call answer h a m u r = record { happened = h; answered = a; played = λ told. played strategy old new call answer h (a told.0) told; memory = m; unpicked = u; room = r }
 
 -- what the call leaves is the client behind its exchanges
 pub client_behind : (strategy : Option Strategy) (old new : World) (call : Call) (answer : Result Answer Refusal) (h : Happened strategy old new call) → Answered strategy old new call h.events answer → (place : ℕ)

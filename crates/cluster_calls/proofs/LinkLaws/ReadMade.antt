@@ -1,6 +1,6 @@
 -- A read in parts, from the run of its parts and the record that is made of their replies.
 use Rattle.std.specs.Prelude.{MatchResult, filter}
-use Rattle.std.proofs.Common.{◌≡◌, ◌≢◌, false, cond, List, [], ◌∷◌, ◌++◌, map, Option, Some, None, option_map, option_and_then, refl, sym, ap, ◌∙◌, subst, Result, Ok, Err}
+use Rattle.std.proofs.Common.{◌≡◌, ◌≢◌, false, cond, List, [], ◌∷◌, ◌++◌, map, inr, Option, Some, None, option_map, option_and_then, refl, sym, ap, ◌∙◌, subst, Result, Ok, Err}
 use Rattle.resp_core.specs.Trees.{Tree}
 use Rattle.resp_core.specs.Errors.{Refusal, by_cause}
 use Rattle.resp_core.specs.declared.errors.redis_error.Cause.TheVariants.{Memory}
@@ -16,6 +16,7 @@ use Rattle.cluster_calls.specs.Links.Faults.{LinkFault}
 use Rattle.cluster_calls.specs.Links.Happened.{client_of, is_refresh, log_with_replies, Answered, Happened, CallMade}
 use Rattle.cluster_calls.specs.Links.Log.{Exchange, is_answered, behind_answers}
 use Rattle.cluster_calls.specs.Links.PartRuns.{ArePartResults, PartsMade}
+use Rattle.cluster_calls.specs.Links.Lacking.{MayLack, follows_redirects}
 use Rattle.cluster_calls.specs.Links.Run.{with_log}
 use Rattle.cluster_calls.specs.Links.World.{World}
 use Rattle.cluster_calls.specs.Calls.Answer.{Answer, Read, answer_of, call_answer}
@@ -28,6 +29,7 @@ use Rattle.cluster_calls.specs.Calls.Reads.{key_places, read_slot, readings, rea
 use Rattle.cluster_calls.specs.Calls.Refusals.{part_refusal, sent_refusal}
 use Rattle.cluster_calls.specs.Calls.Replies.{reply_or_nil}
 use Rattle.cluster_calls.specs.Calls.Task.{read_of, task_of, stream_keys, are_of_one_slot}
+use Rattle.cluster_calls.proofs.LinkLaws.LackingLists.{may_lack, some_events}
 use Rattle.cluster_calls.proofs.LinkLaws.LinkCalls.{AreLinkCalls, link_calls_made}
 use Rattle.cluster_calls.proofs.LinkLaws.PlainAnswers.{by_task, plain_answer}
 use Rattle.cluster_calls.proofs.LinkLaws.Played.{plain_played}
@@ -123,6 +125,16 @@ module _ (options : ReadSettings) (streams : List Stream) where
         (λ faults agrees place.
         plain_answer (client_of old) new.picked faults call (exchanges_of place m.events) answer (by_task call (read_of options streams) task refl)
         (rw (plans, task) (told (client_of old) faults ds (exchanges_of place m.events) result answer (a.tells faults agrees place) made had)))
+
+    -- where memory lacked behind the first byte
+    pub read_room : answer ≡ Err (by_cause Memory) → new.log ≢ [] → MayLack (client_of old) new.picked call m.events
+    read_room lacks some = by result refl made
+      where
+        by : (r : Result (List Tree) Refusal) → result ≡ r → IsReadOfParts options streams ds r answer → MayLack (client_of old) new.picked call m.events
+        by (Ok trees) is all = inr (inr (λ place. legal (exchanges_of place m.events) ((m.answered (λ k. cc)).parts place)))
+        by (Err refusal) is one =
+            let same : refusal ≡ by_cause Memory = let told = sym one ∙ lacks in cc in
+            may_lack (client_of old) new.picked call m.events (ap follows_redirects task) (λ parts place. legal (exchanges_of place m.events) (parts place)) (m.room (is ∙ ap (λ k. Err k) same) (some_events new.log m.events m.logged some))
 
 -- ---- a read that was answered without a request shows no picks
 

@@ -46,7 +46,7 @@ kind_no_data e (Some kinds.NoSub) = refl
 kind_no_data e (Some kinds.NoPerm) = refl
 kind_no_data e None = refl
 
-error_sort_no_data : (t : Tree) (e : ErrorText) → first_error t ≡ Some e → is_data (sort_of t) ≡ false
+pub error_sort_no_data : (t : Tree) (e : ErrorText) → first_error t ≡ Some e → is_data (sort_of t) ≡ false
 unfolding first_error
 error_sort_no_data nil e n = cc
 error_sort_no_data (int k) e n = cc
@@ -81,6 +81,7 @@ not_linked old new node shut u picks =
     })
     (λ e r. record { entries = u.entries; flag = u.flag })
     (λ e l. picks)
+    (λ e some. absurd (some u.log))
 
 -- ---- one link call
 
@@ -127,6 +128,7 @@ module _ (old new : World) (node : Address) (linked : is_linked (open_links old.
       })
       (λ e k. cc e)
       (λ e l. picks)
+      (λ e some. inr (inr (λ place. rw linked refl)))
 
   -- the reply is or holds an error, or memory was refused behind it
   pub refresh_refused : (tree : Tree) (e : Refusal) → OneMade old.nodes new.nodes (slots_to node) (Ok tree) → (refused_by e ≢ Err (by_cause Memory) → (error : ErrorText) × (first_error tree ≡ Some error) × (e ≡ by_server error))
@@ -148,6 +150,7 @@ module _ (old new : World) (node : Address) (linked : is_linked (open_links old.
       })
       (λ k j. record { entries = r; flag = f })
       (λ k l. picks)
+      (λ k some. inr (inr (λ place. rw linked refl)))
 
   -- the link failed, or memory was refused in its call
   pub refresh_failed : (e : Refusal) → OneMade old.nodes new.nodes (slots_to node) (Err e) → new.entries ≡ old.entries → new.needs_refresh ≡ old.needs_refresh → CallMade None old new (Refresh node) (Err e)
@@ -168,6 +171,7 @@ module _ (old new : World) (node : Address) (linked : is_linked (open_links old.
       })
       (λ k j. record { entries = r; flag = f })
       (λ k l. picks)
+      (λ k some. inr (inr (λ place. rw linked refl)))
 
 -- ---- the same from what the code says of its exchange
 

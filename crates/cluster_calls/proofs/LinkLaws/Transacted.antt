@@ -31,6 +31,7 @@ use Rattle.cluster_calls.specs.Links.Log.{Exchange}
 use Rattle.cluster_calls.specs.Links.Request.{exec, multi}
 use Rattle.cluster_calls.specs.Links.Run.{with_log}
 use Rattle.cluster_calls.specs.Links.World.{World, is_linked}
+use Rattle.cluster_calls.proofs.LinkLaws.LackingLists.{may_lack, some_events, value_lacked}
 use Rattle.cluster_calls.proofs.LinkLaws.LinkCalls.{link_calls_made}
 use Rattle.cluster_calls.proofs.LinkLaws.MovedLaws.{answered_plain}
 use Rattle.cluster_calls.proofs.LinkLaws.OneCommand.{Untouched, not_sent, nothing_happened, refused_by, relogged_untouched}
@@ -177,6 +178,7 @@ transaction_empty strategy old new commands stays planned =
         (λ m. answered_plain strategy old new (Transaction []) (Ok (Value (array no_trees))) (nothing_happened strategy old new (Transaction []) u) refl tt (λ e. refl) u.log (picked strategy old new [] stays) (λ place. refl) (λ faults agrees place. refl))
         (λ e n. absurd (false≢true n))
         (λ e l. ap (λ (w : World). w.picked) stays)
+        (λ e some. cc)
 
 -- ---- the answer is the reply to EXEC
 
@@ -275,7 +277,9 @@ module _ (strategy : Option Strategy) (old new : World) (commands : List Command
       (λ faults agree place. rw planned (sent_told (client_of old) faults commands _ reply some (t.tells faults agree place)))
 
   some_transacted : CallMade strategy old new (Transaction commands) (value_answer reply)
-  some_transacted = call_made strategy old new (Transaction commands) (value_answer reply) happened answered (λ e n. absurd (false≢true n)) (λ e l. none)
+  some_transacted =
+      call_made strategy old new (Transaction commands) (value_answer reply) happened answered (λ e n. absurd (false≢true n)) (λ e l. none)
+      (λ e any. may_lack (client_of old) new.picked (Transaction commands) a.events refl (λ follows place. rw planned (follows place)) (a.room (value_lacked reply e) (some_events new.log a.events a.logged any)))
 
 -- a plan that sends something is one of some commands
 some_planned : (client : Client) (commands : List Command) (node : Address) → plan client [] (Transaction commands) ≡ Ok (dispatches_to node (args_of commands)) → commands ≢ []

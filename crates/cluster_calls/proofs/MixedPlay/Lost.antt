@@ -87,6 +87,7 @@ get_b_made = (
     played = λ told. played None piped here get_b_lost.call get_b_lost.answer happened answer told;
     memory = λ lacks refreshes. absurd (false≢true refreshes);
     unpicked = λ lacks none. refl;
+    room = λ lacks some. cc;
   },
   refl,
 )

@@ -110,6 +110,7 @@ del_made = (
     played = λ told. played None redirected here del_refused.call del_refused.answer happened answer told;
     memory = λ lacks refreshes. absurd (false≢true refreshes);
     unpicked = λ lacks none. refl;
+    room = λ lacks some. cc;
   },
   refl,
 )

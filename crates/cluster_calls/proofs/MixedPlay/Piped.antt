@@ -120,6 +120,7 @@ pipeline_made = (
     played = λ told. played None split here pipeline_answered.call pipeline_answered.answer happened answer told;
     memory = λ lacks refreshes. absurd (false≢true refreshes);
     unpicked = λ lacks none. refl;
+    room = λ lacks some. cc;
   },
   refl,
 )

@@ -110,6 +110,7 @@ get_a_made = (
     played = λ told. played None at_first here get_a_redirected.call get_a_redirected.answer happened answer told;
     memory = λ lacks refreshes. absurd (false≢true refreshes);
     unpicked = λ lacks none. refl;
+    room = λ lacks some. cc;
   },
   refl,
 )

@@ -6,7 +6,7 @@ ghost use Rattle.resp_core.specs.declared.errors.redis_error.Cause.TheVariants.{
 ghost use Rattle.cluster_routing.specs.Seen.{address};
 ghost use Rattle.cluster_calls.specs.Calls.Call.{At};
 ghost use Rattle.cluster_calls.specs.Links.Converted.{ValueMade, value_answer};
-ghost use Rattle.cluster_calls.specs.Links.Happened.{CallMade, Happened};
+ghost use Rattle.cluster_calls.specs.Links.Happened.{CallMade, Happened, LacksLate};
 ghost use Rattle.cluster_calls.specs.Links.World.{tree_result};
 ghost use Rattle.cluster_client.specs.Whole.{whole};
 
@@ -50,6 +50,9 @@ impl<L: ConnectionLike + Drop> ClusterClient<L> {
         ensures answered { result ≢ Err (by_cause Memory)
             → ValueMade None (whole L.seen self.old) (whole L.seen self.new)
             (At (address node.now) cmd.now) T.meaning T.convert result }
+        ensures room { result ≡ Err (by_cause Memory) → (whole L.seen self.new).log ≢ []
+            → LacksLate None (whole L.seen self.old) (whole L.seen self.new)
+            (At (address node.now) cmd.now) }
         ensures picks { (whole L.seen self.new).picked ≡ [] }
     {
         let reply = self.reply_at(alloc, node, cmd)?;

@@ -4,7 +4,7 @@ ghost use Rattle.resp_core.specs.Errors.{by_cause};
 ghost use Rattle.resp_core.specs.declared.errors.redis_error.Cause.TheVariants.{Memory};
 ghost use Rattle.cluster_calls.specs.Calls.Call.{Ordered};
 ghost use Rattle.cluster_calls.specs.Links.Converted.{ValueMade};
-ghost use Rattle.cluster_calls.specs.Links.Happened.{Happened};
+ghost use Rattle.cluster_calls.specs.Links.Happened.{Happened, LacksLate};
 ghost use Rattle.cluster_client.specs.Whole.{whole};
 
 use super::ClusterClient;
@@ -43,6 +43,9 @@ impl<L: ConnectionLike + Drop> ClusterClient<L> {
         ensures answered { result ≢ Err (by_cause Memory)
             → ValueMade (option_map (λ s. admits s.now) strategy.entry) (whole L.seen self.old)
             (whole L.seen self.new) (Ordered cmd.now order.now number) T.meaning T.convert result }
+        ensures room { result ≡ Err (by_cause Memory) → (whole L.seen self.new).log ≢ []
+            → LacksLate (option_map (λ s. admits s.now) strategy.entry) (whole L.seen self.old)
+            (whole L.seen self.new) (Ordered cmd.now order.now number) }
         ensures unpicked { result ≡ Err (by_cause Memory) → (whole L.seen self.new).log ≡ []
             → (whole L.seen self.new).picked ≡ [] }
     {

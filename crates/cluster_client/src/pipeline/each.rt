@@ -189,10 +189,13 @@ impl ClusterPipeline {
     ///   others.
     ///
     /// Of a split command of several slots this holds of all of its parts: it is what became of each of them,
-    /// or the first error where all were answered. Where parts came to different ends it may be done in part:
-    /// then its refusal is that of a part's link, or `UnexpectedReturnType` (16) where no link was refused
-    /// that it used, which is also told where its parts' replies make no value. `Memory` may be told of such
-    /// a command also where that value had no room.
+    /// or the first error where all were answered. So a server's error that is no redirect says that a part was
+    /// refused, and others may have been done; of a command that went out whole it says that its node refused
+    /// it. Which of the two it was its requests show (`asked`): one for each part, or
+    /// `SplitParts::for_routable`, which tells the parts of a command before it is sent. Where parts came to
+    /// different ends it may be done in part: then its refusal is that of a part's link, or
+    /// `UnexpectedReturnType` (16) where no link was refused that it used, which is also told where its parts'
+    /// replies make no value. `Memory` may be told of such a command also where that value had no room.
     ///
     /// Each node that is used gets all of its commands in one write, in order of first use, before the first
     /// reply is taken; then the replies are taken in that order. So it waits once, for the node that takes

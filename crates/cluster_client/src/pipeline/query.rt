@@ -9,7 +9,7 @@ ghost use Rattle.cluster_calls.specs.Calls.Call.{Entry, Pipeline};
 ghost use Rattle.cluster_calls.specs.Calls.Parts.{pipeline_parts};
 ghost use Rattle.cluster_calls.specs.Links.Converted.{ValueMade, value_answer};
 ghost use Rattle.cluster_steps.specs.Dispatches.{IsPlaced, IsPlanned, dispatches_of};
-ghost use Rattle.cluster_calls.specs.Links.Happened.{CallMade, Happened, client_of};
+ghost use Rattle.cluster_calls.specs.Links.Happened.{CallMade, Happened, LacksLate, client_of};
 ghost use Rattle.cluster_steps.specs.FirstPlaces.{part_of};
 ghost use Rattle.cluster_steps.specs.GroupRuns.{GroupExchanged, GroupsMade, IsGroupPlaced, answers_of};
 ghost use Rattle.cluster_steps.specs.Groups.{group_of, request_count};
@@ -183,6 +183,9 @@ impl ClusterPipeline {
         ensures answered { result ≢ Err (by_cause Memory) → (strategy : Option Strategy)
             → ValueMade strategy (whole L.seen client.old) (whole L.seen client.new)
             (Pipeline self.now) T.meaning T.convert result }
+        ensures room { result ≡ Err (by_cause Memory) → (whole L.seen client.new).log ≢ []
+            → (strategy : Option Strategy)
+            → LacksLate strategy (whole L.seen client.old) (whole L.seen client.new) (Pipeline self.now) }
         ensures unpicked { result ≡ Err (by_cause Memory) → (whole L.seen client.new).log ≡ []
             → (whole L.seen client.new).picked ≡ [] }
     {

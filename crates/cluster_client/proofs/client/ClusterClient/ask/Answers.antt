@@ -1,4 +1,4 @@
-use Rattle.std.proofs.Common.{◌≡◌, refl}
+use Rattle.std.proofs.Common.{◌≡◌, refl, ap}
 use Rattle.std.proofs.lemmas.Result.{err_from_is_err_and}
 use Rattle.resp_core.specs.Errors.{by_cause}
 use Rattle.resp_core.specs.declared.errors.redis_error.Cause.TheVariants.{Memory}
@@ -14,7 +14,7 @@ returns-in_err-reply-clause-asked g c =
     let p = err_from_is_err_and c.from_residual.result c.from_residual.ensures.1 in
     let memory : c.in_err-reply.field-0.0 ≡ by_cause Memory = c.in_err-reply.ensures.only in
     rw (p.1, p.2, memory) (node_lost _ _ (dispatch_of d) (record { entries = refl; settings = refl; picked = refl }) (tree_result view c.exchange_one_over-reply.result) c.needs_refresh_by-self.ensures _ c.requires.placed.place _
-    (by_asking (dispatch_of d) d.place.asking c.requires.placed.direct) c.exchange_one_over-reply.ensures.exchange)
+    (by_asking (dispatch_of d) d.place.asking c.requires.placed.direct) c.exchange_one_over-reply.ensures.exchange (ap (tree_result view) c.in_err-reply.ensures.lacked))
 
 pub returns-clause-asked : goal.returns-clause-asked
 returns-clause-asked g c =

@@ -5,7 +5,7 @@ use Rattle.std.proofs.lemmas.Grind.{common_steps}
 use Rattle.std.proofs.lemmas.Result.{err_from_is_err_and}
 use Rattle.cluster_steps.specs.Dispatches.{dispatch_of}
 use Rattle.cluster_client.specs.Whole.{whole}
-use Rattle.cluster_client.proofs.Logged.{nodes_not_begun, nodes_with_room}
+use Rattle.cluster_client.proofs.Logged.{grown_by, nodes_not_begun, nodes_with_room}
 use Rattle.cluster_client.proofs.NodeLoop.{asks_done, asks_more, asks_refused, others_placed}
 use Rattle.cluster_client.proofs.client.ClusterClient.ask_each.Goals as goal
 
@@ -51,7 +51,8 @@ returns-in_err-reply g c =
     let p = err_from_is_err_and c.from_residual-in_err-reply.result c.from_residual-in_err-reply.ensures.1 in
     let steps : into_iter_items c.nodes.question-iterator ≡ c.in-Some.question ∷ into_iter_items c.next.new.self = c.in-Some.ensures.steps.0 in
     let loop = rw steps at c.nodes.invariant.loop in
-    rw (p.1, p.2) (asks_refused _ _ _ _ (dispatch_of c.in-Some.question.request.dispatch) _ _ loop _ c.in_err-reply.ensures.asked)
+    rw (p.1, p.2) (asks_refused _ _ _ _ (dispatch_of c.in-Some.question.request.dispatch) _ _ loop _ c.in_err-reply.ensures.asked
+    (grown_by _ _ _ _ 1 c.nodes.self.asked.ok.0 c.ask.new.self.asked.ok.0 c.in_err-reply.ensures.log_len))
 
 pub returns : goal.returns
 returns g c =

@@ -1,17 +1,17 @@
-use Rattle.std.proofs.Common.{◌≡◌, ◌<◌, ◌∙◌, [], ◌∷◌, length, arith, sym}
+use Rattle.std.proofs.Common.{◌≡◌, ◌<◌, ◌+◌, ◌∙◌, [], ◌∷◌, length, arith, ap, sym}
 use Rattle.std.specs.Vec.Iter.{into_iter_items}
 use Rattle.std.proofs.lemmas.List.{length-map, map-append, nil_from_length}
 use Rattle.std.proofs.lemmas.Grind.{common_steps}
 use Rattle.std.proofs.lemmas.Result.{err_from_is_err_and}
 use Rattle.cluster_steps.specs.Groups.{group_of}
-use Rattle.cluster_client.proofs.GroupLoop.{groups_done, groups_failed, groups_more, groups_start, groups_stopped, stays_so, still_grouped}
-use Rattle.cluster_client.proofs.Logged.{first_room, room_behind}
+use Rattle.cluster_client.proofs.GroupLoop.{groups_done, groups_failed, groups_more, groups_start, groups_unsent, still_grouped}
+use Rattle.cluster_client.proofs.Logged.{first_room, grown_by, room_behind}
 use Rattle.cluster_client.proofs.client.ClusterClient.exchange_all.Goals as goal
 
 pub returns-in_err-answered : goal.returns-in_err-answered
 returns-in_err-answered g c =
     let p = err_from_is_err_and c.from_residual.result c.from_residual.ensures.1 in
-    rw (p.1, p.2) (groups_stopped _ _ _ _ _ _ (groups_start _ _) (stays_so _))
+    rw (p.1, p.2) (groups_unsent _ _)
 
 pub groups-init : goal.groups-init
 groups-init g c =
@@ -43,7 +43,8 @@ returns-in_err-items g c =
     let steps : into_iter_items c.groups.group-iterator ≡ c.in-Some.group ∷ into_iter_items c.next.new.self = c.in-Some.ensures.steps.0 in
     let placed = rw steps at c.groups.invariant.placed in
     let loop = rw steps at c.groups.invariant.loop in
-    rw (p.1, p.2) (groups_failed _ _ _ _ (group_of c.in-Some.group) _ _ loop (still_grouped loop _ placed.0) _ c.in_err-items.ensures.exchanged)
+    rw (p.1, p.2) (groups_failed _ _ _ _ (group_of c.in-Some.group) _ _ loop (still_grouped loop _ placed.0) _ c.in_err-items.ensures.exchanged
+    (grown_by _ _ _ _ _ c.groups.self.asked.ok.0 c.exchange_group.new.self.asked.ok.0 (c.in_err-items.ensures.log_len ∙ ap (λ n. c.groups.self.asked.len + n) c.in-Some.group.requests.ok.0)))
 
 pub returns : goal.returns
 returns g c =

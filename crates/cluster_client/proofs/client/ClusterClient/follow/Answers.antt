@@ -5,10 +5,10 @@ use Rattle.cluster_routing.specs.Info.{texts}
 use Rattle.cluster_calls.specs.Links.Log.{last_of}
 use Rattle.cluster_calls.specs.Links.World.{nodes}
 use Rattle.cluster_client.specs.Whole.{whole}
-use Rattle.cluster_client.proofs.Logged.{chain_to, chain_with_room}
+use Rattle.cluster_client.proofs.Logged.{chain_to, chain_with_room, grown_by}
 use Rattle.cluster_steps.specs.Groups.{request_in}
 use Rattle.cluster_steps.specs.Turns.{hop_to}
-use Rattle.cluster_calls.proofs.LinkLaws.ChainLoop.{behind_request, followed_bad, with_args, loop_start, loop_ended, loop_err, loop_ok, loop_refused, loop_answered, loop_more}
+use Rattle.cluster_calls.proofs.LinkLaws.ChainLoop.{behind_request, followed_bad, with_args, loop_start, loop_err, loop_ok, loop_refused, loop_answered, loop_more}
 use Rattle.cluster_client.proofs.client.ClusterClient.follow.Goals as goal
 
 pub requests-init : goal.requests-init
@@ -23,14 +23,14 @@ pub returns-in_err-reply-clause-made : goal.returns-in_err-reply-clause-made
 returns-in_err-reply-clause-made g c =
     let p = err_from_is_err_and c.from_residual.result c.from_residual.ensures.1 in
     let is = with_args (request_in c.requests.request.dispatch) _ c.requests.invariant.same in
-    rw (p.1, p.2) (loop_err _ _ _ _ _ _ _ _ c.requests.invariant.loop (record { entries = refl; settings = refl; picked = refl }) _ is _ c.in_err-reply.ensures.exchange refl)
+    rw (p.1, p.2) (loop_err _ _ _ _ _ _ _ _ c.requests.invariant.loop (record { entries = refl; settings = refl; picked = refl }) _ is _ c.in_err-reply.ensures.exchange (grown_by _ _ _ _ 1 c.requests.self.asked.ok.0 c.exchange_one_over.new.log.ok.0 c.in_err-reply.ensures.log_len) refl)
 
 pub returns-in_err-value-clause-made : goal.returns-in_err-value-clause-made
 returns-in_err-value-clause-made g c =
     let p = err_from_is_err_and c.from_residual-in_err-value.result c.from_residual-in_err-value.ensures.1 in
     let is = with_args (request_in c.requests.request.dispatch) _ c.requests.invariant.same in
     let made = loop_ok c.requests.invariant.loop _ _ _ is _ c.in_ok-reply.ensures.exchange in
-    rw (p.1, p.2) (loop_refused _ _ _ _ _ _ _ _ c.requests.invariant.loop (record { entries = refl; settings = refl; picked = refl }) _ made.1 made.0 c.needs_refresh-self.ensures _ (λ m. c.in_err-value.ensures.turns (λ k. m (cc k))))
+    rw (p.1, p.2) (loop_refused _ _ _ _ _ _ _ _ c.requests.invariant.loop (record { entries = refl; settings = refl; picked = refl }) _ made.1 made.0 c.needs_refresh-self.ensures _ c.in_err-value.ensures.error (λ m. c.in_err-value.ensures.turns (λ k. m (cc k))))
 
 pub returns-in-Answered-clause-made : goal.returns-in-Answered-clause-made
 returns-in-Answered-clause-made g c =
@@ -70,10 +70,7 @@ returns-in_err-again-in-On-clause-made g c =
     let is = with_args (request_in c.requests.request.dispatch) _ c.requests.invariant.same in
     let made = loop_ok c.requests.invariant.loop _ _ _ is _ c.in_ok-reply.ensures.exchange in
     let goes = rw c.in-On.is at (c.in_ok-value.ensures.turns (λ k. cc k)) in
-    let on = rw c.in-On.is at c.in_ok-value.ensures.on in
-    let some = rw c.in-On.is at c.in_ok-value.ensures.some in
-    let more = loop_more _ _ _ _ _ _ _ _ c.requests.invariant.loop (record { entries = refl; settings = refl; picked = refl }) _ made.1 made.0 c.needs_refresh-self.ensures (hop_to c.in-On.next) c.in-On.next.which goes (some refl) on.0 (followed_bad _ _ _ _ goes) in
-    rw (p.1, p.2) (loop_ended _ _ _ _ _ _ _ _ more (record { entries = refl; settings = refl; picked = refl }) refl refl refl)
+    rw (p.1, p.2) (loop_refused _ _ _ _ _ _ _ _ c.requests.invariant.loop (record { entries = refl; settings = refl; picked = refl }) _ made.1 made.0 c.needs_refresh-self.ensures _ (followed_bad _ _ _ _ goes) (λ m. absurd (m refl)))
 
 pub returns-in_err-request-in-On-clause-made : goal.returns-in_err-request-in-On-clause-made
 returns-in_err-request-in-On-clause-made g c =
@@ -81,8 +78,4 @@ returns-in_err-request-in-On-clause-made g c =
     let is = with_args (request_in c.requests.request.dispatch) _ c.requests.invariant.same in
     let made = loop_ok c.requests.invariant.loop _ _ _ is _ c.in_ok-reply.ensures.exchange in
     let goes = rw c.in-On.is at (c.in_ok-value.ensures.turns (λ k. cc k)) in
-    let on = rw c.in-On.is at c.in_ok-value.ensures.on in
-    let some = rw c.in-On.is at c.in_ok-value.ensures.some in
-    let world = record (whole g.L.ConnectionLike.seen c.requests.self) { nodes = nodes g.L.ConnectionLike.seen c.exchange_one_over.new.links.nodes.items; needs_refresh = c.needs_refresh-self.result; log = c.exchange_one_over.new.log.items } in
-    let more = loop_more _ _ world _ _ _ _ _ c.requests.invariant.loop (record { entries = refl; settings = refl; picked = refl }) _ made.1 made.0 c.needs_refresh-self.ensures (hop_to c.in-On.next) c.in-On.next.which goes (some refl) on.0 (followed_bad _ _ _ _ goes) in
-    rw (p.1, p.2) (loop_ended _ _ _ _ _ _ _ _ more (record { entries = refl; settings = refl; picked = refl }) refl c.in_err-request-in-On.ensures.log refl)
+    rw (p.1, p.2) (loop_refused _ _ _ _ _ _ _ _ c.requests.invariant.loop (record { entries = refl; settings = refl; picked = refl }) _ made.1 (c.in_err-request-in-On.ensures.log ∙ made.0) c.needs_refresh-self.ensures _ (followed_bad _ _ _ _ goes) (λ m. absurd (m refl)))

@@ -1,8 +1,9 @@
-use Rattle.std.proofs.Common.{◌≡◌, refl, ap, None, Err}
+use Rattle.std.proofs.Common.{◌≡◌, refl, ap, inl, inr, None, Err}
 use Rattle.std.proofs.lemmas.Result.{err_from_is_err_and}
 use Rattle.resp_core.specs.Errors.{by_cause}
 use Rattle.resp_core.specs.declared.errors.redis_error.Cause.TheVariants.{Memory}
 use Rattle.cluster_calls.proofs.LinkLaws.Unpicked.{answered_unpicked}
+use Rattle.cluster_client.proofs.Ending.{lacks_late}
 use Rattle.cluster_client.proofs.client.ClusterClient.query.Goals as goal
 
 pub returns-in_err-reply-clause-answered : goal.returns-in_err-reply-clause-answered
@@ -17,3 +18,11 @@ returns-in_err-reply-clause-unpicked g c =
 
 pub returns-in_err-from_redis_value-clause-unpicked : goal.returns-in_err-from_redis_value-clause-unpicked
 returns-in_err-from_redis_value-clause-unpicked g c e = answered_unpicked _ _ _ _ c.args.cmd.now c.args.number None refl _ c.in_ok-reply.ensures
+
+pub returns-in_err-reply-clause-room : goal.returns-in_err-reply-clause-room
+returns-in_err-reply-clause-room g c =
+    let p = err_from_is_err_and c.from_residual.result c.from_residual.ensures.1 in
+    rw (p.1, p.2) (λ lacks some. let lack : c.in_err-reply.field-0.0 ≡ by_cause Memory = cc in lacks_late c.in_err-reply.ensures (inl (ap Err lack)) some)
+
+pub returns-in_err-from_redis_value-clause-room : goal.returns-in_err-from_redis_value-clause-room
+returns-in_err-from_redis_value-clause-room g c e some = lacks_late c.in_ok-reply.ensures (inr (λ k. cc k)) some

@@ -1,4 +1,4 @@
-use Rattle.std.proofs.Common.{refl, None, Ok, Err}
+use Rattle.std.proofs.Common.{refl, inl, inr, None, Ok, Err}
 use Rattle.std.proofs.lemmas.Result.{err_from_is_err_and}
 use Rattle.resp_core.specs.View.{view}
 use Rattle.stream_commands.specs.Commands.{plain_command}
@@ -11,18 +11,18 @@ pub returns-in_err-reply-in-Ok : goal.returns-in_err-reply-in-Ok
 returns-in_err-reply-in-Ok g c call shown fits sentenced written reads =
     let p = err_from_is_err_and c.from_residual.result c.from_residual.ensures.1 in
     let made = rw (rw c.in-Ok.is at written) at c.in_err-reply-in-Ok.ensures in
-    rw (p.1, p.2) (typed_made _ _ _ call fits sentenced (Err c.in_err-reply-in-Ok.field-0.0) _ made (λ had. refl) made.unpicked)
+    rw (p.1, p.2) (typed_made _ _ _ call fits sentenced (Err c.in_err-reply-in-Ok.field-0.0) _ made (λ had. refl) made.unpicked (λ lacks. inl lacks))
 
 pub returns-in_err-from_redis_value-in-Ok : goal.returns-in_err-from_redis_value-in-Ok
 returns-in_err-from_redis_value-in-Ok g c call shown fits sentenced written reads =
     let p = err_from_is_err_and c.from_residual-in_err-from_redis_value-in-Ok.result c.from_residual-in_err-from_redis_value-in-Ok.ensures.1 in
     let made = rw (rw c.in-Ok.is at written) at c.in_ok-reply-in-Ok.ensures in
-    rw (p.1, p.2) (typed_made _ _ _ call fits sentenced (Ok (view c.in_ok-reply-in-Ok.reply)) _ made (unconverted g.T.FromRedisValue.meaning call g.T.FromRedisValue.convert shown (view c.in_ok-reply-in-Ok.reply) c.in_err-from_redis_value-in-Ok.field-0.0 reads c.in_err-from_redis_value-in-Ok.ensures) (λ e. answered_unpicked _ _ _ _ (plain_command (sentence call)) 0 None refl _ made))
+    rw (p.1, p.2) (typed_made _ _ _ call fits sentenced (Ok (view c.in_ok-reply-in-Ok.reply)) _ made (unconverted g.T.FromRedisValue.meaning call g.T.FromRedisValue.convert shown (view c.in_ok-reply-in-Ok.reply) c.in_err-from_redis_value-in-Ok.field-0.0 reads c.in_err-from_redis_value-in-Ok.ensures) (λ e. answered_unpicked _ _ _ _ (plain_command (sentence call)) 0 None refl _ made) (λ lacks. inr (λ k. cc k)))
 
 pub returns-in_ok-from_redis_value-in-Ok : goal.returns-in_ok-from_redis_value-in-Ok
 returns-in_ok-from_redis_value-in-Ok g c call shown fits sentenced written reads =
     let made = rw (rw c.in-Ok.is at written) at c.in_ok-reply-in-Ok.ensures in
-    typed_made _ _ _ call fits sentenced (Ok (view c.in_ok-reply-in-Ok.reply)) _ made (λ had. converted call g.T.FromRedisValue.convert shown (view c.in_ok-reply-in-Ok.reply) _ reads c.in_ok-from_redis_value-in-Ok.ensures) (λ e. cc e)
+    typed_made _ _ _ call fits sentenced (Ok (view c.in_ok-reply-in-Ok.reply)) _ made (λ had. converted call g.T.FromRedisValue.convert shown (view c.in_ok-reply-in-Ok.reply) _ reads c.in_ok-from_redis_value-in-Ok.ensures) (λ e. cc e) (λ e. cc e)
 
 pub returns-in-Err : goal.returns-in-Err
 returns-in-Err g c call shown fits sentenced written reads =

@@ -1,8 +1,19 @@
-use Rattle.std.proofs.Common.{refl, Err}
+use Rattle.std.proofs.Common.{◌≡◌, refl, ap, inl, inr, Err}
 use Rattle.std.proofs.lemmas.Result.{err_from_is_err_and}
+use Rattle.resp_core.specs.Errors.{by_cause}
+use Rattle.resp_core.specs.declared.errors.redis_error.Cause.TheVariants.{Memory}
+use Rattle.cluster_client.proofs.Ending.{lacks_late}
 use Rattle.cluster_client.proofs.client.ClusterClient.transaction.Goals as goal
 
 pub returns-in_err-reply-clause-answered : goal.returns-in_err-reply-clause-answered
 returns-in_err-reply-clause-answered g c m =
     let p = err_from_is_err_and c.from_residual.result c.from_residual.ensures.1 in
     rw (p.1, p.2) (record { reply = Err c.in_err-reply.field-0.0; made = c.in_err-reply.ensures.made; converted = refl })
+
+pub returns-in_err-reply-clause-room : goal.returns-in_err-reply-clause-room
+returns-in_err-reply-clause-room g c =
+    let p = err_from_is_err_and c.from_residual.result c.from_residual.ensures.1 in
+    rw (p.1, p.2) (λ lacks some. let lack : c.in_err-reply.field-0.0 ≡ by_cause Memory = cc in lacks_late c.in_err-reply.ensures.made (inl (ap Err lack)) some)
+
+pub returns-in_err-from_redis_value-clause-room : goal.returns-in_err-from_redis_value-clause-room
+returns-in_err-from_redis_value-clause-room g c e some = lacks_late c.in_ok-reply.ensures.made (inr (λ k. cc k)) some

@@ -1,8 +1,9 @@
-use Rattle.std.proofs.Common.{rules, ◌≡◌, refl, ap, Err, None, Ok}
+use Rattle.std.proofs.Common.{rules, ◌≡◌, refl, ap, inl, inr, Err, None, Ok}
 use Rattle.std.proofs.lemmas.Result.{err_from_is_err_and}
 use Rattle.resp_core.specs.Errors.{by_cause}
 use Rattle.resp_core.specs.declared.errors.redis_error.Cause.TheVariants.{Memory}
 use Rattle.resp_core.specs.View.{view}
+use Rattle.cluster_client.proofs.Ending.{lacks_late}
 use Rattle.cluster_client.proofs.pipeline.ClusterPipeline.query.Goals as goal
 
 pub returns-in_err-reply-clause-happened : goal.returns-in_err-reply-clause-happened
@@ -34,3 +35,11 @@ returns-in_err-reply-clause-unpicked g c =
 
 pub returns-in_err-from_redis_value-clause-unpicked : goal.returns-in_err-from_redis_value-clause-unpicked
 returns-in_err-from_redis_value-clause-unpicked g c e none = ((rw c.commands.ensures at (c.in_ok-reply.ensures None)).answered (λ k. cc k)).picks
+
+pub returns-in_err-reply-clause-room : goal.returns-in_err-reply-clause-room
+returns-in_err-reply-clause-room g c =
+    let p = err_from_is_err_and c.from_residual.result c.from_residual.ensures.1 in
+    rw (p.1, p.2) (λ lacks some strategy. let lack : c.in_err-reply.field-0.0 ≡ by_cause Memory = cc in lacks_late (rw c.commands.ensures at (c.in_err-reply.ensures strategy)) (inl (ap Err lack)) some)
+
+pub returns-in_err-from_redis_value-clause-room : goal.returns-in_err-from_redis_value-clause-room
+returns-in_err-from_redis_value-clause-room g c e some strategy = lacks_late (rw c.commands.ensures at (c.in_ok-reply.ensures strategy)) (inr (λ k. cc k)) some
