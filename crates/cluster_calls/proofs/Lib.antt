@@ -3,3 +3,4 @@ pub mod ServerLaws
 pub mod LogLaws
 pub mod MixedPlay
 pub mod EachPlay
+pub mod SharedPlay

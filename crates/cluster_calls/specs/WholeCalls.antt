@@ -26,9 +26,12 @@ pub mod MixedPlay
 pub mod ClosedLinks
 pub mod Transactions
 pub mod AsOneRuns
+pub mod AskedRun
+pub mod ReadRun
 pub mod EachRuns
 pub mod EachSplits
 pub mod WrongEach
 pub mod MixedEach
 pub mod EachPlay
+pub mod SharedPlay
 pub mod WrongEachCounts

@@ -20,6 +20,7 @@ ghost use Rattle.cluster_calls.specs.OneServer.Stretches.{RunsHaveStretches};
 ghost use Rattle.cluster_calls.specs.OneServer.TransactionLaws.{AttemptsAreBounded, OnlyNotDoneIsSentAgain};
 ghost use Rattle.cluster_calls.specs.WholeCalls.EachPlay.{EachIsPlayedWhole};
 ghost use Rattle.cluster_calls.specs.WholeCalls.MixedPlay.{FourArePlayedWhole};
+ghost use Rattle.cluster_calls.specs.WholeCalls.SharedPlay.{SharedIsPlayedWhole};
 
 /// A call leaves the links of all nodes that its log does not name, also where memory is refused.
 pub fn unasked_nodes_stay()
@@ -148,7 +149,8 @@ pub fn runs_have_stretches()
     ensures { RunsHaveStretches }
 {}
 
-/// Commands that pack to what a node got over a run are those of its requests.
+/// Whoever reads commands of what a node got over a run reads those of its requests; behind a write that failed those
+/// of the link calls before it.
 pub fn no_other_lists()
     ensures { NoOtherLists }
 {}
@@ -193,6 +195,12 @@ pub fn four_are_played_whole()
 /// lost and one is half done, is played over an honest cluster, and is as on one server.
 pub fn each_is_played_whole()
     ensures { EachIsPlayedWhole }
+{}
+
+/// A run on keys that another client uses too, of which a command is split and the other looks between its
+/// parts, and sets a key before a later call, is played over an honest cluster, and is as on one server.
+pub fn shared_is_played_whole()
+    ensures { SharedIsPlayedWhole }
 {}
 
 /// Replies to reads of streams that are spelled in another shape change nothing of a run.

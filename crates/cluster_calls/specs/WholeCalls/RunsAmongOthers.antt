@@ -95,7 +95,7 @@ a_get_cannot_miss_what_another_set own keys' h = by own h.requests h.history.1
         x.alone leads).0
 
 -- and no server would answer so
-abbrev is_one : List ℕ → Bool
+abbrev pub is_one : List ℕ → Bool
 is_one [] = false
 is_one (b ∷ bs) = b == 49
 
@@ -203,10 +203,10 @@ abbrev pub looked_around : CallTurns
 looked_around = record
     { before = []; during = (finds_no_b ∷ []) ∷ (finds_a ∷ []) ∷ []; own = (puts_a ∷ puts_b ∷ []) ∷ [] }
 
-abbrev around : List Turn
+abbrev pub around : List Turn
 around = Other finds_no_b ∷ Own puts_a ∷ Own puts_b ∷ Other finds_a ∷ []
 
-abbrev within : List Turn
+abbrev pub within : List Turn
 within = Own puts_a ∷ Other finds_a ∷ Other finds_no_b ∷ Own puts_b ∷ []
 
 pub they_look_around_on_one_server : AsOneServerAmongOthers puts nothing none_done one_mset
