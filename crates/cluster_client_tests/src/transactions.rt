@@ -266,3 +266,22 @@ fn transactions_are_answered_as_servers_reply(rt: HostRuntime) -> Result<(), Fai
     }
     Ok(())
 }
+
+fn is_no_value(answer: Result<i64, RedisError>) -> bool {
+    match answer {
+        Ok(_) => false,
+        Err(e) => e.number() == 16,
+    }
+}
+
+// What EXEC replied is read as the type that the caller asks for: an array is no number, though it was done.
+#[test]
+fn a_transactions_reply_is_read_as_a_type(rt: HostRuntime) -> Result<(), Fail> {
+    let alloc = rt.alloc();
+    let mut client = client_of(alloc, &ROWS[0])?;
+    assert!(rt; is_refreshed(alloc, &mut client)?);
+    let commands = commands_of(alloc, TWO)?;
+    assert!(rt; is_no_value(client.transaction(alloc, &commands)));
+    assert_eq!(rt; client.asked().len(), 4);
+    Ok(())
+}
