@@ -1,4 +1,4 @@
-"""What stands in the pages of the repository, for tools/pages and tools/sockets.
+"""What stands in the pages of the repository, for tools/pages, tools/files and tools/sockets.
 
 A page is a file of Markdown: at the top, in docs/ or in the folder of a crate. A block between two lines of ``` is
 known by the words behind the first of them:
@@ -20,6 +20,13 @@ PROGRAM = re.compile(r"rust program ([a-z][a-z0-9_]*): ([a-z0-9_ ]+)")
 
 class Unreadable(Exception):
     """A page that is not as it has to be."""
+
+
+def crates_in(root):
+    """Each crate of crates.txt, in order, with all crates on which it stands."""
+    lines = [line.partition("#")[0] for line in (root / "crates.txt").read_text().splitlines()]
+    named = [line.partition(":") for line in lines if line.strip()]
+    return {name.split()[0]: uses.split() for name, _, uses in named}
 
 
 def pages_in(root):
