@@ -1,7 +1,8 @@
 -- A call whose one reply is read as a type: the call, and the conversion of its reply.
-use Rattle.std.specs.Prelude.{◌≡◌, List, Option, Some, None, Result, Ok, Err}
+use Rattle.std.specs.Prelude.{◌≡◌, ◌⊎◌, List, Option, Some, None, Result, Ok, Err}
 use Rattle.resp_core.specs.Trees.{Tree}
-use Rattle.resp_core.specs.Errors.{Refusal}
+use Rattle.resp_core.specs.Errors.{Refusal, by_cause}
+use Rattle.resp_core.specs.declared.errors.redis_error.Cause.TheVariants.{Memory}
 use Rattle.cluster_routing.specs.Choice.{Strategy}
 use Rattle.cluster_routing.specs.Policies.{bad_reply}
 use Rattle.cluster_calls.specs.Links.World.{World}
@@ -24,11 +25,13 @@ abbrev pub refresh_answer : {A : Type 0} → Result A Refusal → Result Answer 
 refresh_answer (Ok a) = Ok Refreshed
 refresh_answer (Err refusal) = Err refusal
 
--- the result is the reply's conversion, refused where it has none; a refused call's refusal stays
+-- The result is the reply's conversion, refused where it has none, and otherwise for the conversion's own want
+-- of memory alone; a refused call's refusal stays.
 abbrev pub ConvertsTo : {T M : Type 0} → (T → M) → (Tree → Option M) → Result Tree Refusal → Result T Refusal
     → Type 0
 ConvertsTo meaning convert (Ok tree) (Ok value) = convert tree ≡ Some (meaning value)
-ConvertsTo meaning convert (Ok tree) (Err refusal) = (convert tree ≡ None) × (refusal ≡ bad_reply)
+ConvertsTo meaning convert (Ok tree) (Err refusal) = ((convert tree ≡ None) × (refusal ≡ bad_reply))
+    ⊎ (refusal ≡ by_cause Memory)
 ConvertsTo meaning convert (Err refusal) (Ok value) = ⊥
 ConvertsTo meaning convert (Err refusal) (Err refusal') = refusal' ≡ refusal
 
