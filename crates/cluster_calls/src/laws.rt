@@ -59,7 +59,8 @@ pub fn answers_among_others()
     ensures { AnswersAmongOthers }
 {}
 
-/// Where no command is split and no call is a pipeline, all steps stay in their order, others' too.
+/// Where no command is split, no read of streams has several slots and no call is a pipeline, all steps stay
+/// in their order, others' too.
 pub fn unsplit_runs_stay()
     ensures { UnsplitRunsStay }
 {}

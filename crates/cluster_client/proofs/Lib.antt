@@ -11,6 +11,7 @@ pub mod SeveralNodes
 pub mod OneNode
 pub mod Prepared
 pub mod Ending
+pub mod Converting
 pub mod TypedCalls
 pub mod Deletions
 pub mod Relinking

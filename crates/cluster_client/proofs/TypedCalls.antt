@@ -1,6 +1,6 @@
 -- A call on streams is its command's call, whose reply is read as a record.
 use Rattle.std.specs.Prelude.{◌⊎◌}
-use Rattle.std.proofs.Common.{◌≡◌, ◌≢◌, ℕ, List, [], map, Option, Some, None, option_map, option_and_then, refl, sym, ap, ◌∙◌, subst, Result, Ok, Err, inl, inr}
+use Rattle.std.proofs.Common.{◌≡◌, ◌≢◌, ℕ, true, false, cond, List, [], map, Option, Some, None, option_map, option_and_then, refl, sym, ap, ◌∙◌, subst, Result, Ok, Err, inl, inr}
 use Rattle.std.proofs.lemmas.Bool.{false≢true}
 use Rattle.std.proofs.lemmas.Simd.{map-map}
 use Rattle.resp_core.specs.Trees.{Tree}
@@ -13,25 +13,25 @@ use Rattle.cluster_routing.specs.Policies.{bad_reply, or_bad_reply}
 use Rattle.stream_commands.specs.Commands as commands
 use Rattle.stream_commands.specs.Settings.{ReadSettings}
 use Rattle.stream_commands.specs.Commands.{plain_command}
-use Rattle.cluster_calls.specs.Links.Converted.{value_answer}
+use Rattle.cluster_calls.specs.Links.Converted.{ConvertsTo, ValueMade, value_answer}
 use Rattle.cluster_calls.specs.Links.Events.{Event, exchanges_of, log_of}
 use Rattle.cluster_calls.specs.Links.Lacking.{MayLack, follows_redirects}
 use Rattle.cluster_calls.specs.Links.Faults.{LinkFault}
-use Rattle.cluster_calls.specs.Links.Happened.{client_of, BeginsLegal, Happened, CallMade}
+use Rattle.cluster_calls.specs.Links.Happened.{client_of, is_refresh, BeginsLegal, Happened, CallMade}
 use Rattle.cluster_calls.specs.Links.Log.{Exchange}
 use Rattle.cluster_calls.specs.Links.Nodes.{link_calls}
 use Rattle.cluster_calls.specs.Links.Request.{requests_to}
 use Rattle.cluster_calls.specs.Links.Run.{with_log}
-use Rattle.cluster_calls.specs.Links.Typed.{IsReadBy, record_answer, streams_by}
+use Rattle.cluster_calls.specs.Links.Typed.{IsReadBy, StreamCallMade, record_answer, streams_by}
 use Rattle.cluster_calls.specs.Links.World.{World}
 use Rattle.cluster_calls.specs.Calls.Answer.{Answer, Value, answer_of, reply_of, stream_answer}
-use Rattle.cluster_calls.specs.Calls.Call.{Call, Query, StreamCall, Xread, OnStreams}
+use Rattle.cluster_calls.specs.Calls.Call.{Call, Query, Stream, StreamCall, Xread, OnStreams}
 use Rattle.cluster_calls.specs.Calls.Legal.{IsLegalCall}
 use Rattle.cluster_calls.specs.Calls.Parts.{result_then, unless}
 use Rattle.cluster_calls.specs.Calls.Picks.{ArePicks, ArePicksOf}
 use Rattle.cluster_calls.specs.Calls.Plan.{Client, Dispatch, call_parts, dispatches, in_order, order_of, plan}
 use Rattle.cluster_calls.specs.Calls.Refusals.{sent_refusal}
-use Rattle.cluster_calls.specs.Calls.Task.{one_command, sentence, sentence_task, stream_keys, stream_ids, stream_refusal, stream_task}
+use Rattle.cluster_calls.specs.Calls.Task.{is_by_key, one_command, read_of, sentence, sentence_task, stream_keys, stream_ids, stream_refusal, stream_task}
 use Rattle.cluster_calls.specs.Calls.TaskParts.{task_parts}
 use Rattle.cluster_client.proofs.Ending.{room_read}
 use Rattle.cluster_calls.proofs.LinkLaws.OneCommand.{refused_by, relogged_untouched, not_begun, not_sent}
@@ -143,13 +143,17 @@ pub unconverted : {M T : Type 0} (meaning : T → M) (call : StreamCall) (conver
 unconverted meaning call convert shown tree (refused text) reads none had = sym (ap or_bad_reply (reads tree ∙ ap (option_map shown) none))
 unconverted meaning call convert shown tree no_memory reads none had = absurd (had refl)
 
--- a record that is shown in the same way
-pub shown_alike : {T : Type 0} (f g : T → Answer) → ((value : T) → f value ≡ g value) → (result : Result T Refusal) → record_answer f result ≡ record_answer g result
-shown_alike f g same (Ok value) = ap (λ answer. Ok answer) (same value)
-shown_alike f g same (Err refusal) = refl
+-- what the reply reads as is refused where the conversion was
+pub reads_unread : {M T : Type 0} (meaning : T → M) (call : StreamCall) (convert : Tree → Option M) (shown : M → Answer) (tree : Tree) (e : Unreadable) → IsReadBy call convert shown → ConvertsTo meaning convert (Ok tree) (Err (unread e))
+    → ConvertsTo (λ value. shown (meaning value)) (stream_answer call) (Ok tree) (Err (unread e))
+reads_unread meaning call convert shown tree e reads (inl (none, bad)) = inl (reads tree ∙ ap (option_map shown) none, bad)
+reads_unread meaning call convert shown tree e reads (inr lacks) = inr lacks
 
-pub answered_so : (strategy : Option Strategy) (old new : World) (call : Call) (answer answer' : Result Answer Refusal) → answer ≡ answer' → CallMade strategy old new call answer → CallMade strategy old new call answer'
-answered_so strategy old new call answer answer' e m = subst (λ a. CallMade strategy old new call a) e m
+-- a record that is shown in the same way
+pub shown_so : {T : Type 0} (strategy : Option Strategy) (old new : World) (call : StreamCall) (f g : T → Answer) (result : Result T Refusal) → ((value : T) → f value ≡ g value) → StreamCallMade strategy old new call f result → StreamCallMade strategy old new call g result
+shown_so strategy old new call f g result same m =
+    let alike : f ≡ g = λ i value. same value i in
+    subst (λ shown. StreamCallMade strategy old new call shown result) alike m
 
 -- ---- the streams of a read
 
@@ -165,13 +169,34 @@ read_sentence_by key id streams options = rw (stream_keys_by key id streams, str
 -- ---- nothing was sent
 
 -- memory was refused for the command
-pub unwritten : (strategy : Option Strategy) (old new : World) (call : StreamCall) → new ≡ with_log old [] [] → CallMade strategy old new (OnStreams call) (Err (by_cause Memory))
-unwritten strategy old new call e = not_begun strategy old new (OnStreams call) (relogged_untouched old new [] e) (ap (λ (w : World). w.picked) e)
+unwritten : (strategy : Option Strategy) (old new : World) (call : Call) → is_refresh call ≡ false → new ≡ with_log old [] [] → CallMade strategy old new call (Err (by_cause Memory))
+unwritten strategy old new call plain e = not_begun strategy old new call (relogged_untouched old new [] e) (ap (λ (w : World). w.picked) e)
+
+pub nothing_written : {T : Type 0} (strategy : Option Strategy) (old new : World) (call : StreamCall) (shown : T → Answer) → new ≡ with_log old [] [] → StreamCallMade strategy old new call shown (Err (by_cause Memory))
+nothing_written strategy old new call shown e = record {
+  made = unwritten strategy old new (OnStreams call) refl e;
+  read = λ fits sentenced. record { reply = Err (by_cause Memory); made = unwritten strategy old new (query strategy old new call fits sentenced) refl e; converted = refl };
+}
 
 -- a check before all others is not met
-pub refused_early : (strategy : Option Strategy) (old new : World) (call : StreamCall) (refusal : Refusal) → stream_refusal call ≡ Some refusal → new ≡ with_log old [] [] → CallMade strategy old new (OnStreams call) (Err refusal)
-refused_early strategy old new call refusal why e =
+refused_first : (strategy : Option Strategy) (old new : World) (call : StreamCall) (refusal : Refusal) → stream_refusal call ≡ Some refusal → new ≡ with_log old [] [] → CallMade strategy old new (OnStreams call) (Err refusal)
+refused_first strategy old new call refusal why e =
     let none : call_parts (client_of old) (OnStreams call) ≡ Err refusal = ap (λ o. unless o (task_parts old.settings.read_only old.entries (stream_task call))) why in
     let picked : new.picked ≡ [] = ap (λ (w : World). w.picked) e in
     not_sent strategy old new (OnStreams call) refusal refl (relogged_untouched old new [] e) picked
     (λ m. (plan_unparted strategy (client_of old) (OnStreams call) new.picked refusal none, subst (λ ps. ArePicks strategy (client_of old) (OnStreams call) ps) (sym picked) (picks_unparted strategy (client_of old) (OnStreams call) refusal none)))
+
+pub refused_early : {T : Type 0} (strategy : Option Strategy) (old new : World) (call : StreamCall) (shown : T → Answer) (refusal : Refusal) → stream_refusal call ≡ Some refusal → new ≡ with_log old [] [] → StreamCallMade strategy old new call shown (Err refusal)
+refused_early strategy old new call shown refusal why e = record {
+  made = refused_first strategy old new call refusal why e;
+  read = λ fits sentenced. let none = sym why ∙ fits in cc;
+}
+
+-- ---- a read in parts goes out as no one command
+
+pub read_in_parts : {T : Type 0} (strategy : Option Strategy) (old new : World) (streams : List Stream) (options : ReadSettings) (shown : T → Answer) (result : Result T Refusal) → is_by_key options (stream_keys streams) ≡ true
+    → CallMade strategy old new (OnStreams (Xread streams options)) (record_answer shown result) → StreamCallMade strategy old new (Xread streams options) shown result
+read_in_parts strategy old new streams options shown result parts made = record {
+  made = made;
+  read = λ fits sentenced. let other = sym (ap (λ b. cond b (read_of options streams) (sentence_task (Xread streams options))) parts) ∙ sentenced in cc;
+}

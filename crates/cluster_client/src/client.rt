@@ -186,8 +186,7 @@ impl<L: ConnectionLike + Drop> ClusterClient<L> {
         // What happened, also where memory is refused.
         ensures happened { Happened (option_map (λ s. admits s.now) strategy.entry) (whole L.seen self.old)
             (whole L.seen self.new) (Query cmd.now number) }
-        ensures answered { result ≢ Err (by_cause Memory)
-            → ValueMade (option_map (λ s. admits s.now) strategy.entry) (whole L.seen self.old)
+        ensures answered { ValueMade (option_map (λ s. admits s.now) strategy.entry) (whole L.seen self.old)
             (whole L.seen self.new) (Query cmd.now number) T.meaning T.convert result }
         // Behind the first byte memory lacks in the last link call, for a request that a redirect sends
         // on, or when nothing more was to be sent.

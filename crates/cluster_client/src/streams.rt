@@ -14,12 +14,11 @@ ghost use Rattle.std.specs.Prelude.{◌≡◌, [], None, IfOk, map, option_map, 
 ghost use Rattle.stream_commands.specs.InfoViews.{consumer_view, group_view, pending_view, stream_info_view};
 ghost use Rattle.stream_commands.specs.RecordViews.{autoclaim_view, entries_view, rows_view};
 ghost use Rattle.cluster_calls.specs.Calls.Answer.{Answer, Added, Trimmed, Read, Range, Claim, AutoClaim, Pending, Stream, Groups, Consumers, Deleted};
-ghost use Rattle.cluster_calls.specs.Calls.Call.{StreamCall, Xadd, Xtrim, Xread, Xrange, Xclaim, Xautoclaim, Xpending, XinfoStream, XinfoGroups, XinfoConsumers, XdelEx, OnStreams};
+ghost use Rattle.cluster_calls.specs.Calls.Call.{StreamCall, Xadd, Xtrim, Xread, Xrange, Xclaim, Xautoclaim, Xpending, XinfoStream, XinfoGroups, XinfoConsumers, XdelEx};
 ghost use Rattle.stream_commands.specs.Commands.{plain_command};
 ghost use Rattle.cluster_calls.specs.Calls.Task.{sentence, sentence_task, stream_refusal, stream_task};
-ghost use Rattle.cluster_calls.specs.Links.Happened.{CallMade};
 ghost use Rattle.cluster_calls.specs.Links.Run.{with_log};
-ghost use Rattle.cluster_calls.specs.Links.Typed.{IsReadBy, deletion_of, record_answer, streams_by};
+ghost use Rattle.cluster_calls.specs.Links.Typed.{IsReadBy, StreamCallMade, deletion_of, streams_by};
 ghost use Rattle.cluster_client.specs.Whole.{whole};
 
 use crate::client::ClusterClient;
@@ -53,11 +52,10 @@ impl<L: ConnectionLike + Drop> ClusterClient<L> {
         fields: &[(F, V)],
         strategy: Option<&dyn ReadRoutingStrategy>,
     ) -> Result<Option<String>, RedisError>
-        ensures { CallMade (option_map (λ s. admits s.now) strategy.entry) (whole L.seen self.old)
+        ensures { StreamCallMade (option_map (λ s. admits s.now) strategy.entry) (whole L.seen self.old)
             (whole L.seen self.new)
-            (OnStreams (Xadd (K.arg key) options.now (I.arg id)
-            (map (λ f. (F.arg f.0, V.arg f.1)) fields.now)))
-            (record_answer (λ id. Added (option_map string_bytes id)) result) }
+            (Xadd (K.arg key) options.now (I.arg id) (map (λ f. (F.arg f.0, V.arg f.1)) fields.now))
+            (λ id. Added (option_map string_bytes id)) result }
     {
         let cmd = commands::xadd(alloc, &key, options, &id, fields);
         self.reply_as(alloc, cmd, strategy)
@@ -71,9 +69,8 @@ impl<L: ConnectionLike + Drop> ClusterClient<L> {
         options: &StreamTrimOptions,
         strategy: Option<&dyn ReadRoutingStrategy>,
     ) -> Result<usize, RedisError>
-        ensures { CallMade (option_map (λ s. admits s.now) strategy.entry) (whole L.seen self.old)
-            (whole L.seen self.new) (OnStreams (Xtrim (K.arg key) options.now))
-            (record_answer (λ n. Trimmed (pos n)) result) }
+        ensures { StreamCallMade (option_map (λ s. admits s.now) strategy.entry) (whole L.seen self.old)
+            (whole L.seen self.new) (Xtrim (K.arg key) options.now) (λ n. Trimmed (pos n)) result }
     {
         let cmd = commands::xtrim(alloc, &key, options);
         self.reply_as(alloc, cmd, strategy)
@@ -104,9 +101,9 @@ impl<L: ConnectionLike + Drop> ClusterClient<L> {
         options: &StreamReadOptions,
         strategy: Option<&dyn ReadRoutingStrategy>,
     ) -> Result<StreamReadReply, RedisError>
-        ensures { CallMade (option_map (λ s. admits s.now) strategy.entry) (whole L.seen self.old)
-            (whole L.seen self.new) (OnStreams (Xread (streams_by K.arg I.arg streams.now) options.now))
-            (record_answer (λ reply. Read (rows_view reply.keys.items)) result) }
+        ensures { StreamCallMade (option_map (λ s. admits s.now) strategy.entry) (whole L.seen self.old)
+            (whole L.seen self.new) (Xread (streams_by K.arg I.arg streams.now) options.now)
+            (λ reply. Read (rows_view reply.keys.items)) result }
     {
         match reading_of(alloc, streams, options) {
             Ok(Reading::ByKey(streams)) => self.read_by_key(alloc, &streams, options, strategy),
@@ -132,9 +129,9 @@ impl<L: ConnectionLike + Drop> ClusterClient<L> {
         end: E,
         strategy: Option<&dyn ReadRoutingStrategy>,
     ) -> Result<StreamRangeReply, RedisError>
-        ensures { CallMade (option_map (λ s. admits s.now) strategy.entry) (whole L.seen self.old)
-            (whole L.seen self.new) (OnStreams (Xrange (K.arg key) (S.arg start) (E.arg end)))
-            (record_answer (λ reply. Range (entries_view reply.ids.items)) result) }
+        ensures { StreamCallMade (option_map (λ s. admits s.now) strategy.entry) (whole L.seen self.old)
+            (whole L.seen self.new) (Xrange (K.arg key) (S.arg start) (E.arg end))
+            (λ reply. Range (entries_view reply.ids.items)) result }
     {
         let cmd = commands::xrange(alloc, &key, &start, &end);
         self.reply_as(alloc, cmd, strategy)
@@ -161,12 +158,11 @@ impl<L: ConnectionLike + Drop> ClusterClient<L> {
         options: &StreamClaimOptions,
         strategy: Option<&dyn ReadRoutingStrategy>,
     ) -> Result<StreamClaimReply, RedisError>
-        ensures { CallMade (option_map (λ s. admits s.now) strategy.entry) (whole L.seen self.old)
+        ensures { StreamCallMade (option_map (λ s. admits s.now) strategy.entry) (whole L.seen self.old)
             (whole L.seen self.new)
-            (OnStreams (Xclaim (record
+            (Xclaim (record
             { key = K.arg key; group = G.arg group; consumer = C.arg consumer; min_idle = min_idle })
-            (map I.arg ids.now) options.now))
-            (record_answer (λ reply. Claim (entries_view reply.ids.items)) result) }
+            (map I.arg ids.now) options.now) (λ reply. Claim (entries_view reply.ids.items)) result }
     {
         if options.justid() {
             return Err(self.refuse(alloc, RedisError::from(Cause::ClaimsIdsAlone)));
@@ -193,11 +189,11 @@ impl<L: ConnectionLike + Drop> ClusterClient<L> {
         options: &StreamAutoClaimOptions,
         strategy: Option<&dyn ReadRoutingStrategy>,
     ) -> Result<StreamAutoClaimReply, RedisError>
-        ensures { CallMade (option_map (λ s. admits s.now) strategy.entry) (whole L.seen self.old)
+        ensures { StreamCallMade (option_map (λ s. admits s.now) strategy.entry) (whole L.seen self.old)
             (whole L.seen self.new)
-            (OnStreams (Xautoclaim
+            (Xautoclaim
             (record { key = K.arg key; group = G.arg group; consumer = C.arg consumer; min_idle = min_idle })
-            (S.arg start) options.now)) (record_answer (λ reply. AutoClaim (autoclaim_view reply)) result) }
+            (S.arg start) options.now) (λ reply. AutoClaim (autoclaim_view reply)) result }
     {
         let cmd = commands::xautoclaim(alloc, &key, &group, &consumer, min_idle, &start, options);
         self.reply_as(alloc, cmd, strategy)
@@ -211,9 +207,9 @@ impl<L: ConnectionLike + Drop> ClusterClient<L> {
         group: G,
         strategy: Option<&dyn ReadRoutingStrategy>,
     ) -> Result<StreamPendingReply, RedisError>
-        ensures { CallMade (option_map (λ s. admits s.now) strategy.entry) (whole L.seen self.old)
-            (whole L.seen self.new) (OnStreams (Xpending (K.arg key) (G.arg group)))
-            (record_answer (λ reply. Pending (pending_view reply)) result) }
+        ensures { StreamCallMade (option_map (λ s. admits s.now) strategy.entry) (whole L.seen self.old)
+            (whole L.seen self.new) (Xpending (K.arg key) (G.arg group))
+            (λ reply. Pending (pending_view reply)) result }
     {
         let cmd = commands::xpending(alloc, &key, &group);
         self.reply_as(alloc, cmd, strategy)
@@ -226,9 +222,9 @@ impl<L: ConnectionLike + Drop> ClusterClient<L> {
         key: K,
         strategy: Option<&dyn ReadRoutingStrategy>,
     ) -> Result<StreamInfoStreamReply, RedisError>
-        ensures { CallMade (option_map (λ s. admits s.now) strategy.entry) (whole L.seen self.old)
-            (whole L.seen self.new) (OnStreams (XinfoStream (K.arg key)))
-            (record_answer (λ reply. Stream (stream_info_view reply)) result) }
+        ensures { StreamCallMade (option_map (λ s. admits s.now) strategy.entry) (whole L.seen self.old)
+            (whole L.seen self.new) (XinfoStream (K.arg key))
+            (λ reply. Stream (stream_info_view reply)) result }
     {
         let cmd = commands::xinfo_stream(alloc, &key);
         self.reply_as(alloc, cmd, strategy)
@@ -241,9 +237,9 @@ impl<L: ConnectionLike + Drop> ClusterClient<L> {
         key: K,
         strategy: Option<&dyn ReadRoutingStrategy>,
     ) -> Result<StreamInfoGroupsReply, RedisError>
-        ensures { CallMade (option_map (λ s. admits s.now) strategy.entry) (whole L.seen self.old)
-            (whole L.seen self.new) (OnStreams (XinfoGroups (K.arg key)))
-            (record_answer (λ reply. Groups (map group_view reply.groups.items)) result) }
+        ensures { StreamCallMade (option_map (λ s. admits s.now) strategy.entry) (whole L.seen self.old)
+            (whole L.seen self.new) (XinfoGroups (K.arg key))
+            (λ reply. Groups (map group_view reply.groups.items)) result }
     {
         let cmd = commands::xinfo_groups(alloc, &key);
         self.reply_as(alloc, cmd, strategy)
@@ -257,9 +253,9 @@ impl<L: ConnectionLike + Drop> ClusterClient<L> {
         group: G,
         strategy: Option<&dyn ReadRoutingStrategy>,
     ) -> Result<StreamInfoConsumersReply, RedisError>
-        ensures { CallMade (option_map (λ s. admits s.now) strategy.entry) (whole L.seen self.old)
-            (whole L.seen self.new) (OnStreams (XinfoConsumers (K.arg key) (G.arg group)))
-            (record_answer (λ reply. Consumers (map consumer_view reply.consumers.items)) result) }
+        ensures { StreamCallMade (option_map (λ s. admits s.now) strategy.entry) (whole L.seen self.old)
+            (whole L.seen self.new) (XinfoConsumers (K.arg key) (G.arg group))
+            (λ reply. Consumers (map consumer_view reply.consumers.items)) result }
     {
         let cmd = commands::xinfo_consumers(alloc, &key, &group);
         self.reply_as(alloc, cmd, strategy)
@@ -274,9 +270,9 @@ impl<L: ConnectionLike + Drop> ClusterClient<L> {
         policy: StreamDeletionPolicy,
         strategy: Option<&dyn ReadRoutingStrategy>,
     ) -> Result<Vec<XDelExStatusCode>, RedisError>
-        ensures { CallMade (option_map (λ s. admits s.now) strategy.entry) (whole L.seen self.old)
-            (whole L.seen self.new) (OnStreams (XdelEx (K.arg key) (map I.arg ids.now) policy))
-            (record_answer (λ codes. Deleted (map deletion_of codes.items)) result) }
+        ensures { StreamCallMade (option_map (λ s. admits s.now) strategy.entry) (whole L.seen self.old)
+            (whole L.seen self.new) (XdelEx (K.arg key) (map I.arg ids.now) policy)
+            (λ codes. Deleted (map deletion_of codes.items)) result }
     {
         let cmd = commands::xdel_ex(alloc, &key, ids, &policy);
         self.reply_as(alloc, cmd, strategy)
@@ -292,9 +288,8 @@ impl<L: ConnectionLike + Drop> ClusterClient<L> {
         ensures { (call : StreamCall) (shown : T.Meaning → Answer) → stream_refusal call ≡ None
             → stream_task call ≡ sentence_task call
             → IfOk cmd (λ c. c ≡ plain_command (sentence call)) → IsReadBy call T.convert shown
-            → CallMade (option_map (λ s. admits s.now) strategy.entry) (whole L.seen self.old)
-            (whole L.seen self.new) (OnStreams call)
-            (record_answer (λ value. shown (T.meaning value)) result) }
+            → StreamCallMade (option_map (λ s. admits s.now) strategy.entry) (whole L.seen self.old)
+            (whole L.seen self.new) call (λ value. shown (T.meaning value)) result }
     {
         match cmd {
             Ok(cmd) => {

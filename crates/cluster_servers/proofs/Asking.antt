@@ -15,16 +15,16 @@ use Rattle.cluster_servers.specs.Asked.{AsksCluster, Cluster}
 
 -- ---- a query
 
-converted : (reply : Result Tree Refusal) (told : Result Value Refusal) → ConvertsTo view (λ t. Some t) reply told → reply ≡ tree_result view told
-converted (Ok tree) (Ok value) e = cc
-converted (Ok tree) (Err refusal) e = absurd (let no : ⊥ = cc in no)
-converted (Err refusal) (Ok value) e = absurd e
-converted (Err refusal) (Err other) e = ap Err (sym e)
+converted : (reply : Result Tree Refusal) (told : Result Value Refusal) → ConvertsTo view (λ t. Some t) reply told → tree_result view told ≢ Err (by_cause Memory) → reply ≡ tree_result view told
+converted (Ok tree) (Ok value) e had = cc
+converted (Ok tree) (Err refusal) (inl none) had = absurd (let no : ⊥ = cc in no)
+converted (Ok tree) (Err refusal) (inr lacks) had = absurd (had (ap Err lacks))
+converted (Err refusal) (Ok value) e had = absurd e
+converted (Err refusal) (Err other) e had = ap Err (sym e)
 
-pub made_alone : (old new : World) (command : Command) (told : Result Value Refusal) → (told ≢ Err (by_cause Memory) → ValueMade None old new (Query command 0) view (λ t. Some t) told) → tree_result view told ≢ Err (by_cause Memory) → CallMade None old new (Query command 0) (value_answer (tree_result view told))
-made_alone old new command told h n =
-    let v = h (λ e. n (ap (tree_result view) e)) in
-    subst (λ r. CallMade None old new (Query command 0) (value_answer r)) (converted v.reply told v.converted) v.made
+pub made_alone : (old new : World) (command : Command) (told : Result Value Refusal) → ValueMade None old new (Query command 0) view (λ t. Some t) told → tree_result view told ≢ Err (by_cause Memory) → CallMade None old new (Query command 0) (value_answer (tree_result view told))
+made_alone old new command told v had =
+    subst (λ r. CallMade None old new (Query command 0) (value_answer r)) (converted v.reply told v.converted had) v.made
 
 -- ---- a pipeline without memory
 

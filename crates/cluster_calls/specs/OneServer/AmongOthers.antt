@@ -162,8 +162,8 @@ is_unsplit_task (read_of options streams) = are_of_one_slot (stream_keys streams
 abbrev pub is_unsplit : Call → Bool
 is_unsplit call = is_unsplit_task (task_of call)
 
--- Where no command is split and no call is a pipeline, all that is done stays in its order, also what others
--- do: one server may do just what the nodes did.
+-- Where no command is split, no read of streams has several slots and no call is a pipeline, all that is done
+-- stays in its order, also what others do: one server may do just what the nodes did.
 abbrev pub UnsplitRunsStay : Type 0
 UnsplitRunsStay =
     (strategy : Option Strategy) (client : Client) (faults : Address → LinkFault) (ts : List RepliedCall)

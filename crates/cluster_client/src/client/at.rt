@@ -47,8 +47,7 @@ impl<L: ConnectionLike + Drop> ClusterClient<L> {
         // What happened, also where memory is refused.
         ensures happened { Happened None (whole L.seen self.old) (whole L.seen self.new)
             (At (address node.now) cmd.now) }
-        ensures answered { result ≢ Err (by_cause Memory)
-            → ValueMade None (whole L.seen self.old) (whole L.seen self.new)
+        ensures answered { ValueMade None (whole L.seen self.old) (whole L.seen self.new)
             (At (address node.now) cmd.now) T.meaning T.convert result }
         ensures room { result ≡ Err (by_cause Memory) → (whole L.seen self.new).log ≢ []
             → LacksLate None (whole L.seen self.old) (whole L.seen self.new)

@@ -40,8 +40,7 @@ impl<L: ConnectionLike + Drop> ClusterClient<L> {
         // What happened, also where memory is refused.
         ensures happened { Happened (option_map (λ s. admits s.now) strategy.entry) (whole L.seen self.old)
             (whole L.seen self.new) (Ordered cmd.now order.now number) }
-        ensures answered { result ≢ Err (by_cause Memory)
-            → ValueMade (option_map (λ s. admits s.now) strategy.entry) (whole L.seen self.old)
+        ensures answered { ValueMade (option_map (λ s. admits s.now) strategy.entry) (whole L.seen self.old)
             (whole L.seen self.new) (Ordered cmd.now order.now number) T.meaning T.convert result }
         ensures room { result ≡ Err (by_cause Memory) → (whole L.seen self.new).log ≢ []
             → LacksLate (option_map (λ s. admits s.now) strategy.entry) (whole L.seen self.old)

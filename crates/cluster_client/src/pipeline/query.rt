@@ -180,7 +180,7 @@ impl ClusterPipeline {
         // What happened, also where memory is refused. No strategy is asked: it holds for each.
         ensures happened { (strategy : Option Strategy)
             → Happened strategy (whole L.seen client.old) (whole L.seen client.new) (Pipeline self.now) }
-        ensures answered { result ≢ Err (by_cause Memory) → (strategy : Option Strategy)
+        ensures answered { (strategy : Option Strategy)
             → ValueMade strategy (whole L.seen client.old) (whole L.seen client.new)
             (Pipeline self.now) T.meaning T.convert result }
         ensures room { result ≡ Err (by_cause Memory) → (whole L.seen client.new).log ≢ []

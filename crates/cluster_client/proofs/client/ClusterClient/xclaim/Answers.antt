@@ -11,7 +11,7 @@ pub returns-then-justid : goal.returns-then-justid
 returns-then-justid g c =
     let claimant : Claimant = record { key = g.K.ToSingleRedisArg.arg c.args.key; group = g.G.ToSingleRedisArg.arg c.args.group; consumer = g.C.ToSingleRedisArg.arg c.args.consumer; min_idle = c.args.min_idle } in
     let why = ap (λ b. refuse_if b ClaimsIdsAlone) (sym c.justid.ensures ∙ c.if-justid.true) in
-    rw (c.refuse.ensures.same, c.from.ensures) (refused_early _ _ _ (Xclaim claimant (map g.I.ToSingleRedisArg.arg c.args.ids.now) c.args.options.now) (by_cause ClaimsIdsAlone) why c.refuse.ensures.stays)
+    rw (c.refuse.ensures.same, c.from.ensures) (refused_early _ _ _ (Xclaim claimant (map g.I.ToSingleRedisArg.arg c.args.ids.now) c.args.options.now) _ (by_cause ClaimsIdsAlone) why c.refuse.ensures.stays)
 
 pub returns : goal.returns
 returns g c =

@@ -7,7 +7,7 @@ use Rattle.cluster_calls.specs.Calls.Call.{Xread}
 use Rattle.cluster_calls.specs.Calls.Task.{read_of, sentence_task}
 use Rattle.cluster_calls.specs.Links.Typed.{streams_by}
 use Rattle.cluster_steps.specs.Reads.{streams_in}
-use Rattle.cluster_client.proofs.TypedCalls.{read_sentence_by, refused_early, unwritten}
+use Rattle.cluster_client.proofs.TypedCalls.{nothing_written, read_in_parts, read_sentence_by, refused_early}
 use Rattle.cluster_client.proofs.client.ClusterClient.xread.Goals as goal
 
 pub read_by_key-requires-clause-by_key : goal.read_by_key-requires-clause-by_key
@@ -24,7 +24,8 @@ pub returns-in-Ok-ByKey : goal.returns-in-Ok-ByKey
 returns-in-Ok-ByKey g c =
     let told = rw c.in-Ok-ByKey.field-0-is at c.in-Ok-ByKey.ensures in
     let same : streams_in c.deref.result.now ≡ streams_by g.K.ToSingleRedisArg.arg g.I.ToSingleRedisArg.arg c.args.streams.now = rw c.deref.ensures.value told.2 in
-    rw (← same) c.read_by_key.ensures
+    let parts = told.1 in
+    read_in_parts _ _ _ _ c.args.options.now _ _ parts (rw (← same) c.read_by_key.ensures)
 
 pub returns-in-Ok-Whole : goal.returns-in-Ok-Whole
 returns-in-Ok-Whole g c =
@@ -38,8 +39,8 @@ returns-in-Ok-Whole g c =
 pub returns-in-Ok-Refused : goal.returns-in-Ok-Refused
 returns-in-Ok-Refused g c =
     let why = rw c.in-Ok-Refused.field-0-is at c.in-Ok-Refused.ensures in
-    rw (c.refuse.ensures.same, c.from.ensures) (refused_early _ _ _ (Xread (streams_by g.K.ToSingleRedisArg.arg g.I.ToSingleRedisArg.arg c.args.streams.now) c.args.options.now) (by_cause c.in-Ok-Refused.cause) why c.refuse.ensures.stays)
+    rw (c.refuse.ensures.same, c.from.ensures) (refused_early _ _ _ (Xread (streams_by g.K.ToSingleRedisArg.arg g.I.ToSingleRedisArg.arg c.args.streams.now) c.args.options.now) _ (by_cause c.in-Ok-Refused.cause) why c.refuse.ensures.stays)
 
 pub returns-in-Err : goal.returns-in-Err
 returns-in-Err g c =
-    rw (c.refuse-in-Err.ensures.same, c.from-in-Err.ensures) (unwritten _ _ _ (Xread (streams_by g.K.ToSingleRedisArg.arg g.I.ToSingleRedisArg.arg c.args.streams.now) c.args.options.now) c.refuse-in-Err.ensures.stays)
+    rw (c.refuse-in-Err.ensures.same, c.from-in-Err.ensures) (nothing_written _ _ _ (Xread (streams_by g.K.ToSingleRedisArg.arg g.I.ToSingleRedisArg.arg c.args.streams.now) c.args.options.now) _ c.refuse-in-Err.ensures.stays)

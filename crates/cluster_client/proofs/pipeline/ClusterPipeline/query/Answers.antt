@@ -3,6 +3,7 @@ use Rattle.std.proofs.lemmas.Result.{err_from_is_err_and}
 use Rattle.resp_core.specs.Errors.{by_cause}
 use Rattle.resp_core.specs.declared.errors.redis_error.Cause.TheVariants.{Memory}
 use Rattle.resp_core.specs.View.{view}
+use Rattle.cluster_client.proofs.Converting.{unread_converts}
 use Rattle.cluster_client.proofs.Ending.{lacks_late}
 use Rattle.cluster_client.proofs.pipeline.ClusterPipeline.query.Goals as goal
 
@@ -10,7 +11,7 @@ pub returns-in_err-reply-clause-happened : goal.returns-in_err-reply-clause-happ
 returns-in_err-reply-clause-happened g c strategy = (rw c.commands.ensures at (c.in_err-reply.ensures strategy)).happened
 
 pub returns-in_err-reply-clause-answered : goal.returns-in_err-reply-clause-answered
-returns-in_err-reply-clause-answered g c m strategy =
+returns-in_err-reply-clause-answered g c strategy =
     let p = err_from_is_err_and c.from_residual.result c.from_residual.ensures.1 in
     rw (p.1, p.2) (record { reply = Err c.in_err-reply.field-0.0; made = rw c.commands.ensures at (c.in_err-reply.ensures strategy); converted = refl })
 
@@ -21,11 +22,12 @@ pub returns-clause-happened : goal.returns-clause-happened
 returns-clause-happened g c strategy = (rw c.commands.ensures at (c.in_ok-reply.ensures strategy)).happened
 
 pub returns-in_err-from_redis_value-clause-answered : goal.returns-in_err-from_redis_value-clause-answered
-returns-in_err-from_redis_value-clause-answered g c m strategy =
-    record { reply = Ok (view c.in_ok-reply.reply); made = rw c.commands.ensures at (c.in_ok-reply.ensures strategy); converted = search rules }
+returns-in_err-from_redis_value-clause-answered g c strategy =
+    let p = err_from_is_err_and c.from_residual-in_err-from_redis_value.result c.from_residual-in_err-from_redis_value.ensures.1 in
+    rw (p.1, p.2) (record { reply = Ok (view c.in_ok-reply.reply); made = rw c.commands.ensures at (c.in_ok-reply.ensures strategy); converted = unread_converts g.T.FromRedisValue.meaning g.T.FromRedisValue.convert _ c.in_err-from_redis_value.field-0.0 c.in_err-from_redis_value.ensures })
 
 pub returns-clause-answered : goal.returns-clause-answered
-returns-clause-answered g c m strategy =
+returns-clause-answered g c strategy =
     record { reply = Ok (view c.in_ok-reply.reply); made = rw c.commands.ensures at (c.in_ok-reply.ensures strategy); converted = search rules }
 
 pub returns-in_err-reply-clause-unpicked : goal.returns-in_err-reply-clause-unpicked
