@@ -31,3 +31,4 @@ pub mod EachAnswer
 pub mod Sizes
 pub mod LostFaults
 pub mod Attempts
+pub mod ExecAnswers

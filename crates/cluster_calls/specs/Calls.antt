@@ -18,3 +18,4 @@ pub mod Each
 pub mod EachInParts
 pub mod InParts
 pub mod Transactions
+pub mod OneReply

@@ -11,7 +11,7 @@ use Rattle.cluster_routing.specs.Address.{Address}
 use Rattle.cluster_calls.specs.Calls.Parts.{unless}
 use Rattle.cluster_calls.specs.Calls.Plan.{Client}
 use Rattle.cluster_calls.specs.Calls.Redirects.{Hop, Next, Stays, Lost, Goes, is_going}
-use Rattle.cluster_calls.specs.Calls.Transactions.{attempt, attempt_answer, attempt_count, exec_reply, FollowsAttempts, last_answer, last_attempt, next_attempt, replies_in, sent_answer, size, unless_lost}
+use Rattle.cluster_calls.specs.Calls.Transactions.{attempt, attempt_answer, attempt_count, exec_answers, exec_reply, FollowsAttempts, last_answer, last_attempt, next_attempt, replies_in, sent_answer, size, unless_lost}
 use Rattle.cluster_calls.specs.Links.AttemptRuns.{AreAttempts, AttemptsAnswered, AttemptsMade, IsAttempt}
 use Rattle.cluster_calls.specs.Links.Events.{Event, Runs, log_of, exchanges_at, exchanges_of, is_memory_ending, lack_memory, answered_moved}
 use Rattle.cluster_calls.specs.Links.Exchanges.{Exchanges}
@@ -29,6 +29,7 @@ use Rattle.cluster_calls.proofs.LinkLaws.LackingLists.{attempt_redirected, ends-
 use Rattle.cluster_calls.proofs.LinkLaws.LinkRuns.{Runs-snoc}
 use Rattle.cluster_calls.proofs.LinkLaws.AttemptCalls.{AttemptMade, answered_heard, attempt_exchanged, attempt_fault, attempt_had_memory, attempt_moved, attempt_open, attempt_to, called_event, failed_few, heard, last_lost, lost_told, moved_in, none_lost}
 use Rattle.cluster_calls.proofs.LogLaws.Attempts.{attempt_ends, attempt_goes, attempt_length, lost_stays, requests_length, size_of}
+use Rattle.cluster_calls.proofs.LogLaws.ExecAnswers.{goes_unanswered, lost_unanswered, none_unanswered}
 use Rattle.cluster_calls.proofs.LogLaws.Sizes.{drop_all}
 
 -- ---- an attempt without replies
@@ -103,6 +104,7 @@ pub record Loop (old now : World) (commands : List (List (List ℕ))) (first : H
   pub attempts : AllByRecursion (IsAttempt commands) events
   pub memory : lack_memory events ≡ false
   pub leads : (p : ℕ) → Leads (client_of old) first commands (exchanges_of p events) left hop
+  pub unanswered : (p : ℕ) → exec_answers (replies_in (last_attempt commands (exchanges_of p events))) ≡ false
   pub counted : length (log_of events) ≡ count * size commands
   pub budget : count + left ≡ old.settings.budget
   pub sent_on : events ≢ [] → ends_redirected (client_of old).links events ≡ true
@@ -122,6 +124,7 @@ loop_start old commands hop which at = record {
   attempts = tt;
   memory = refl;
   leads = λ p more h. h;
+  unanswered = λ p. none_unanswered commands;
   counted = omega arith;
   budget = omega arith;
   sent_on = λ some. absurd (some refl);
@@ -152,6 +155,7 @@ module _ (old now new : World) (commands : List (List (List ℕ))) (first : Hop)
     picked = same.picked ∙ l.picked;
     answered = λ m. absurd (m refl);
     room = λ lacks some. inr (inl (l.sent_on some));
+    unanswered = λ lacks. l.unanswered;
   }
 
   -- one more link call
@@ -172,6 +176,9 @@ module _ (old now new : World) (commands : List (List (List ℕ))) (first : Hop)
 
     own : (p : ℕ) → requests (last p) ≡ attempt hop commands
     own p = sym (ap requests (append-nil (last p))) ∙ exchanged (call ∷ []) (p + length (log_of l.events)) ∙ append-nil (attempt hop commands)
+
+    last_is : (p : ℕ) → last_attempt commands (exchanges_of p more_events) ≡ last p
+    last_is p = ap (last_attempt commands) (snoc p) ∙ last_there (exchanges_of p l.events) (last p) (size commands) (attempt_length hop commands (last p) (own p))
 
     runs_more : Runs old.nodes new.nodes more_events
     runs_more = Runs-snoc old.nodes now.nodes new.nodes l.events call l.runs o.called
@@ -202,8 +209,9 @@ module _ (old now new : World) (commands : List (List (List ℕ))) (first : Hop)
 
     -- the attempts ended behind this link call
     pub loop_made : (outcome : Result Tree Refusal) → (outcome ≢ Err (by_cause Memory) → AttemptsAnswered old first commands more_events outcome)
-        → (outcome ≡ Err (by_cause Memory) → LacksWhere (client_of old).links more_events ((p : ℕ) → AreAttempts (client_of old) first commands (exchanges_of p more_events))) → AttemptsMade old new first commands outcome
-    loop_made outcome answered room = record {
+        → (outcome ≡ Err (by_cause Memory) → LacksWhere (client_of old).links more_events ((p : ℕ) → AreAttempts (client_of old) first commands (exchanges_of p more_events)))
+        → (outcome ≡ Err (by_cause Memory) → (p : ℕ) → exec_answers (replies_in (last p)) ≡ false) → AttemptsMade old new first commands outcome
+    loop_made outcome answered room unanswered = record {
       events = more_events;
       runs = runs_more;
       attempts = attempts_more;
@@ -216,6 +224,7 @@ module _ (old now new : World) (commands : List (List (List ℕ))) (first : Hop)
       picked = same.picked ∙ l.picked;
       answered = answered;
       room = λ lacks some. room lacks;
+      unanswered = λ lacks p. ap (λ xs. exec_answers (replies_in xs)) (last_is p) ∙ unanswered lacks p;
     }
 
     module _ (m : result ≢ Err (by_cause Memory)) where
@@ -247,6 +256,7 @@ module _ (old now new : World) (commands : List (List (List ℕ))) (first : Hop)
             ∙ sym (told_here (Err e) o log flag' (λ k. had (refusal_same k)) faults p);
       })
       (λ lacks. inl (ends-snoc (λ (y : Event). is_memory_ending y.ending) l.events (called_event hop commands o.taken (Err e)) (lacking (Err e) (let memory : e ≡ by_cause Memory = cc in ap lists_failed memory))))
+      (λ lacks p. lost_unanswered (replies_in (last (Err e) o log flag' p)) (last_lost (attempt hop commands) (replies_of o.taken) (p + length (log_of l.events)) (failed_few now.nodes new.nodes hop commands e o)))
     where
       lists_failed : Refusal → Result (List Tree) Refusal
       lists_failed a = Err a
@@ -281,8 +291,8 @@ module _ (old now new : World) (commands : List (List (List ℕ))) (first : Hop)
 
     -- the replies make the answer, or refuse the transaction; or memory was refused behind them
     pub loop_answered : (outcome : Result Tree Refusal) → (outcome ≢ Err (by_cause Memory) → (is_going (next_attempt (open_links new.nodes) left (heard trees)) ≡ false)
-        × (outcome ≡ unless_lost (next_attempt (open_links new.nodes) left (heard trees)) (attempt_answer (heard trees)))) → AttemptsMade old new first commands outcome
-    loop_answered outcome why = loop_made (Ok trees) o log flag outcome (λ m.
+        × (outcome ≡ unless_lost (next_attempt (open_links new.nodes) left (heard trees)) (attempt_answer (heard trees)))) → (outcome ≡ Err (by_cause Memory) → exec_answers (heard trees) ≡ false) → AttemptsMade old new first commands outcome
+    loop_answered outcome why unanswered = loop_made (Ok trees) o log flag outcome (λ m.
         let told = why m in
         record {
           memory = memory_more (Ok trees) o log flag (λ k. cc k);
@@ -294,6 +304,7 @@ module _ (old now new : World) (commands : List (List (List ℕ))) (first : Hop)
               ∙ sym (told_here (Ok trees) o log flag (λ k. cc k) faults p);
         })
         (λ lacks. lacks_by (next_attempt (open_links new.nodes) left (heard trees)) refl)
+        (λ lacks p. ap exec_answers (here p) ∙ unanswered lacks)
 
     -- the transaction goes on, whole
     pub loop_more : (next : Hop) (place : ℕ) → next_attempt (open_links new.nodes) left (heard trees) ≡ Goes next → left ≢ 0 → IsOpenAt new.nodes next.node place → Loop old new commands first (left - 1) next place
@@ -311,6 +322,7 @@ module _ (old now new : World) (commands : List (List (List ℕ))) (first : Hop)
           attempts = attempts_more (Ok trees) o log flag;
           memory = memory_more (Ok trees) o log flag (λ k. cc k);
           leads = λ p more h. rw (snoc (Ok trees) o log flag p, append_assoc) (l.leads p (last (Ok trees) o log flag p ++ more) (attempt_goes (client_of old).links left hop next commands (last (Ok trees) o log flag p) more (own (Ok trees) o log flag p) (next_here p ∙ go) h));
+          unanswered = λ p. ap (λ xs. exec_answers (replies_in xs)) (last_is (Ok trees) o log flag p) ∙ ap exec_answers (here p) ∙ goes_unanswered (open_links new.nodes) left (heard trees) next go;
           counted = omega (arith, size', one, c, grown);
           budget = omega (arith, b, some);
           sent_on = λ any. redirected next go;

@@ -60,7 +60,7 @@ filter-none_by : (x : Exchange) (xs : List Exchange) (b : Bool) → is_answered 
 filter-none_by x xs true e h f = absurd (false≢true (sym h))
 filter-none_by x xs false e h f = rw e (f h)
 
-filter-none : (xs : List Exchange) → list_any is_answered xs ≡ false → filter is_answered xs ≡ []
+pub filter-none : (xs : List Exchange) → list_any is_answered xs ≡ false → filter is_answered xs ≡ []
 filter-none [] h = refl
 filter-none (x ∷ xs) h = filter-none_by x xs (is_answered x) refl h (λ k. filter-none xs k)
 
@@ -205,8 +205,9 @@ module _ (old now new : World) (args : List (List ℕ)) (first : Hop) (left : �
 
     -- the chain ended behind this link call
     pub chain_made : (outcome : Result Tree Refusal) → (outcome ≢ Err (by_cause Memory) → ChainAnswered old new first args more_events outcome)
-        → (outcome ≡ Err (by_cause Memory) → LacksWhere (client_of old).links more_events ((p : ℕ) → IsUnanswered (client_of old) first args (exchanges_of p more_events))) → ChainMade old new first args outcome
-    chain_made outcome answered room = record {
+        → (outcome ≡ Err (by_cause Memory) → LacksWhere (client_of old).links more_events ((p : ℕ) → IsUnanswered (client_of old) first args (exchanges_of p more_events)))
+        → (outcome ≡ Err (by_cause Memory) → (p : ℕ) → list_any is_answered (exchanges_of p more_events) ≡ false) → ChainMade old new first args outcome
+    chain_made outcome answered room unanswered = record {
       events = more_events;
       runs = runs_more;
       stops = stops-append l.events (single (request_of hop args) o.taken result ∷ []) l.memory (stops-one (single (request_of hop args) o.taken result));
@@ -219,11 +220,15 @@ module _ (old now new : World) (args : List (List ℕ)) (first : Hop) (left : �
       picked = same.picked ∙ l.picked;
       answered = answered;
       room = room;
+      unanswered = unanswered;
     }
+
+    behind : (p : ℕ) → exchanges_of p more_events ≡ exchanges_of p l.events ++ next_exchange p l.events (request_of hop args) (reply_in result) ∷ []
+    behind p = exchanges-snoc p l.events (request_of hop args) o.taken result (reply_in result) (one_reply_is now.nodes new.nodes (request_of hop args) result o)
 
     module _ (m : result ≢ Err (by_cause Memory)) where
       snoc : (p : ℕ) → exchanges_of p more_events ≡ exchanges_of p l.events ++ next_exchange p l.events (request_of hop args) (reply_in result) ∷ []
-      snoc p = exchanges-snoc p l.events (request_of hop args) o.taken result (reply_in result) (one_reply_is now.nodes new.nodes (request_of hop args) result o)
+      snoc p = behind p
 
       memory_more : lack_memory more_events ≡ false
       memory_more = memory-append l.events (single (request_of hop args) o.taken result ∷ []) l.memory (ap (λ b. b || false) (one_had_memory now.nodes new.nodes (request_of hop args) result m o))
@@ -255,6 +260,7 @@ module _ (old now new : World) (args : List (List ℕ)) (first : Hop) (left : �
             );
       })
       (λ lacks. inl (ends-snoc (λ (x : Event). is_memory_ending x.ending) l.events (single (request_of hop args) o.taken (Err e)) (lacking (one_reply (Err e)) (ap one_reply lacks))))
+      (λ lacks p. rw (behind (Err e) o log f p) (any-append is_answered (exchanges_of p l.events) (next_exchange p l.events (request_of hop args) None ∷ []) ∙ ap (λ b. b || false) (l.unanswered p)))
 
   module _ (tree : Tree) (o : OneMade now.nodes new.nodes (request_of hop args) (Ok tree)) (log : new.log ≡ now.log ++ request_of hop args ∷ [])
       (flag : new.needs_refresh ≡ (now.needs_refresh || is_moved_sort (sort_of tree))) where
@@ -301,6 +307,7 @@ module _ (old now new : World) (args : List (List ℕ)) (first : Hop) (left : �
               );
         })
         (λ lacks. lacks_by bad (next_of (open_links old.nodes) left (Some tree)) refl)
+        (λ lacks p. unanswered_here bad p)
 
     -- the reply is the answer
     answered_so : next_of (open_links new.nodes) left (Some tree) ≡ Stays → is_data (sort_of tree) ≡ true → ChainMade old new first args (Ok tree)
@@ -314,6 +321,7 @@ module _ (old now new : World) (args : List (List ℕ)) (first : Hop) (left : �
             ap (λ ys. map reply_or_nil ys) (filter-append is_answered (exchanges_of p l.events) (x ∷ []) ∙ ap (λ ys. ys ++ filter is_answered (x ∷ [])) (filter-none (exchanges_of p l.events) (l.unanswered p)) ∙ ap (λ b. cond b (x ∷ []) []) data'),
           );
     })
+        (λ lacks. cc)
         (λ lacks. cc)
 
     pub loop_answered : (value : Tree) → value ≡ tree → next_of (open_links new.nodes) left (Some tree) ≡ Stays → is_data (sort_of tree) ≡ true → ChainMade old new first args (Ok value)

@@ -1,27 +1,31 @@
 -- A call of which nothing was sent.
-use Rattle.std.specs.Prelude.{◌||◌}
+use Rattle.std.specs.Prelude.{◌&&◌, ◌||◌, not}
 use Rattle.std.proofs.Common.{◌≡◌, ◌≢◌, Bool, true, false, List, [], Option, refl, sym, ◌∙◌, Result, Err, arith}
 use Rattle.std.proofs.lemmas.Bool.{false≢true}
 use Rattle.resp_core.specs.Errors.{Refusal, by_cause}
 use Rattle.resp_core.specs.declared.errors.redis_error.Cause.TheVariants.{Memory}
 use Rattle.cluster_routing.specs.Address.{Address}
 use Rattle.cluster_routing.specs.Choice.{Strategy}
+use Rattle.cluster_routing.specs.Split.{has_split_word}
 use Rattle.cluster_calls.specs.Links.Request.{Request}
 use Rattle.cluster_calls.specs.Links.World.{World}
 use Rattle.cluster_calls.specs.Links.Nodes.{link_calls}
 use Rattle.cluster_calls.specs.Links.Happened.{client_of, is_refresh, Answered, Happened, CallMade}
+use Rattle.cluster_calls.specs.Links.Converted.{ReplyMade}
 use Rattle.cluster_calls.specs.Links.Run.{with_log}
 use Rattle.cluster_calls.specs.Calls.Call.{Call}
 use Rattle.cluster_calls.specs.Calls.Task.{Task, slot_map_of, one_command, pipeline_of, positions_of, several_nodes, one_node, read_of, task_of, transaction_of}
 use Rattle.cluster_calls.specs.Calls.Plan.{plan}
 use Rattle.cluster_calls.specs.Calls.Picks.{ArePicks}
 use Rattle.cluster_calls.specs.Calls.Answer.{Answer}
+use Rattle.cluster_calls.specs.Calls.OneReply.{has_reply}
 use Rattle.cluster_calls.specs.Calls.OneSlot.{args_of}
 use Rattle.cluster_calls.specs.Calls.Transactions.{size}
 use Rattle.cluster_calls.proofs.LinkLaws.LinkCalls.{AreLinkCalls}
 use Rattle.cluster_calls.proofs.LinkLaws.MovedLaws.{answered_plain}
 use Rattle.cluster_calls.proofs.LinkLaws.PlainAnswers.{refused_answer}
 use Rattle.cluster_calls.proofs.LinkLaws.Played.{call_made}
+use Rattle.cluster_calls.proofs.LogLaws.ExecAnswers.{none_unanswered}
 use Rattle.cluster_calls.proofs.LogLaws.Sizes.{in_sizes_are}
 
 -- the world stays, but for its log, which is empty, and its picks
@@ -68,6 +72,21 @@ nothing_happened strategy old new call u = record {
   flag = λ n. u.flag ∙ sym (or_none old.needs_refresh);
 }
 
+-- of a call that sent nothing no reply is there
+pub no_reply : (task : Task) → has_reply task [] ≡ false
+no_reply (slot_map_of node) = refl
+no_reply (one_command command number order) = none_of (not (has_split_word command.args))
+  where
+    none_of : (b : Bool) → (b && false) ≡ false
+    none_of true = refl
+    none_of false = refl
+no_reply (pipeline_of entries) = refl
+no_reply (positions_of entries) = refl
+no_reply (several_nodes command) = refl
+no_reply (one_node node command) = refl
+no_reply (transaction_of commands) = none_unanswered (args_of commands)
+no_reply (read_of options streams) = refl
+
 -- memory was refused before anything was sent
 pub not_begun : (strategy : Option Strategy) (old new : World) (call : Call) → Untouched old new → new.picked ≡ [] → CallMade strategy old new call (Err (by_cause Memory))
 not_begun strategy old new call u none =
@@ -102,3 +121,14 @@ pub not_sent : (strategy : Option Strategy) (old new : World) (call : Call) (ref
 not_sent strategy old new call refusal n u none why =
     call_made strategy old new call (Err refusal) (nothing_happened strategy old new call u) (unsent_answered strategy old new call refusal n u why) (λ e r. absurd (false≢true (sym n ∙ r))) (λ e l. none)
     (λ e some. absurd (some u.log))
+
+-- ---- the same of a call that is told by its reply
+
+pub reply_not_begun : (strategy : Option Strategy) (old new : World) (call : Call) → Untouched old new → new.picked ≡ [] → ReplyMade strategy old new call (Err (by_cause Memory))
+unfolding not_begun call_made
+reply_not_begun strategy old new call u none = record { made = not_begun strategy old new call u none; missing = λ lacks place. no_reply (task_of call) }
+
+pub reply_not_sent : (strategy : Option Strategy) (old new : World) (call : Call) (refusal : Refusal) → is_refresh call ≡ false → Untouched old new → new.picked ≡ []
+    → (refused_by refusal ≢ Err (by_cause Memory) → (plan (client_of old) new.picked call ≡ Err refusal) × ArePicks strategy (client_of old) call new.picked) → ReplyMade strategy old new call (Err refusal)
+unfolding not_sent call_made
+reply_not_sent strategy old new call refusal n u none why = record { made = not_sent strategy old new call refusal n u none why; missing = λ lacks place. no_reply (task_of call) }

@@ -1,9 +1,9 @@
 -- Parts sent one after another, chain by chain.
 use Rattle.std.specs.Prelude.{filter, ◌||◌, ◌&&◌, not, is_none, slice_get, option_map, MatchBool}
 use Rattle.std.specs.List.{list_any, AllByRecursion}
-use Rattle.std.proofs.Common.{◌≡◌, ◌≢◌, ◌<◌, ℕ, zero, suc, ◌+◌, ◌-◌, Bool, true, false, cond, List, [], ◌∷◌, ◌++◌, map, Option, Some, None, refl, sym, ap, ◌∙◌, subst, append-nil, append_assoc, length, Result, Ok, Err, arith}
+use Rattle.std.proofs.Common.{◌≡◌, ◌≢◌, ◌<◌, ℕ, zero, suc, ◌+◌, ◌-◌, Bool, true, false, cond, List, [], ◌∷◌, ◌++◌, map, Option, Some, None, refl, sym, ap, ◌∙◌, subst, append-nil, append_assoc, length, length-append, Result, Ok, Err, arith}
 use Rattle.std.proofs.lemmas.Bool.{false≢true}
-use Rattle.std.proofs.lemmas.List.{map-append}
+use Rattle.std.proofs.lemmas.List.{length-map, map-append}
 use Rattle.std.proofs.lemmas.List.Elements.{filter-append, filter_agree}
 use Rattle.resp_core.specs.Trees.{Tree}
 use Rattle.resp_core.specs.Errors.{Refusal, by_cause}
@@ -28,7 +28,7 @@ use Rattle.cluster_calls.proofs.LinkLaws.LinkRuns.{Runs-append, or_parts, addres
 use Rattle.cluster_calls.proofs.LinkLaws.EventLists.{log-append, exchanges-append, memory-append, moved-append, stops-had, stops-append}
 use Rattle.cluster_calls.proofs.LinkLaws.FaultsAgree.{agrees, Agrees-back}
 use Rattle.cluster_calls.proofs.LinkLaws.OpenLinks.{filter_all, links_behind}
-use Rattle.cluster_calls.proofs.LinkLaws.ChainLoop.{next_none, or_assoc, or_none}
+use Rattle.cluster_calls.proofs.LinkLaws.ChainLoop.{filter-none, next_none, or_assoc, or_none}
 use Rattle.cluster_calls.proofs.LinkLaws.LackingLists.{lacks_behind}
 
 -- ---- behind the answers
@@ -136,7 +136,7 @@ some_parts client (d ∷ ds) = (record { request = direct d; place = 0; reply = 
 
 -- ---- an answered chain
 
-replied_next : (links : List Address) (left : ℕ) (reply : Option Tree) (next : Hop) → next_of links left reply ≡ Goes next → is_none reply ≡ false
+pub replied_next : (links : List Address) (left : ℕ) (reply : Option Tree) (next : Hop) → next_of links left reply ≡ Goes next → is_none reply ≡ false
 replied_next links left None next e = let stays = next_none links left in cc
 replied_next links left (Some tree) next e = refl
 
@@ -260,6 +260,7 @@ parts_unsent old ds = record {
   picked = refl;
   answered = λ m. absurd (m refl);
   room = λ lacks some. absurd (some refl);
+  unanswered = λ lacks some. absurd (some refl);
 }
 
 -- all parts were answered
@@ -281,6 +282,7 @@ parts_done old now ds trees l = record {
     tells = λ faults agrees p. (l.behind p, sym (append-nil (args_sent (exchanges_of p l.events))) ∙ l.sent p, l.replied p);
   };
   room = λ lacks some. cc;
+  unanswered = λ lacks some. cc;
 }
 
 module _ (old now new : World) (ds : List Dispatch) (d : Dispatch) (rest : List Dispatch) (trees : List Tree) (l : PartLoop old now ds (d ∷ rest) trees) where
@@ -340,6 +342,17 @@ module _ (old now new : World) (ds : List Dispatch) (d : Dispatch) (rest : List 
         lacks_behind client.links l.events m.events unanswered_parts
         (subst (λ c. LacksWhere c.links m.events ((p : ℕ) → IsUnanswered c (first_hop d) d.args (exchanges_of p m.events))) same_client (m.room lacks))
 
+    -- the parts before this one were answered, and no other
+    fewer : r ≡ Err (by_cause Memory) → (p : ℕ) → length (filter is_answered (exchanges_of p more_events)) < length ds
+    fewer lacks p =
+        let answered : filter is_answered (exchanges_of p more_events) ≡ filter is_answered (before p) =
+        ap (λ xs. filter is_answered xs) (both p) ∙ filter-append is_answered (before p) (here p) ∙ ap (λ xs. filter is_answered (before p) ++ xs) (filter-none (here p) (m.unanswered lacks (p + length (log_of l.events)))) ∙ append-nil (filter is_answered (before p)) in
+        let same : length (filter is_answered (exchanges_of p more_events)) ≡ length (filter is_answered (before p)) = ap length answered in
+        let counted : length (args_sent (before p)) ≡ length (filter is_answered (before p)) = length-map _ _ in
+        let all : length (args_sent (before p) ++ args_of (d ∷ rest)) ≡ length (args_sent (before p)) + length (args_of (d ∷ rest)) = length-append (args_sent (before p)) (args_of (d ∷ rest)) in
+        let whole : length (args_sent (before p) ++ args_of (d ∷ rest)) ≡ length ds = ap length (l.sent p) ∙ length-map _ _ in
+        omega (arith, same, counted, all, whole)
+
     parts_made : (result : Result (List Tree) Refusal) → (result ≢ Err (by_cause Memory) → PartsAnswered old new ds more_events result) → (result ≡ Err (by_cause Memory) → r ≡ Err (by_cause Memory)) → PartsMade old new ds result
     parts_made result answered alike = record {
       events = more_events;
@@ -354,6 +367,7 @@ module _ (old now new : World) (ds : List Dispatch) (d : Dispatch) (rest : List 
       picked = m.picked ∙ l.picked;
       answered = answered;
       room = λ lacks some. room_more (alike lacks);
+      unanswered = λ lacks some p. fewer (alike lacks) p;
     }
 
   -- the part was refused, or memory was

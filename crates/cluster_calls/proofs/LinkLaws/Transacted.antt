@@ -24,7 +24,7 @@ use Rattle.cluster_calls.specs.Calls.Replies.{only_reply, transaction_reply}
 use Rattle.cluster_calls.specs.Calls.Task.{transaction_of}
 use Rattle.cluster_calls.specs.Calls.Transactions.{answers, attempt_answer, attempt_count, commands_answer, dispatches_to, error_or_bad, exec_reply, first_own_error, first_to, is_okay, last_attempt, lost_refusal, multi_reply, next_attempt, replies_in, sent_answer, size, unless_lost}
 use Rattle.cluster_calls.specs.Links.AttemptRuns.{AttemptsMade}
-use Rattle.cluster_calls.specs.Links.Converted.{value_answer}
+use Rattle.cluster_calls.specs.Links.Converted.{ReplyMade, value_answer}
 use Rattle.cluster_calls.specs.Links.Faults.{LinkFault}
 use Rattle.cluster_calls.specs.Links.Happened.{client_of, Answered, CallMade, Happened}
 use Rattle.cluster_calls.specs.Links.Log.{Exchange}
@@ -34,7 +34,7 @@ use Rattle.cluster_calls.specs.Links.World.{World, is_linked}
 use Rattle.cluster_calls.proofs.LinkLaws.LackingLists.{may_lack, some_events, value_lacked}
 use Rattle.cluster_calls.proofs.LinkLaws.LinkCalls.{link_calls_made}
 use Rattle.cluster_calls.proofs.LinkLaws.MovedLaws.{answered_plain}
-use Rattle.cluster_calls.proofs.LinkLaws.OneCommand.{Untouched, not_sent, nothing_happened, refused_by, relogged_untouched}
+use Rattle.cluster_calls.proofs.LinkLaws.OneCommand.{Untouched, nothing_happened, refused_by, relogged_untouched, reply_not_sent}
 use Rattle.cluster_calls.proofs.LinkLaws.Played.{call_made}
 
 -- ---- the plan, by the one slot of the commands
@@ -160,25 +160,27 @@ module _ (strategy : Option Strategy) (old new : World) (commands : List Command
   picked = subst (ArePicks strategy (client_of old) (Transaction commands)) (sym none) (no_picks strategy (client_of old) commands)
 
   -- a check before sending was not met, or memory was refused
-  pub transaction_refused : (refusal : Refusal) → (refused_by refusal ≢ Err (by_cause Memory) → plan (client_of old) [] (Transaction commands) ≡ Err refusal) → CallMade strategy old new (Transaction commands) (Err refusal)
+  pub transaction_refused : (refusal : Refusal) → (refused_by refusal ≢ Err (by_cause Memory) → plan (client_of old) [] (Transaction commands) ≡ Err refusal) → ReplyMade strategy old new (Transaction commands) (Err refusal)
   transaction_refused refusal why =
-      not_sent strategy old new (Transaction commands) refusal refl untouched none (λ m. (subst (λ ps. plan (client_of old) ps (Transaction commands) ≡ Err refusal) (sym none) (why m), picked))
+      reply_not_sent strategy old new (Transaction commands) refusal refl untouched none (λ m. (subst (λ ps. plan (client_of old) ps (Transaction commands) ≡ Err refusal) (sym none) (why m), picked))
 
 -- there were no commands
-pub transaction_empty : (strategy : Option Strategy) (old new : World) (commands : List Command) → new ≡ with_log old [] [] → plan (client_of old) [] (Transaction commands) ≡ Ok [] → CallMade strategy old new (Transaction commands) (Ok (Value (array no_trees)))
-transaction_empty strategy old new commands stays planned =
-    subst (λ cs. CallMade strategy old new (Transaction cs) (Ok (Value (array no_trees)))) (sym (unplanned (client_of old) [] commands planned)) empty
+pub transaction_empty : (strategy : Option Strategy) (old new : World) (commands : List Command) → new ≡ with_log old [] [] → plan (client_of old) [] (Transaction commands) ≡ Ok [] → ReplyMade strategy old new (Transaction commands) (Ok (array no_trees))
+transaction_empty strategy old new commands stays planned = record { made = made; missing = λ lacks place. cc }
   where
-    u : Untouched old new
-    u = relogged_untouched old new [] stays
+    made : CallMade strategy old new (Transaction commands) (Ok (Value (array no_trees)))
+    made = subst (λ cs. CallMade strategy old new (Transaction cs) (Ok (Value (array no_trees)))) (sym (unplanned (client_of old) [] commands planned)) empty
+      where
+        u : Untouched old new
+        u = relogged_untouched old new [] stays
 
-    empty : CallMade strategy old new (Transaction []) (Ok (Value (array no_trees)))
-    empty =
-        call_made strategy old new (Transaction []) (Ok (Value (array no_trees))) (nothing_happened strategy old new (Transaction []) u)
-        (λ m. answered_plain strategy old new (Transaction []) (Ok (Value (array no_trees))) (nothing_happened strategy old new (Transaction []) u) refl tt (λ e. refl) u.log (picked strategy old new [] stays) (λ place. refl) (λ faults agrees place. refl))
-        (λ e n. absurd (false≢true n))
-        (λ e l. ap (λ (w : World). w.picked) stays)
-        (λ e some. cc)
+        empty : CallMade strategy old new (Transaction []) (Ok (Value (array no_trees)))
+        empty =
+            call_made strategy old new (Transaction []) (Ok (Value (array no_trees))) (nothing_happened strategy old new (Transaction []) u)
+            (λ m. answered_plain strategy old new (Transaction []) (Ok (Value (array no_trees))) (nothing_happened strategy old new (Transaction []) u) refl tt (λ e. refl) u.log (picked strategy old new [] stays) (λ place. refl) (λ faults agrees place. refl))
+            (λ e n. absurd (false≢true n))
+            (λ e l. ap (λ (w : World). w.picked) stays)
+            (λ e some. cc)
 
 -- ---- the answer is the reply to EXEC
 
@@ -276,10 +278,14 @@ module _ (strategy : Option Strategy) (old new : World) (commands : List Command
       (λ place. rw planned (t.follows place))
       (λ faults agree place. rw planned (sent_told (client_of old) faults commands _ reply some (t.tells faults agree place)))
 
-  some_transacted : CallMade strategy old new (Transaction commands) (value_answer reply)
-  some_transacted =
+  some_made : CallMade strategy old new (Transaction commands) (value_answer reply)
+  some_made =
       call_made strategy old new (Transaction commands) (value_answer reply) happened answered (λ e n. absurd (false≢true n)) (λ e l. none)
       (λ e any. may_lack (client_of old) new.picked (Transaction commands) a.events refl (λ follows place. rw planned (follows place)) (a.room (value_lacked reply e) (some_events new.log a.events a.logged any)))
+
+  some_transacted : ReplyMade strategy old new (Transaction commands) reply
+  unfolding some_made call_made
+  some_transacted = record { made = some_made; missing = λ lacks place. a.unanswered lacks place }
 
 -- a plan that sends something is one of some commands
 some_planned : (client : Client) (commands : List Command) (node : Address) → plan client [] (Transaction commands) ≡ Ok (dispatches_to node (args_of commands)) → commands ≢ []
@@ -288,7 +294,7 @@ some_planned client commands node planned empty =
     cc
 
 pub transaction_made : (strategy : Option Strategy) (old mid new : World) (commands : List Command) (node : Address) (reply : Result Tree Refusal) → mid ≡ with_log old [] [] → plan (client_of old) [] (Transaction commands) ≡ Ok (dispatches_to node (args_of commands))
-    → AttemptsMade mid new (first_to node) (args_of commands) reply → CallMade strategy old new (Transaction commands) (value_answer reply)
+    → AttemptsMade mid new (first_to node) (args_of commands) reply → ReplyMade strategy old new (Transaction commands) reply
 transaction_made strategy old mid new commands node reply stays planned m =
     let a = subst (λ w. AttemptsMade w new (first_to node) (args_of commands) reply) stays m in
     let none : new.picked ≡ [] = a.picked in

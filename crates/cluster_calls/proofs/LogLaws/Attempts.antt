@@ -39,7 +39,7 @@ no_budget links done reply = refl
 no_budget links not_done reply = refl
 no_budget links may_be_done reply = refl
 
-goes_by : (f : Fate) (n : Next) (h : Hop) → if_not_done f n ≡ Goes h → f ≡ not_done
+pub goes_by : (f : Fate) (n : Next) (h : Hop) → if_not_done f n ≡ Goes h → f ≡ not_done
 goes_by done n h e = cc
 goes_by not_done n h e = refl
 goes_by may_be_done n h e = cc

@@ -151,10 +151,13 @@ error_or_bad (Some e) = by_server e
 abbrev pub answers : Bool → Option ErrorText → Option Tree → Bool
 answers begun error reply = is_array reply || (begun && (is_nil reply && is_none error))
 
+-- whether the reply to EXEC is the answer
+abbrev pub exec_answers : List (Option Tree) → Bool
+exec_answers replies = answers (is_okay (multi_reply replies)) (first_own_error replies) (exec_reply replies)
+
 abbrev pub attempt_answer : List (Option Tree) → Result Tree Refusal
-attempt_answer replies =
-    if answers (is_okay (multi_reply replies)) (first_own_error replies) (exec_reply replies)
-    then or_bad_reply (exec_reply replies) else Err (error_or_bad (first_own_error replies))
+attempt_answer replies = if exec_answers replies then or_bad_reply (exec_reply replies)
+    else Err (error_or_bad (first_own_error replies))
 
 abbrev pub unless_lost : Next → Result Tree Refusal → Result Tree Refusal
 unless_lost Lost answer = Err (by_cause NoLink)

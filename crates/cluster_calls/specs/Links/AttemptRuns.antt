@@ -8,7 +8,7 @@ use Rattle.resp_core.specs.declared.errors.redis_error.Cause.TheVariants.{Memory
 use Rattle.cluster_routing.specs.Address.{Address}
 use Rattle.cluster_calls.specs.Calls.Plan.{Client}
 use Rattle.cluster_calls.specs.Calls.Redirects.{Hop}
-use Rattle.cluster_calls.specs.Calls.Transactions.{FollowsAttempts, attempt, sent_answer}
+use Rattle.cluster_calls.specs.Calls.Transactions.{FollowsAttempts, attempt, exec_answers, last_attempt, replies_in, sent_answer}
 use Rattle.cluster_calls.specs.Links.Events.{Event, Runs, log_of, exchanges_of, Agrees, lack_memory, StopsAtMemory, answered_moved}
 use Rattle.cluster_calls.specs.Links.Faults.{LinkFault}
 use Rattle.cluster_calls.specs.Links.Happened.{client_of}
@@ -31,7 +31,8 @@ pub record AttemptsAnswered (old : World) (hop : Hop) (commands : List (List (Li
   pub tells : (faults : Address → LinkFault) → Agrees faults events → (place : ℕ)
       → reply ≡ sent_answer (client_of old) faults commands (exchanges_of place events)
 
--- What the link calls of all attempts did, also where memory was refused: then they begin such a run.
+-- What the link calls of all attempts did, also where memory was refused: then they begin such a run, and
+-- EXEC's reply to the last of them is not the answer.
 pub record AttemptsMade (old new : World) (hop : Hop) (commands : List (List (List ℕ)))
     (reply : Result Tree Refusal) : Type 0 where
   pub events : List Event
@@ -48,3 +49,5 @@ pub record AttemptsMade (old new : World) (hop : Hop) (commands : List (List (Li
   pub answered : reply ≢ Err (by_cause Memory) → AttemptsAnswered old hop commands events reply
   pub room : reply ≡ Err (by_cause Memory) → events ≢ [] → LacksWhere (client_of old).links events
       ((place : ℕ) → AreAttempts (client_of old) hop commands (exchanges_of place events))
+  pub unanswered : reply ≡ Err (by_cause Memory) → (place : ℕ)
+      → exec_answers (replies_in (last_attempt commands (exchanges_of place events))) ≡ false

@@ -45,7 +45,8 @@ pub record ChainAnswered (old new : World) (hop : Hop) (args : List (List ℕ)) 
   pub tells : (faults : Address → LinkFault) → Agrees faults events → (place : ℕ)
       → IsChainResult (client_of old) faults (exchanges_of place events) result
 
--- What a chain's link calls did, also where memory was refused: then they begin a chain.
+-- What a chain's link calls did, also where memory was refused: then they begin a chain, and none of them was
+-- answered.
 pub record ChainMade (old new : World) (hop : Hop) (args : List (List ℕ))
     (result : Result Tree Refusal) : Type 0 where
   pub events : List Event
@@ -62,3 +63,5 @@ pub record ChainMade (old new : World) (hop : Hop) (args : List (List ℕ))
   pub answered : result ≢ Err (by_cause Memory) → ChainAnswered old new hop args events result
   pub room : result ≡ Err (by_cause Memory) → LacksWhere (client_of old).links events
       ((place : ℕ) → IsUnanswered (client_of old) hop args (exchanges_of place events))
+  pub unanswered : result ≡ Err (by_cause Memory) → (place : ℕ)
+      → list_any is_answered (exchanges_of place events) ≡ false

@@ -1,5 +1,5 @@
 -- Parts sent one after another, each behind its redirects, and what this makes of the whole call.
-use Rattle.std.specs.Prelude.{◌≡◌, ◌≢◌, ℕ, ◌||◌, false, List, [], ◌∷◌, ◌++◌, map, filter, Some, Result, Ok, Err}
+use Rattle.std.specs.Prelude.{◌≡◌, ◌≢◌, ◌<◌, ℕ, ◌||◌, false, List, [], ◌∷◌, ◌++◌, map, filter, length, Some, Result, Ok, Err}
 use Rattle.std.specs.List.{AllByRecursion}
 use Rattle.resp_core.specs.Trees.{Tree}
 use Rattle.resp_core.specs.Errors.{Refusal, by_cause}
@@ -41,7 +41,8 @@ pub record PartsAnswered (old new : World) (ds : List Dispatch) (events : List E
   pub tells : (faults : Address → LinkFault) → Agrees faults events → (place : ℕ)
       → ArePartResults (client_of old) faults ds (exchanges_of place events) result
 
--- What the link calls of all parts did, also where memory was refused: then they begin such a run.
+-- What the link calls of all parts did, also where memory was refused: then they begin such a run, and not all
+-- parts were answered.
 pub record PartsMade (old new : World) (ds : List Dispatch)
     (result : Result (List Tree) Refusal) : Type 0 where
   pub events : List Event
@@ -58,6 +59,8 @@ pub record PartsMade (old new : World) (ds : List Dispatch)
   pub answered : result ≢ Err (by_cause Memory) → PartsAnswered old new ds events result
   pub room : result ≡ Err (by_cause Memory) → events ≢ [] → LacksWhere (client_of old).links events
       ((place : ℕ) → PartByPart (client_of old) ds (exchanges_of place events))
+  pub unanswered : result ≡ Err (by_cause Memory) → events ≢ [] → (place : ℕ)
+      → length (filter is_answered (exchanges_of place events)) < length ds
 
 -- ---- the whole call's reply
 
