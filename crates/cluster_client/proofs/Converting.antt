@@ -1,5 +1,5 @@
 -- What a conversion makes of a reply: a refusal of its own, or want of memory.
-use Rattle.std.proofs.Common.{◌≡◌, Option, None, refl, inl, inr, Ok, Err}
+use Rattle.std.proofs.Common.{Option, refl, inl, inr, Ok, Err}
 use Rattle.resp_core.specs.Trees.{Tree}
 use Rattle.resp_core.specs.Errors.{Unreadable, refused, no_memory, unread}
 use Rattle.resp_args.specs.Convert.{Answers}

@@ -1,6 +1,7 @@
 -- A call that has ended is made when its picks are forgotten, where memory was refused before a request was written down.
-use Rattle.std.specs.Prelude.{◌⊎◌}
-use Rattle.std.proofs.Common.{◌≡◌, ◌≢◌, ℕ, false, inl, inr, List, [], Option, Some, None, refl, sym, ap, ◌∙◌, subst, Result, Ok, Err}
+use Rattle.std.specs.Prelude.{◌⊎◌, ◌&&◌, ◌||◌, filter, not}
+use Rattle.std.specs.List.{list_any}
+use Rattle.std.proofs.Common.{arith, cond, ◌≡◌, ◌≢◌, ◌<◌, ℕ, Bool, true, false, inl, inr, length, List, [], ◌∷◌, Option, Some, None, refl, sym, ap, ◌∙◌, subst, Result, Ok, Err}
 use Rattle.std.proofs.lemmas.Bool.{false≢true}
 use Rattle.resp_core.specs.Errors.{Refusal, by_cause, by_server, at_position, by_servers, kind_by, kind_of, named_kind, server_kind}
 use Rattle.resp_core.specs.View.{view}
@@ -11,8 +12,10 @@ use Rattle.resp_core.specs.declared.errors.redis_error.Cause.TheVariants.{Memory
 use Rattle.resp_core.specs.declared.errors.redis_error.ErrorKind.TheVariants as kinds
 use Rattle.resp_core.specs.declared.errors.server_error.ServerErrorKind.{ServerErrorKind}
 use Rattle.cluster_routing.specs.Choice.{Strategy}
+use Rattle.cluster_routing.specs.Split.{has_split_word}
 use Rattle.cluster_calls.specs.Calls.Answer.{Answer, Value, answer_in, IsAnswerOf}
 use Rattle.cluster_calls.specs.Calls.Call.{Call}
+use Rattle.cluster_calls.specs.Calls.OneReply.{has_reply}
 use Rattle.cluster_calls.specs.Calls.Picks.{ArePicks}
 use Rattle.cluster_calls.specs.Calls.Plan.{Client, Dispatch, plan}
 use Rattle.cluster_calls.specs.Calls.Task.{one_command, task_of}
@@ -23,15 +26,17 @@ use Rattle.resp_args.specs.Packed.{sent}
 use Rattle.cluster_routing.specs.Address.{Address}
 use Rattle.resp_core.specs.Trees.{Tree}
 use Rattle.cluster_calls.proofs.LinkLaws.ManyParts as parts
-use Rattle.cluster_calls.specs.Links.Converted.{value_answer}
+use Rattle.cluster_calls.specs.Links.Converted.{ReplyMade, value_answer}
 use Rattle.cluster_calls.specs.Calls.Legal.{IsLegalCall}
-use Rattle.cluster_calls.specs.Links.Events.{Runs, exchanges_of}
+use Rattle.cluster_calls.specs.Links.Events.{Event, Runs, exchanges_of}
 use Rattle.cluster_calls.specs.Links.Happened.{BeginsLegal, CallMade, Happened, LacksLate, client_of, is_refresh}
 use Rattle.cluster_calls.specs.Links.Lacking.{MayLack}
 use Rattle.cluster_calls.specs.Links.Run.{with_log}
 use Rattle.cluster_calls.specs.Links.Typed.{record_answer}
-use Rattle.cluster_calls.specs.Links.World.{World, tree_result}
-use Rattle.cluster_calls.proofs.LinkLaws.OneCommand.{Untouched, nothing_happened, refused_by, unsent_answered}
+use Rattle.cluster_calls.specs.Links.Log.{Exchange, is_answered}
+use Rattle.cluster_calls.specs.Links.World.{World, one_reply, tree_result}
+use Rattle.cluster_calls.proofs.LinkLaws.LackingLists.{value_lacked}
+use Rattle.cluster_calls.proofs.LinkLaws.OneCommand.{Untouched, no_reply, nothing_happened, refused_by, unsent_answered}
 use Rattle.cluster_calls.proofs.LinkLaws.Played.{call_made}
 use Rattle.cluster_client.specs.Ended.{CommandEnded}
 
@@ -85,7 +90,7 @@ lacks_late {strategy} {old} {new} {call} {answer} m either some = (m.happened, r
 
 pub unsent_ended : (strategy : Option Strategy) (old new : World) (call : Call) (refusal : Refusal) → is_refresh call ≡ false → Untouched old new
     → (refused_by refusal ≢ Err (by_cause Memory) → (plan (client_of old) new.picked call ≡ Err refusal) × ArePicks strategy (client_of old) call new.picked) → CommandEnded strategy old new call (Err refusal)
-unsent_ended strategy old new call refusal n u why = record { happened = nothing_happened strategy old new call u; answered = unsent_answered strategy old new call refusal n u why; room = λ e some. absurd (some u.log) }
+unsent_ended strategy old new call refusal n u why = record { happened = nothing_happened strategy old new call u; answered = unsent_answered strategy old new call refusal n u why; room = λ e some. absurd (some u.log); missing = λ e place. no_reply (task_of call) }
 
 -- a plan by no picks, where the picks are none
 pub planned_with : (strategy : Option Strategy) (client : Client) (call : Call) (refusal : Refusal) (picks none : List Address) → picks ≡ none → IsPlanned strategy client call none (Err refusal) → (plan client picks call ≡ Err refusal) × ArePicks strategy client call picks
@@ -94,17 +99,47 @@ planned_with strategy client call refusal picks none same p = (
   subst (λ ps. ArePicks strategy client call ps) (sym same) p.picked,
 )
 
+-- ---- whether the one reply is there
+
+module _ (call : Call) (command : Command) (number : ℕ) (order : Option (List ℕ)) (task : task_of call ≡ one_command command number order) where
+  -- a command whose word is split has no one reply
+  pub split_missing : has_split_word command.args ≡ true → (xs : List Exchange) → has_reply (task_of call) xs ≡ false
+  split_missing word xs = ap (λ t. has_reply t xs) task ∙ ap (λ b. not b && list_any is_answered xs) word
+
+  none_of : (b c : Bool) → c ≡ false → (b && c) ≡ false
+  none_of true c e = e
+  none_of false c e = refl
+
+  -- with fewer answers than one there is none
+  fewer_than_one : (xs : List Exchange) → length (filter is_answered xs) < 1 → list_any is_answered xs ≡ false
+  fewer_than_one [] h = refl
+  fewer_than_one (x ∷ xs) h = by (is_answered x) h (λ k. fewer_than_one xs k)
+    where
+      by : (b : Bool) → length (cond b (x ∷ filter is_answered xs) (filter is_answered xs)) < 1 → (length (filter is_answered xs) < 1 → list_any is_answered xs ≡ false) → (b || list_any is_answered xs) ≡ false
+      by true k more = absurd (omega (arith, k))
+      by false k more = more k
+
+  -- the one part of a command that goes whole is not answered where memory was refused
+  pub whole_missing : (old new : World) (d : Dispatch) (reply : Result Tree Refusal) (m : PartsMade old new (d ∷ []) (one_reply reply)) → reply ≡ Err (by_cause Memory) → (place : ℕ) → has_reply (task_of call) (exchanges_of place m.events) ≡ false
+  whole_missing old new d reply m lacks place = ap (λ t. has_reply t (exchanges_of place m.events)) task ∙ none_of (not (has_split_word command.args)) _ (by m.events refl)
+    where
+      by : (xs : List Event) → m.events ≡ xs → list_any is_answered (exchanges_of place m.events) ≡ false
+      by [] is = ap (λ es. list_any is_answered (exchanges_of place es)) is
+      by (x ∷ xs) is = fewer_than_one (exchanges_of place m.events) (m.unanswered (ap one_reply lacks) (λ none. let bad = sym is ∙ none in cc) place)
+
 -- ---- its parts were sent
 
 module _ (strategy : Option Strategy) (old new : World) (call : Call) (command : Command) (number : ℕ) (order : Option (List ℕ)) (task : task_of call ≡ one_command command number order)
     (value : (tree : Tree) → answer_in call tree ≡ Some (Value tree)) (plain : is_refresh call ≡ false) (ds : List Dispatch) (picks : List Address) (result : Result (List Tree) Refusal) (reply : Result Tree Refusal)
     (planned : plan (client_of old) picks call ≡ Ok ds) (picked : ArePicks strategy (client_of old) call picks)
-    (m : PartsMade (with_log old [] picks) new ds result) (made : IsMadeOfParts (sent command) ds result reply) where
+    (m : PartsMade (with_log old [] picks) new ds result) (made : IsMadeOfParts (sent command) ds result reply)
+    (missing : reply ≡ Err (by_cause Memory) → (place : ℕ) → has_reply (task_of call) (exchanges_of place m.events) ≡ false) where
   pub command_ended : CommandEnded strategy old new call (value_answer reply)
   command_ended = record {
     happened = parts.happened strategy old new call command number order task value plain ds picks result reply planned picked m made;
     answered = parts.many_answered strategy old new call command number order task value plain ds picks result reply planned picked m made;
     room = parts.many_room strategy old new call command number order task value plain ds picks result reply planned picked m made;
+    missing = λ lacks. missing (value_lacked reply lacks);
   }
 
 -- ---- the picks are forgotten
@@ -169,9 +204,12 @@ module _ {T : Type 0} (r : Result T Refusal) (answer : Result Answer Refusal) (t
 module _ (strategy : Option Strategy) (old mid new : World) (call : Call) where
   pub unpicked_made : (r : Result CodeValue Refusal) → is_refresh call ≡ false → CommandEnded strategy old mid call (value_answer (tree_result view r))
       → new ≡ with_log mid mid.log new.picked → (r ≡ Err (by_cause Memory) → mid.log ≡ [] → new.picked ≡ []) → ((r ≡ Err (by_cause Memory) → mid.log ≢ []) → new.picked ≡ mid.picked)
-      → CallMade strategy old new call (value_answer (tree_result view r))
-  unpicked_made r plain m stays forgotten kept =
-      unpicked_by r (value_answer (tree_result view r)) (value_memory r) (memory_value r) strategy old mid new call plain m stays forgotten kept
+      → ReplyMade strategy old new call (tree_result view r)
+  unfolding unpicked_by call_made
+  unpicked_made r plain m stays forgotten kept = record {
+    made = unpicked_by r (value_answer (tree_result view r)) (value_memory r) (memory_value r) strategy old mid new call plain m stays forgotten kept;
+    missing = λ lacks. m.missing (ap value_answer lacks);
+  }
 
   pub record_unpicked : {T : Type 0} (shown : T → Answer) (r : Result T Refusal) → is_refresh call ≡ false → CommandEnded strategy old mid call (record_answer shown r)
       → new ≡ with_log mid mid.log new.picked → (r ≡ Err (by_cause Memory) → mid.log ≡ [] → new.picked ≡ []) → ((r ≡ Err (by_cause Memory) → mid.log ≢ []) → new.picked ≡ mid.picked)

@@ -14,11 +14,11 @@ use Rattle.cluster_routing.specs.Info.{texts}
 use Rattle.cluster_routing.specs.Seen.{address}
 use Rattle.cluster_routing.specs.Policies.{tree_or_refusal}
 use Rattle.cluster_calls.specs.Calls.Answer.{Answer, tree_in}
-use Rattle.cluster_calls.specs.Links.Log.{is_moved_reply}
+use Rattle.cluster_calls.specs.Links.Log.{is_data_reply, is_moved_reply}
 use Rattle.cluster_calls.specs.Calls.Call.{At}
 use Rattle.cluster_calls.specs.Calls.Parts.{at_node}
 use Rattle.cluster_calls.specs.Calls.Plan.{first_of}
-use Rattle.cluster_calls.specs.Links.Converted.{value_answer}
+use Rattle.cluster_calls.specs.Links.Converted.{ReplyMade}
 use Rattle.cluster_calls.specs.Links.Exchanges.{Exchanges}
 use Rattle.cluster_calls.specs.Links.Happened.{CallMade, client_of}
 use Rattle.cluster_calls.specs.Links.Places.{IsOpenAt}
@@ -28,7 +28,7 @@ use Rattle.cluster_steps.specs.declared.dispatch.Dispatch.{Dispatch as CodeDispa
 use Rattle.cluster_steps.specs.Dispatches.{IsPlaced}
 use Rattle.cluster_steps.specs.FirstPlaces.{node_with_link}
 use Rattle.cluster_steps.specs.Groups.{request_in}
-use Rattle.cluster_calls.proofs.LinkLaws.OneNode.{at_made, placed_node, told, unpicked}
+use Rattle.cluster_calls.proofs.LinkLaws.OneNode.{Ends, at_made, placed_node, told, unpicked}
 use Rattle.cluster_calls.proofs.LinkLaws.AnyStrategy.{with_strategy}
 use Rattle.cluster_client.specs.NodeRuns.{outcome_in}
 use Rattle.cluster_client.proofs.NodeLoop.{same_reply}
@@ -67,14 +67,18 @@ module _ (strategy : Option Strategy) (old new : World) (node : Address) (comman
   at : IsOpenAt old.nodes node d.place.which
   at = subst (λ a. IsOpenAt old.nodes a d.place.which) there placed.place
 
-  pub sent_there : (reply : Result Value Refusal) → (reply ≡ lost) ⊎ (tree_or_refusal reply ≡ outcome_in result) → CallMade strategy old new (At node command) (value_answer (tree_result view reply))
+  -- memory was refused for the error that the reply holds, or the reply is told
+  abbrev Ended : Result Value Refusal → Type 0
+  Ended reply = ((reply ≡ lost) × (is_data_reply (tree_in result) ≡ false)) ⊎ (tree_or_refusal reply ≡ outcome_in result)
+
+  pub sent_there : (reply : Result Value Refusal) → Ended reply → ReplyMade strategy old new (At node command) (tree_result view reply)
   sent_there reply ends =
       at_made strategy old new node command waits at.linked entries settings none result (flag ∙ ap (λ r. old.needs_refresh || is_moved_reply r) (sym (same_reply result)))
       ready.place.which (subst (λ (k : CodeDispatch). IsOpenAt old.nodes node k.place.which) (sym same) at) before empty (request_in ready)
       (ap request_in same ∙ request_is d node command there args placed.direct) exchange (tree_result view reply) (by ends)
     where
-      by : (reply ≡ lost) ⊎ (tree_or_refusal reply ≡ outcome_in result) → (tree_result view reply ≡ Err (by_cause Memory)) ⊎ (tree_result view reply ≡ told result)
-      by (inl none) = inl (ap (tree_result view) none)
+      by : Ended reply → Ends result (tree_result view reply)
+      by (inl none) = inl (ap (tree_result view) none.0, ap is_data_reply (same_reply result) ∙ none.1)
       by (inr is) = inr (told_by reply result is)
 
 -- no strategy is asked, so the call is made for every one

@@ -21,7 +21,9 @@ use Rattle.cluster_calls.specs.Calls.Parts.{Part, read_parts, unless}
 use Rattle.cluster_calls.specs.Calls.Picks.{ArePicks}
 use Rattle.cluster_calls.specs.Calls.Plan.{Client, Dispatch, call_parts, in_order, order_of, plan}
 use Rattle.cluster_calls.specs.Calls.Reads.{key_places, read_slot, stream_slots}
+use Rattle.cluster_calls.specs.Calls.OneReply.{has_reply}
 use Rattle.cluster_calls.specs.Calls.Task.{are_of_one_slot, is_by_key, read_of, read_refusal, sentence_task, stream_keys, task_of}
+use Rattle.cluster_calls.specs.Links.Events.{exchanges_of}
 use Rattle.cluster_calls.specs.Links.Happened.{client_of}
 use Rattle.cluster_calls.specs.Links.PartRuns.{PartsMade}
 use Rattle.cluster_calls.specs.Links.Run.{with_log}
@@ -103,6 +105,7 @@ module _ (options : ReadSettings) (streams : List Stream) (by_key : is_by_key op
       happened = happened options streams strategy old new call read_task refl ds picks result answer planned picked m made;
       answered = read_answered options streams strategy old new call read_task refl ds picks result answer planned picked m made;
       room = read_room options streams strategy old new call read_task refl ds picks result answer planned picked m made;
+      missing = λ lacks place. ap (λ task. has_reply task (exchanges_of place m.events)) read_task;
     }
 
   module _ (strategy : Option Strategy) (old new : World) (ds : List Dispatch) (picks : List Address) (planned : plan (client_of old) picks call ≡ Ok ds) (picked : ArePicks strategy (client_of old) call picks) where

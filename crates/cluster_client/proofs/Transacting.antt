@@ -22,7 +22,7 @@ use Rattle.cluster_calls.specs.Calls.Answer.{Answer}
 use Rattle.cluster_calls.specs.Calls.Picks.{ArePicks}
 use Rattle.cluster_calls.specs.Calls.Plan.{Client, Dispatch, first_by, first_of, plan, read_candidates}
 use Rattle.cluster_calls.specs.Calls.Redirects.{Hop, Goes, is_going}
-use Rattle.cluster_calls.specs.Calls.Transactions.{attempt, attempt_answer, dispatches_to, next_attempt, size, unless_lost}
+use Rattle.cluster_calls.specs.Calls.Transactions.{attempt, attempt_answer, dispatches_to, exec_answers, next_attempt, size, unless_lost}
 use Rattle.cluster_calls.specs.Links.AttemptRuns.{AttemptsMade}
 use Rattle.cluster_calls.specs.Links.Exchanges.{Exchanges}
 use Rattle.cluster_calls.specs.Links.Happened.{CallMade, client_of}
@@ -114,10 +114,10 @@ module _ (old now new : World) (commands : List (List (List ℕ))) (first : Hop)
   module _ (trees : List Tree) (x : AttemptExchanged now new which qs (skipped hop.asking) (Ok trees)) where
     -- the replies make the answer, or refuse it; or memory was refused behind them
     pub attempt_answered : (outcome : Result Tree Refusal) → (outcome ≢ Err (by_cause Memory) → (is_going (next_attempt (open_links new.nodes) left (heard trees)) ≡ false)
-        × (unless_lost (next_attempt (open_links new.nodes) left (heard trees)) (attempt_answer (heard trees)) ≡ outcome)) → AttemptsMade old new first commands outcome
-    attempt_answered outcome why =
+        × (unless_lost (next_attempt (open_links new.nodes) left (heard trees)) (attempt_answer (heard trees)) ≡ outcome)) → (outcome ≡ Err (by_cause Memory) → exec_answers (heard trees) ≡ false) → AttemptsMade old new first commands outcome
+    attempt_answered outcome why unanswered =
         let made = loop_ok l new.nodes new.log trees (whole_attempt (Ok trees) x) in
-        loop_answered old now new commands first left hop which l (record { entries = x.entries; settings = x.settings; picked = x.picked }) trees made.1 made.0 x.flag outcome (λ m. let told = why m in (told.0, sym told.1))
+        loop_answered old now new commands first left hop which l (record { entries = x.entries; settings = x.settings; picked = x.picked }) trees made.1 made.0 x.flag outcome (λ m. let told = why m in (told.0, sym told.1)) unanswered
 
     -- the transaction goes on
     pub attempt_more : (next : Hop) (place : ℕ) → next_attempt (open_links new.nodes) left (heard trees) ≡ Goes next → left ≢ 0 → IsOpenAt new.nodes next.node place → Loop old new commands first (left - 1) next place

@@ -13,7 +13,7 @@ use Rattle.cluster_routing.specs.Policies.{bad_reply, or_bad_reply}
 use Rattle.stream_commands.specs.Commands as commands
 use Rattle.stream_commands.specs.Settings.{ReadSettings}
 use Rattle.stream_commands.specs.Commands.{plain_command}
-use Rattle.cluster_calls.specs.Links.Converted.{ConvertsTo, ValueMade, value_answer}
+use Rattle.cluster_calls.specs.Links.Converted.{ConvertsTo, ReplyMade, ValueMade, value_answer}
 use Rattle.cluster_calls.specs.Links.Events.{Event, exchanges_of, log_of}
 use Rattle.cluster_calls.specs.Links.Lacking.{MayLack, follows_redirects}
 use Rattle.cluster_calls.specs.Links.Faults.{LinkFault}
@@ -34,7 +34,7 @@ use Rattle.cluster_calls.specs.Calls.Refusals.{sent_refusal}
 use Rattle.cluster_calls.specs.Calls.Task.{is_by_key, one_command, read_of, sentence, sentence_task, stream_keys, stream_ids, stream_refusal, stream_task}
 use Rattle.cluster_calls.specs.Calls.TaskParts.{task_parts}
 use Rattle.cluster_client.proofs.Ending.{room_read}
-use Rattle.cluster_calls.proofs.LinkLaws.OneCommand.{refused_by, relogged_untouched, not_begun, not_sent}
+use Rattle.cluster_calls.proofs.LinkLaws.OneCommand.{refused_by, relogged_untouched, not_begun, not_sent, reply_not_begun}
 use Rattle.cluster_calls.proofs.LinkLaws.Played.{call_made}
 use Rattle.cluster_steps.proofs.Dispatched.{plan_unparted, picks_unparted}
 
@@ -172,10 +172,13 @@ read_sentence_by key id streams options = rw (stream_keys_by key id streams, str
 unwritten : (strategy : Option Strategy) (old new : World) (call : Call) → is_refresh call ≡ false → new ≡ with_log old [] [] → CallMade strategy old new call (Err (by_cause Memory))
 unwritten strategy old new call plain e = not_begun strategy old new call (relogged_untouched old new [] e) (ap (λ (w : World). w.picked) e)
 
+reply_unwritten : (strategy : Option Strategy) (old new : World) (call : Call) → new ≡ with_log old [] [] → ReplyMade strategy old new call (Err (by_cause Memory))
+reply_unwritten strategy old new call e = reply_not_begun strategy old new call (relogged_untouched old new [] e) (ap (λ (w : World). w.picked) e)
+
 pub nothing_written : {T : Type 0} (strategy : Option Strategy) (old new : World) (call : StreamCall) (shown : T → Answer) → new ≡ with_log old [] [] → StreamCallMade strategy old new call shown (Err (by_cause Memory))
 nothing_written strategy old new call shown e = record {
   made = unwritten strategy old new (OnStreams call) refl e;
-  read = λ fits sentenced. record { reply = Err (by_cause Memory); made = unwritten strategy old new (query strategy old new call fits sentenced) refl e; converted = refl };
+  read = λ fits sentenced. record { reply = Err (by_cause Memory); made = reply_unwritten strategy old new (query strategy old new call fits sentenced) e; converted = refl };
 }
 
 -- a check before all others is not met

@@ -1,6 +1,6 @@
 //! The client: it refreshes its slot map, and sends commands to the nodes that serve them.
 ghost use Rattle.std.specs.List.{AllByRecursion};
-ghost use Rattle.std.specs.Prelude.{◌≡◌, ◌≢◌, ◌↔◌, ◌<◌, ◌≤◌, ◌+◌, ◌||◌, Err, None, [], ◌∷◌, true, false, vec_capacity, vec_len, map, IfOk, IfErr, OnErr, OnOk, if◌then◌else◌, option_map};
+ghost use Rattle.std.specs.Prelude.{◌≡◌, ◌≢◌, ◌↔◌, ◌<◌, ◌≤◌, ◌+◌, ◌||◌, Err, None, [], ◌∷◌, true, false, vec_capacity, vec_len, map, IfOk, IfErr, OnErr, OnOk, if◌then◌else◌, not, option_map};
 ghost use Rattle.resp_core.specs.Errors.{by_cause};
 ghost use Rattle.resp_core.specs.View.{push_view, view};
 ghost use Rattle.resp_core.specs.declared.errors.redis_error.Cause.TheVariants.{Memory, RepeatedAddress};
@@ -9,14 +9,14 @@ ghost use Rattle.cluster_routing.specs.Info.{shown_split, texts};
 ghost use Rattle.cluster_routing.specs.Seen.{address, addresses};
 ghost use Rattle.cluster_routing.specs.SlotMap.{put_all};
 ghost use Rattle.cluster_routing.specs.SlotsReply.{ranges};
-ghost use Rattle.cluster_routing.specs.Split.{parts_by_place};
+ghost use Rattle.cluster_routing.specs.Split.{has_split_word, parts_by_place};
 ghost use Rattle.cluster_routing.specs.Topology.{shards_of};
 ghost use Rattle.cluster_calls.specs.Calls.Answer.{Value};
 ghost use Rattle.cluster_calls.specs.Calls.Call.{Query, Refresh};
 ghost use Rattle.cluster_calls.specs.Links.Chains.{ChainMade};
-ghost use Rattle.cluster_calls.specs.Links.Converted.{ValueMade, refresh_answer, value_answer};
+ghost use Rattle.cluster_calls.specs.Links.Converted.{ReplyMade, ValueMade, refresh_answer, value_answer};
 ghost use Rattle.cluster_calls.specs.Links.Happened.{CallMade, Happened, LacksLate, client_of};
-ghost use Rattle.cluster_steps.specs.Dispatches.{IsPlaced, IsPlanned, dispatch_of, dispatches_in, prepared_by, set_out_by, split_in};
+ghost use Rattle.cluster_steps.specs.Dispatches.{IsPlaced, IsPlanned, dispatch_of, dispatches_in, is_whole, prepared_by, set_out_by, split_in};
 ghost use Rattle.cluster_calls.specs.Links.Orders.{command_call, routes_in_order};
 ghost use Rattle.cluster_calls.specs.Links.PartRuns.{PartsMade};
 ghost use Rattle.cluster_calls.specs.Links.Places.{IsOpenAt};
@@ -208,8 +208,8 @@ impl<L: ConnectionLike + Drop> ClusterClient<L> {
         number: u64,
         strategy: Option<&dyn ReadRoutingStrategy>,
     ) -> Result<Value, RedisError>
-        ensures { CallMade (option_map (λ s. admits s.now) strategy.entry) (whole L.seen self.old)
-            (whole L.seen self.new) (Query cmd.now number) (value_answer (tree_result view result)) }
+        ensures { ReplyMade (option_map (λ s. admits s.now) strategy.entry) (whole L.seen self.old)
+            (whole L.seen self.new) (Query cmd.now number) (tree_result view result) }
     {
         self.reply_in_order(alloc, cmd, None, number, strategy)
     }
@@ -223,10 +223,10 @@ impl<L: ConnectionLike + Drop> ClusterClient<L> {
         number: u64,
         strategy: Option<&dyn ReadRoutingStrategy>,
     ) -> Result<Value, RedisError>
-        ensures { CallMade (option_map (λ s. admits s.now) strategy.entry) (whole L.seen self.old)
+        ensures { ReplyMade (option_map (λ s. admits s.now) strategy.entry) (whole L.seen self.old)
             (whole L.seen self.new)
             (command_call cmd.now (option_map (λ o. o.now) order.entry) number)
-            (value_answer (tree_result view result)) }
+            (tree_result view result) }
     {
         let reply = self.reply_with_picks(alloc, cmd, order, number, strategy);
         self.unpick(&reply);
@@ -292,6 +292,7 @@ impl<L: ConnectionLike + Drop> ClusterClient<L> {
             (λ o. option_map shown_split (split_in o)
             ≡ option_map (routes_in_order (option_map (λ o. o.now) order.entry))
             (parts_by_place cmd.now.args (texts self.new.read_only.items))) }
+        ensures whole { IfOk result (λ o. is_whole o ≡ not (has_split_word cmd.now.args)) }
     {
         self.asked = Vec::new(alloc);
         self.picked = Vec::new(alloc);

@@ -1,6 +1,6 @@
 //! A command to several nodes: each of them is asked once, ascending, and their replies become one.
 ghost use Rattle.std.specs.List.{AllByRecursion};
-ghost use Rattle.std.specs.Prelude.{◌≡◌, ◌≢◌, ◌<◌, ◌≤◌, ◌+◌, ◌||◌, Err, IfErr, IfOk, Option, [], ◌∷◌, map, option_map, vec_capacity, vec_len};
+ghost use Rattle.std.specs.Prelude.{◌≡◌, ◌≢◌, ◌<◌, ◌≤◌, ◌+◌, ◌||◌, Err, IfErr, IfOk, Option, [], ◌∷◌, false, map, option_map, vec_capacity, vec_len};
 ghost use Rattle.resp_core.specs.Errors.{by_cause};
 ghost use Rattle.resp_core.specs.View.{view};
 ghost use Rattle.resp_core.specs.declared.errors.redis_error.Cause.TheVariants.{Memory};
@@ -22,7 +22,7 @@ ghost use Rattle.cluster_calls.specs.Links.Converted.{value_answer};
 ghost use Rattle.cluster_steps.specs.Dispatches.{AreDispatched, IsPlaced, IsPlanned, dispatch_of, dispatches_of};
 ghost use Rattle.cluster_steps.specs.FirstPlaces.{node_by, node_with_link};
 ghost use Rattle.cluster_calls.specs.Links.Happened.{CallMade};
-ghost use Rattle.cluster_calls.specs.Links.Log.{is_moved_reply};
+ghost use Rattle.cluster_calls.specs.Links.Log.{is_data_reply, is_moved_reply};
 ghost use Rattle.cluster_client.specs.NodeRuns.{NodesAsked, all_outcomes, listed_by, nodes_named, one_outcome, outcome_in, outcome_of_reply, parts_to_nodes};
 ghost use Rattle.cluster_client.specs.Whole.{whole};
 ghost use Rattle.cluster_calls.specs.Links.World.{nodes, open_links, tree_result};
@@ -234,6 +234,9 @@ pub(crate) fn outcome_in(
 ) -> Result<Result<Value, RedisError>, RedisError>
     ensures outcome { IfOk result (λ o. tree_or_refusal o ≡ outcome_in (tree_result view reply)) }
     ensures only { IfErr result (λ e. e ≡ by_cause Memory) }
+    // Memory is taken for the error that the reply holds.
+    ensures error { IfErr result
+        (λ e. is_data_reply (tree_in (tree_result view reply)) ≡ false) }
 {
     match reply {
         Ok(value) => unless_memory(value.extract_error()),

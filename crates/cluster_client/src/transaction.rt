@@ -10,8 +10,8 @@ ghost use Rattle.cluster_calls.specs.Calls.Call.{Transaction};
 ghost use Rattle.cluster_calls.specs.Calls.OneSlot.{args_of};
 ghost use Rattle.cluster_calls.specs.Links.AttemptRuns.{AttemptsMade};
 ghost use Rattle.cluster_calls.specs.Calls.Plan.{plan};
-ghost use Rattle.cluster_calls.specs.Links.Converted.{ValueMade, value_answer};
-ghost use Rattle.cluster_calls.specs.Links.Happened.{CallMade, Happened, LacksLate, client_of};
+ghost use Rattle.cluster_calls.specs.Links.Converted.{ReplyMade, ValueMade};
+ghost use Rattle.cluster_calls.specs.Links.Happened.{Happened, LacksLate, client_of};
 ghost use Rattle.cluster_calls.specs.Links.Request.{skipped};
 ghost use Rattle.cluster_calls.specs.Links.Run.{with_log};
 ghost use Rattle.cluster_calls.specs.Links.World.{nodes, tree_result, tree_results};
@@ -126,8 +126,8 @@ impl<L: ConnectionLike + Drop> ClusterClient<L> {
         alloc: Global,
         commands: &[Cmd],
     ) -> Result<Value, RedisError>
-        ensures made { CallMade None (whole L.seen self.old) (whole L.seen self.new)
-            (Transaction commands.now) (value_answer (tree_result view result)) }
+        ensures made { ReplyMade None (whole L.seen self.old) (whole L.seen self.new)
+            (Transaction commands.now) (tree_result view result) }
         ensures picks { (whole L.seen self.new).picked ≡ [] }
     {
         match self.first_attempt(alloc, commands)? {

@@ -24,7 +24,7 @@ converted (Err refusal) (Err other) e had = ap Err (sym e)
 
 pub made_alone : (old new : World) (command : Command) (told : Result Value Refusal) → ValueMade None old new (Query command 0) view (λ t. Some t) told → tree_result view told ≢ Err (by_cause Memory) → CallMade None old new (Query command 0) (value_answer (tree_result view told))
 made_alone old new command told v had =
-    subst (λ r. CallMade None old new (Query command 0) (value_answer r)) (converted v.reply told v.converted had) v.made
+    subst (λ r. CallMade None old new (Query command 0) (value_answer r)) (converted v.reply told v.converted had) v.made.made
 
 -- ---- a pipeline without memory
 

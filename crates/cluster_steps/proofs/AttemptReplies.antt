@@ -11,7 +11,7 @@ use Rattle.cluster_routing.specs.Address.{Address}
 use Rattle.cluster_routing.specs.Policies.{or_bad_reply}
 use Rattle.cluster_calls.specs.Links.Request.{exec}
 use Rattle.cluster_calls.specs.Calls.Redirects.{Next, Stays, is_going, next_of}
-use Rattle.cluster_calls.specs.Calls.Transactions.{Fate, done, not_done, may_be_done, answers, attempt_answer, error_or_bad, exec_reply, fate_by, first_own_error, if_not_done, is_array, is_okay, is_refused, multi_reply, unless_lost, without_asking}
+use Rattle.cluster_calls.specs.Calls.Transactions.{Fate, done, not_done, may_be_done, attempt_answer, error_or_bad, exec_answers, exec_reply, fate_by, first_own_error, if_not_done, is_array, is_refused, multi_reply, unless_lost, without_asking}
 use Rattle.cluster_calls.proofs.LinkLaws.ChainLoop.{next_none}
 use Rattle.cluster_steps.specs.Attempts.{heard, is_not_done}
 
@@ -56,6 +56,11 @@ not_done_if false false = refl
 pub not_done_by : (begun : Bool) (reply : Option Tree) → is_not_done (fate_by begun reply) ≡ (begun && is_refused reply)
 not_done_by begun reply = not_done_if (begun && is_refused reply) (is_array reply)
 
+pub not_done_is : (f : Fate) → is_not_done f ≡ true → f ≡ not_done
+not_done_is done e = cc
+not_done_is not_done e = refl
+not_done_is may_be_done e = cc
+
 pub not_done_so : (f : Fate) (n : Next) → is_not_done f ≡ true → if_not_done f n ≡ n
 not_done_so done n e = cc
 not_done_so not_done n e = refl
@@ -72,14 +77,10 @@ none_stays links left reply e = sym (ap (next_of links left) e ∙ next_none lin
 
 -- ---- the answer
 
-pub no_answer : (begun : Bool) (error : Option ErrorText) → answers begun error None ≡ false
-no_answer true error = refl
-no_answer false error = refl
-
-pub answered_so : (replies : List (Option Tree)) (b : Bool) → b ≡ answers (is_okay (multi_reply replies)) (first_own_error replies) (exec_reply replies) → b ≡ true → attempt_answer replies ≡ or_bad_reply (exec_reply replies)
+pub answered_so : (replies : List (Option Tree)) (b : Bool) → b ≡ exec_answers replies → b ≡ true → attempt_answer replies ≡ or_bad_reply (exec_reply replies)
 answered_so replies b is e = ap (λ k. if k then or_bad_reply (exec_reply replies) else Err (error_or_bad (first_own_error replies))) (sym is ∙ e)
 
-pub refused_so : (replies : List (Option Tree)) (b : Bool) → b ≡ answers (is_okay (multi_reply replies)) (first_own_error replies) (exec_reply replies) → b ≡ false → attempt_answer replies ≡ Err (error_or_bad (first_own_error replies))
+pub refused_so : (replies : List (Option Tree)) (b : Bool) → b ≡ exec_answers replies → b ≡ false → attempt_answer replies ≡ Err (error_or_bad (first_own_error replies))
 refused_so replies b is e = ap (λ k. if k then or_bad_reply (exec_reply replies) else Err (error_or_bad (first_own_error replies))) (sym is ∙ e)
 
 pub stays_so : (next : Next) (answer : Result Tree Refusal) → Stays ≡ next → (is_going next ≡ false) × (unless_lost next answer ≡ answer)

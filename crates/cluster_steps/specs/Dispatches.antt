@@ -1,5 +1,5 @@
 -- Where all parts of a call go first, as the code finds it.
-use Rattle.std.specs.Prelude.{◌≡◌, ◌<◌, false, List, [], ◌∷◌, map, length, Option, Some, None, Result, Ok, Err, Vec}
+use Rattle.std.specs.Prelude.{◌≡◌, ◌<◌, Bool, true, false, List, [], ◌∷◌, map, length, Option, Some, None, Result, Ok, Err, Vec}
 use Rattle.std.specs.declared.alloc.Global.{Global}
 use Rattle.resp_core.specs.Errors.{Refusal}
 use Rattle.cluster_routing.specs.Address.{Address}
@@ -57,6 +57,11 @@ pub record IsPlaced (all : List Node) (d : CodeDispatch) : Type 0 where
 abbrev pub dispatches_in : Outset → List CodeDispatch
 dispatches_in (Whole d) = d ∷ []
 dispatches_in (InParts p) = p.dispatches.items
+
+-- it goes out whole
+abbrev pub is_whole : Outset → Bool
+is_whole (Whole d) = true
+is_whole (InParts p) = false
 
 abbrev pub split_in : Outset → Option SplitParts
 split_in (Whole d) = None

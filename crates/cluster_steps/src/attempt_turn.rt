@@ -6,7 +6,7 @@ ghost use Rattle.resp_core.specs.View.{view};
 ghost use Rattle.resp_core.specs.declared.errors.redis_error.Cause.TheVariants.{Memory};
 ghost use Rattle.cluster_routing.specs.Policies.{or_bad_reply};
 ghost use Rattle.cluster_calls.specs.Calls.Redirects.{Stays, next_of};
-ghost use Rattle.cluster_calls.specs.Calls.Transactions.{answers, attempt_answer, error_or_bad, exec_reply, fate, first_own_error, first_redirect, is_array, is_nil, is_okay, is_redirect, is_refused, multi_reply, next_attempt, own_error, redirect_in};
+ghost use Rattle.cluster_calls.specs.Calls.Transactions.{answers, attempt_answer, error_or_bad, exec_answers, exec_reply, fate, first_own_error, first_redirect, is_array, is_nil, is_okay, is_redirect, is_refused, multi_reply, next_attempt, own_error, redirect_in};
 ghost use Rattle.cluster_calls.specs.Links.World.{nodes, open_links, tree_result};
 ghost use Rattle.cluster_steps.specs.Attempts.{AttemptTurnsBy, heard, is_not_done, seen};
 ghost use Rattle.cluster_steps.specs.Turns.{LeadsOn, TurnsOn, goes_on, next_by, turns_on};
@@ -138,6 +138,8 @@ fn redirected<K: NodeLinks>(
     ensures on { IfOk result (λ o. LeadsOn (K.nodes links.now) o) }
     ensures some { IfOk result (λ o. goes_on o ≡ true → left ≢ 0) }
     ensures only { IfErr result (λ e. e ≡ by_cause Memory) }
+    ensures redirect { IfErr result
+        (λ e. is_none (redirect_in (heard (map view replies.now))) ≡ false) }
 {
     match redirect_in(replies) {
         None => Ok(Onward::Stay),
@@ -158,6 +160,7 @@ fn next_attempt<K: NodeLinks>(
     ensures on { IfOk result (λ o. LeadsOn (K.nodes links.now) o) }
     ensures some { IfOk result (λ o. goes_on o ≡ true → left ≢ 0) }
     ensures only { IfErr result (λ e. e ≡ by_cause Memory) }
+    ensures unanswered { IfErr result (λ e. exec_answers (heard (map view replies.now)) ≡ false) }
 {
     if is_not_done(replies) {
         redirected(alloc, links, left, replies)
@@ -190,8 +193,7 @@ fn answers(exec: &Value, begun: bool, clean: bool) -> bool
 
 /// Whether EXEC's reply is the answer.
 fn is_answered(replies: &[Value]) -> bool
-    ensures { result ≡ answers (is_okay (multi_reply (heard (map view replies.now))))
-        (first_own_error (heard (map view replies.now))) (exec_reply (heard (map view replies.now))) }
+    ensures { result ≡ exec_answers (heard (map view replies.now)) }
 {
     let begun = has_begun(replies);
     let clean = are_clean(replies);
@@ -256,6 +258,9 @@ pub fn attempt_turn<L: ConnectionLike>(
         (heard (map view replies.items))) (heard (map view replies.items)) result }
     ensures on { IfOk result (λ turn. TurnsOn (nodes L.seen links.now.nodes.items) turn) }
     ensures some { IfOk result (λ turn. turns_on turn ≡ true → left ≢ 0) }
+    // Memory is taken for a redirect alone.
+    ensures unanswered { result ≡ Err (by_cause Memory)
+        → exec_answers (heard (map view replies.items)) ≡ false }
 {
     attempt_turn_over(alloc, links, left, replies)
 }
@@ -272,6 +277,9 @@ pub fn attempt_turn_over<K: NodeLinks>(
         (heard (map view replies.items))) (heard (map view replies.items)) result }
     ensures on { IfOk result (λ turn. TurnsOn (K.nodes links.now) turn) }
     ensures some { IfOk result (λ turn. turns_on turn ≡ true → left ≢ 0) }
+    // Memory is taken for a redirect alone.
+    ensures unanswered { result ≡ Err (by_cause Memory)
+        → exec_answers (heard (map view replies.items)) ≡ false }
 {
     match next_attempt(alloc, links, left, &replies)? {
         Onward::Stay => answered(replies),

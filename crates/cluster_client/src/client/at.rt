@@ -5,8 +5,8 @@ ghost use Rattle.resp_core.specs.View.{view};
 ghost use Rattle.resp_core.specs.declared.errors.redis_error.Cause.TheVariants.{Memory};
 ghost use Rattle.cluster_routing.specs.Seen.{address};
 ghost use Rattle.cluster_calls.specs.Calls.Call.{At};
-ghost use Rattle.cluster_calls.specs.Links.Converted.{ValueMade, value_answer};
-ghost use Rattle.cluster_calls.specs.Links.Happened.{CallMade, Happened, LacksLate};
+ghost use Rattle.cluster_calls.specs.Links.Converted.{ReplyMade, ValueMade};
+ghost use Rattle.cluster_calls.specs.Links.Happened.{Happened, LacksLate};
 ghost use Rattle.cluster_calls.specs.Links.World.{tree_result};
 ghost use Rattle.cluster_client.specs.Whole.{whole};
 
@@ -65,8 +65,8 @@ impl<L: ConnectionLike + Drop> ClusterClient<L> {
         node: &NodeAddress,
         cmd: &Cmd,
     ) -> Result<Value, RedisError>
-        ensures made { CallMade None (whole L.seen self.old) (whole L.seen self.new)
-            (At (address node.now) cmd.now) (value_answer (tree_result view result)) }
+        ensures made { ReplyMade None (whole L.seen self.old) (whole L.seen self.new)
+            (At (address node.now) cmd.now) (tree_result view result) }
         ensures picks { (whole L.seen self.new).picked ≡ [] }
     {
         self.asked = Vec::new(alloc);

@@ -4,7 +4,8 @@ use Rattle.resp_core.specs.Trees.{Tree}
 use Rattle.resp_core.specs.View.{view}
 use Rattle.cluster_calls.specs.Calls.Transactions.{answers, first_own_error, is_array, is_nil, is_okay, multi_reply}
 use Rattle.cluster_steps.specs.Attempts.{heard}
-use Rattle.cluster_steps.proofs.AttemptReplies.{exec_is, no_answer}
+use Rattle.cluster_calls.proofs.LogLaws.ExecAnswers.{no_answer}
+use Rattle.cluster_steps.proofs.AttemptReplies.{exec_is}
 use Rattle.cluster_steps.proofs.attempt_turn.is_answered.Goals as goal
 
 pub returns-in-Some : goal.returns-in-Some

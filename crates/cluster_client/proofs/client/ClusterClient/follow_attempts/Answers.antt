@@ -27,12 +27,12 @@ returns-in_err-replies g c =
 pub returns-in_err-value : goal.returns-in_err-value
 returns-in_err-value g c =
     let p = err_from_is_err_and c.from_residual-in_err-value.result c.from_residual-in_err-value.ensures.1 in
-    rw (p.1, p.2) (attempt_answered _ _ _ _ _ _ _ _ c.attempts.invariant.loop _ c.attempts.invariant.same _ c.in_ok-replies.ensures.exchanged _ (λ m. c.in_err-value.ensures.turns (λ k. m (cc k))))
+    rw (p.1, p.2) (attempt_answered _ _ _ _ _ _ _ _ c.attempts.invariant.loop _ c.attempts.invariant.same _ c.in_ok-replies.ensures.exchanged _ (λ m. c.in_err-value.ensures.turns (λ k. m (cc k))) (λ lacks. c.in_err-value.ensures.unanswered (cc lacks)))
 
 pub returns-in-Answered : goal.returns-in-Answered
 returns-in-Answered g c =
     let turns = rw c.in-Answered.is at (c.in_ok-value.ensures.turns (λ k. cc k)) in
-    attempt_answered _ _ _ _ _ _ _ _ c.attempts.invariant.loop _ c.attempts.invariant.same _ c.in_ok-replies.ensures.exchanged _ (λ m. turns)
+    attempt_answered _ _ _ _ _ _ _ _ c.attempts.invariant.loop _ c.attempts.invariant.same _ c.in_ok-replies.ensures.exchanged _ (λ m. turns) (λ lacks. cc)
 
 pub attempts-preserved : goal.attempts-preserved
 attempts-preserved g c =

@@ -1,4 +1,4 @@
-use Rattle.std.specs.Prelude.{option_map}
+use Rattle.std.specs.Prelude.{not, option_map}
 use Rattle.std.proofs.Common.{ℕ, true, false, List, Bor, [], ◌∷◌, ◌≡◌, ◌∙◌, sym, ap}
 use Rattle.std.proofs.lemmas.Result.{err_from_is_err_and}
 use Rattle.cluster_calls.specs.Calls.Parts.{fits_order}
@@ -45,3 +45,8 @@ returns-clause-split g c =
     let order = option_map (λ (o : Bor (List ℕ)). o.now) c.args.order in
     let alone = rw (c.in-Some.is, c.deref.ensures.value) at (c.in_ok-part.ensures (λ k. cc k)) in
     ap (option_map (routes_in_order order)) (unsplit _ c.args.cmd.now.args alone.0)
+
+pub returns-clause-whole : goal.returns-clause-whole
+returns-clause-whole g c =
+    let alone = rw (c.in-Some.is, c.deref.ensures.value) at (c.in_ok-part.ensures (λ k. cc k)) in
+    sym (ap not alone.0)

@@ -21,15 +21,15 @@ returns-in_err-from_redis_value-clause-answered g c =
 pub returns-in_err-reply-clause-unpicked : goal.returns-in_err-reply-clause-unpicked
 returns-in_err-reply-clause-unpicked g c =
     let p = err_from_is_err_and c.from_residual.result c.from_residual.ensures.1 in
-    rw (p.1, p.2) (λ lacks none. let lack : c.in_err-reply.field-0.0 ≡ by_cause Memory = cc in c.in_err-reply.ensures.unpicked (ap Err lack) none)
+    rw (p.1, p.2) (λ lacks none. let lack : c.in_err-reply.field-0.0 ≡ by_cause Memory = cc in c.in_err-reply.ensures.made.unpicked (ap Err lack) none)
 
 pub returns-in_err-from_redis_value-clause-unpicked : goal.returns-in_err-from_redis_value-clause-unpicked
-returns-in_err-from_redis_value-clause-unpicked g c e = answered_unpicked _ _ _ _ c.args.cmd.now c.args.number (Some c.args.order.now) refl _ c.in_ok-reply.ensures
+returns-in_err-from_redis_value-clause-unpicked g c e = answered_unpicked _ _ _ _ c.args.cmd.now c.args.number (Some c.args.order.now) refl _ c.in_ok-reply.ensures.made
 
 pub returns-in_err-reply-clause-room : goal.returns-in_err-reply-clause-room
 returns-in_err-reply-clause-room g c =
     let p = err_from_is_err_and c.from_residual.result c.from_residual.ensures.1 in
-    rw (p.1, p.2) (λ lacks some. let lack : c.in_err-reply.field-0.0 ≡ by_cause Memory = cc in lacks_late c.in_err-reply.ensures (inl (ap Err lack)) some)
+    rw (p.1, p.2) (λ lacks some. let lack : c.in_err-reply.field-0.0 ≡ by_cause Memory = cc in lacks_late c.in_err-reply.ensures.made (inl (ap Err lack)) some)
 
 pub returns-in_err-from_redis_value-clause-room : goal.returns-in_err-from_redis_value-clause-room
-returns-in_err-from_redis_value-clause-room g c e some = lacks_late c.in_ok-reply.ensures (inr (λ k. cc k)) some
+returns-in_err-from_redis_value-clause-room g c e some = lacks_late c.in_ok-reply.ensures.made (inr (λ k. cc k)) some

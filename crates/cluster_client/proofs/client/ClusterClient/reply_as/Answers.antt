@@ -13,7 +13,7 @@ returns-in_err-reply-in-Ok g c call shown fits sentenced written reads =
     let p = err_from_is_err_and c.from_residual.result c.from_residual.ensures.1 in
     let made = rw (rw c.in-Ok.is at written) at c.in_err-reply-in-Ok.ensures in
     rw (p.1, p.2) (record {
-      made = typed_made _ _ _ call fits sentenced (Err c.in_err-reply-in-Ok.field-0.0) _ made (λ had. refl) made.unpicked (λ lacks. inl lacks);
+      made = typed_made _ _ _ call fits sentenced (Err c.in_err-reply-in-Ok.field-0.0) _ made.made (λ had. refl) made.made.unpicked (λ lacks. inl lacks);
       read = λ _ _. record { reply = Err c.in_err-reply-in-Ok.field-0.0; made = made; converted = refl };
     })
 
@@ -24,7 +24,7 @@ returns-in_err-from_redis_value-in-Ok g c call shown fits sentenced written read
     let tree = view c.in_ok-reply-in-Ok.reply in
     let e = c.in_err-from_redis_value-in-Ok.field-0.0 in
     rw (p.1, p.2) (record {
-      made = typed_made _ _ _ call fits sentenced (Ok tree) _ made (unconverted g.T.FromRedisValue.meaning call g.T.FromRedisValue.convert shown tree e reads c.in_err-from_redis_value-in-Ok.ensures) (λ e. answered_unpicked _ _ _ _ (plain_command (sentence call)) 0 None refl _ made) (λ lacks. inr (λ k. cc k));
+      made = typed_made _ _ _ call fits sentenced (Ok tree) _ made.made (unconverted g.T.FromRedisValue.meaning call g.T.FromRedisValue.convert shown tree e reads c.in_err-from_redis_value-in-Ok.ensures) (λ e. answered_unpicked _ _ _ _ (plain_command (sentence call)) 0 None refl _ made.made) (λ lacks. inr (λ k. cc k));
       read = λ _ _. record {
         reply = Ok tree;
         made = made;
@@ -37,7 +37,7 @@ returns-in_ok-from_redis_value-in-Ok g c call shown fits sentenced written reads
     let made = rw (rw c.in-Ok.is at written) at c.in_ok-reply-in-Ok.ensures in
     let tree = view c.in_ok-reply-in-Ok.reply in
     record {
-      made = typed_made _ _ _ call fits sentenced (Ok tree) _ made (λ had. converted call g.T.FromRedisValue.convert shown tree _ reads c.in_ok-from_redis_value-in-Ok.ensures) (λ e. cc e) (λ e. cc e);
+      made = typed_made _ _ _ call fits sentenced (Ok tree) _ made.made (λ had. converted call g.T.FromRedisValue.convert shown tree _ reads c.in_ok-from_redis_value-in-Ok.ensures) (λ e. cc e) (λ e. cc e);
       read = λ _ _. record { reply = Ok tree; made = made; converted = reads tree ∙ ap (option_map shown) c.in_ok-from_redis_value-in-Ok.ensures };
     }
 

@@ -1,9 +1,9 @@
-use Rattle.std.specs.Prelude.{option_map}
-use Rattle.std.proofs.Common.{ℕ, List, Bor, ◌∙◌, refl, sym, ap}
+use Rattle.std.specs.Prelude.{not, option_map}
+use Rattle.std.proofs.Common.{◌≡◌, ℕ, Bool, true, false, List, Bor, ◌∙◌, refl, sym, ap}
 use Rattle.std.proofs.lemmas.List.{length-map}
 use Rattle.std.proofs.lemmas.Result.{err_from_is_err_and}
 use Rattle.resp_core.specs.View.{view}
-use Rattle.cluster_routing.specs.Split.{parts_by_place}
+use Rattle.cluster_routing.specs.Split.{has_split_word, parts_by_place}
 use Rattle.cluster_calls.specs.Links.Happened.{client_of}
 use Rattle.cluster_calls.specs.Links.Orders.{command_call, routes_in_order}
 use Rattle.cluster_client.specs.Whole.{whole}
@@ -11,9 +11,13 @@ use Rattle.cluster_calls.specs.Links.World.{World, tree_result}
 use Rattle.cluster_steps.proofs.Dispatched.{command_plain, command_task, command_value}
 use Rattle.cluster_calls.proofs.LinkLaws.ManyParts.{as_many_replies}
 use Rattle.cluster_calls.proofs.LinkLaws.OneCommand.{relogged_untouched}
-use Rattle.cluster_client.proofs.Ending.{command_ended, unsent_ended}
+use Rattle.cluster_client.proofs.Ending.{command_ended, split_missing, unsent_ended, whole_missing}
 use Rattle.cluster_client.proofs.WholeRun.{whole_answer}
 use Rattle.cluster_client.proofs.client.ClusterClient.reply_with_picks.Goals as goal
+
+not_whole : (b : Bool) → false ≡ not b → b ≡ true
+not_whole true e = refl
+not_whole false e = cc
 
 pub returns-in_err-dispatch : goal.returns-in_err-dispatch
 returns-in_err-dispatch g c =
@@ -26,16 +30,19 @@ pub returns-in_err-replies-in-InParts : goal.returns-in_err-replies-in-InParts
 returns-in_err-replies-in-InParts g c =
     let p = err_from_is_err_and c.from_residual-in_err-replies-in-InParts.result c.from_residual-in_err-replies-in-InParts.ensures.1 in
     let told = c.in_ok-dispatch.ensures in
+    let word : has_split_word c.args.cmd.now.args ≡ true = not_whole (has_split_word c.args.cmd.now.args) (rw c.in-InParts.is at told.whole) in
     let planned = rw c.in-InParts.is at (told.planned (λ k. cc k)) in
     let made = rw told.stays at c.in_err-replies-in-InParts.ensures in
     let order = option_map (λ (o : Bor (List ℕ)). o.now) c.args.order in
     rw (p.1, p.2) (command_ended _ _ _ (command_call c.args.cmd.now order c.args.number) c.args.cmd.now c.args.number order
-    (command_task c.args.cmd.now order c.args.number) (command_value c.args.cmd.now order c.args.number) (command_plain c.args.cmd.now order c.args.number) _ _ _ _ planned.planned planned.picked made refl)
+    (command_task c.args.cmd.now order c.args.number) (command_value c.args.cmd.now order c.args.number) (command_plain c.args.cmd.now order c.args.number) _ _ _ _ planned.planned planned.picked made refl
+    (λ lacks place. split_missing (command_call c.args.cmd.now order c.args.number) c.args.cmd.now c.args.number order (command_task c.args.cmd.now order c.args.number) word _))
 
 pub returns-in_ok-replies-in-InParts : goal.returns-in_ok-replies-in-InParts
 returns-in_ok-replies-in-InParts g c =
     let world = whole g.L.ConnectionLike.seen c.args.self.now in
     let told = c.in_ok-dispatch.ensures in
+    let word : has_split_word c.args.cmd.now.args ≡ true = not_whole (has_split_word c.args.cmd.now.args) (rw c.in-InParts.is at told.whole) in
     let planned = rw c.in-InParts.is at (told.planned (λ k. cc k)) in
     let made = rw told.stays at c.in_ok-replies-in-InParts.ensures in
     let order = option_map (λ (o : Bor (List ℕ)). o.now) c.args.order in
@@ -44,6 +51,7 @@ returns-in_ok-replies-in-InParts g c =
     command_ended _ _ _ (command_call c.args.cmd.now order c.args.number) c.args.cmd.now c.args.number order
     (command_task c.args.cmd.now order c.args.number) (command_value c.args.cmd.now order c.args.number) (command_plain c.args.cmd.now order c.args.number) _ _ _ _ planned.planned planned.picked made
     (c.reply_of_parts.ensures (client_of world) _ c.args.cmd.now order c.args.number _ planned.planned split count)
+    (λ lacks place. split_missing (command_call c.args.cmd.now order c.args.number) c.args.cmd.now c.args.number order (command_task c.args.cmd.now order c.args.number) word _)
 
 pub returns-in-Whole : goal.returns-in-Whole
 returns-in-Whole g c =
@@ -56,3 +64,4 @@ returns-in-Whole g c =
     command_ended _ _ _ (command_call c.args.cmd.now order c.args.number) c.args.cmd.now c.args.number order
     (command_task c.args.cmd.now order c.args.number) (command_value c.args.cmd.now order c.args.number) (command_plain c.args.cmd.now order c.args.number) _ _ _ _ planned.planned planned.picked made
     (whole_answer (client_of world) _ c.args.cmd.now order c.args.number _ planned.planned split (tree_result view c.follow_whole.result))
+    (whole_missing (command_call c.args.cmd.now order c.args.number) c.args.cmd.now c.args.number order (command_task c.args.cmd.now order c.args.number) _ _ _ (tree_result view c.follow_whole.result) made)

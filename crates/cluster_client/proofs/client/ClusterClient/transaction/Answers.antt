@@ -20,7 +20,7 @@ returns-in_err-from_redis_value-clause-answered g c =
 pub returns-in_err-reply-clause-room : goal.returns-in_err-reply-clause-room
 returns-in_err-reply-clause-room g c =
     let p = err_from_is_err_and c.from_residual.result c.from_residual.ensures.1 in
-    rw (p.1, p.2) (λ lacks some. let lack : c.in_err-reply.field-0.0 ≡ by_cause Memory = cc in lacks_late c.in_err-reply.ensures.made (inl (ap Err lack)) some)
+    rw (p.1, p.2) (λ lacks some. let lack : c.in_err-reply.field-0.0 ≡ by_cause Memory = cc in lacks_late c.in_err-reply.ensures.made.made (inl (ap Err lack)) some)
 
 pub returns-in_err-from_redis_value-clause-room : goal.returns-in_err-from_redis_value-clause-room
-returns-in_err-from_redis_value-clause-room g c e some = lacks_late c.in_ok-reply.ensures.made (inr (λ k. cc k)) some
+returns-in_err-from_redis_value-clause-room g c e some = lacks_late c.in_ok-reply.ensures.made.made (inr (λ k. cc k)) some

@@ -13,7 +13,7 @@ returns-in_err-reply-clause-happened g c strategy = (rw c.commands.ensures at (c
 pub returns-in_err-reply-clause-answered : goal.returns-in_err-reply-clause-answered
 returns-in_err-reply-clause-answered g c strategy =
     let p = err_from_is_err_and c.from_residual.result c.from_residual.ensures.1 in
-    rw (p.1, p.2) (record { reply = Err c.in_err-reply.field-0.0; made = rw c.commands.ensures at (c.in_err-reply.ensures strategy); converted = refl })
+    rw (p.1, p.2) (record { reply = Err c.in_err-reply.field-0.0; made = record { made = rw c.commands.ensures at (c.in_err-reply.ensures strategy); missing = λ lacks place. refl }; converted = refl })
 
 pub returns-in_err-from_redis_value-clause-happened : goal.returns-in_err-from_redis_value-clause-happened
 returns-in_err-from_redis_value-clause-happened g c strategy = (rw c.commands.ensures at (c.in_ok-reply.ensures strategy)).happened
@@ -24,11 +24,11 @@ returns-clause-happened g c strategy = (rw c.commands.ensures at (c.in_ok-reply.
 pub returns-in_err-from_redis_value-clause-answered : goal.returns-in_err-from_redis_value-clause-answered
 returns-in_err-from_redis_value-clause-answered g c strategy =
     let p = err_from_is_err_and c.from_residual-in_err-from_redis_value.result c.from_residual-in_err-from_redis_value.ensures.1 in
-    rw (p.1, p.2) (record { reply = Ok (view c.in_ok-reply.reply); made = rw c.commands.ensures at (c.in_ok-reply.ensures strategy); converted = unread_converts g.T.FromRedisValue.meaning g.T.FromRedisValue.convert _ c.in_err-from_redis_value.field-0.0 c.in_err-from_redis_value.ensures })
+    rw (p.1, p.2) (record { reply = Ok (view c.in_ok-reply.reply); made = record { made = rw c.commands.ensures at (c.in_ok-reply.ensures strategy); missing = λ lacks place. refl }; converted = unread_converts g.T.FromRedisValue.meaning g.T.FromRedisValue.convert _ c.in_err-from_redis_value.field-0.0 c.in_err-from_redis_value.ensures })
 
 pub returns-clause-answered : goal.returns-clause-answered
 returns-clause-answered g c strategy =
-    record { reply = Ok (view c.in_ok-reply.reply); made = rw c.commands.ensures at (c.in_ok-reply.ensures strategy); converted = search rules }
+    record { reply = Ok (view c.in_ok-reply.reply); made = record { made = rw c.commands.ensures at (c.in_ok-reply.ensures strategy); missing = λ lacks place. refl }; converted = search rules }
 
 pub returns-in_err-reply-clause-unpicked : goal.returns-in_err-reply-clause-unpicked
 returns-in_err-reply-clause-unpicked g c =
