@@ -59,6 +59,7 @@ pub record EachExchanged (old new : World) (gs : List Group) (came : List (Resul
 
 -- ---- the outcomes
 
+-- the outcomes of a pipeline's positions, or why nothing was sent
 abbrev pub outcomes_of : Result (Vec (Result Value Refusal) Global) Refusal
     → Result (List (Result Tree Refusal)) Refusal
 outcomes_of (Ok outcomes) = Ok (map (tree_result view) outcomes.items)

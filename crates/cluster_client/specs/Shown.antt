@@ -30,6 +30,7 @@ abbrev pub claimant_in : CodeClaimant → Claimant
 claimant_in c = record
     { key = c.key.items; group = c.group.items; consumer = c.consumer.items; min_idle = c.min_idle }
 
+-- the code's call
 abbrev pub call_in : CodeCall → Call
 call_in (calls.Refresh node) = Refresh (address node)
 call_in (calls.Query command number) = Query command number
@@ -73,5 +74,6 @@ abbrev pub answer_result : Result CodeAnswer Refusal → Result Answer Refusal
 answer_result (Ok answer) = Ok (answer_in answer)
 answer_result (Err refusal) = Err refusal
 
+-- what `play` shows of a call
 abbrev pub shown : CodePlayed → Shown
 shown p = record { answer = answer_result p.answer; log = p.asked.items }

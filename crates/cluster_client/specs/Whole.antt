@@ -6,6 +6,7 @@ use Rattle.cluster_calls.specs.Links.World.{World}
 use Rattle.cluster_steps.specs.Links.{nodes_of}
 use Rattle.cluster_client.specs.declared.client.ClusterClient.{ClusterClient}
 
+-- what a client stands for
 abbrev pub whole : {L : Type 0} → (L → Seen) → ClusterClient L → World
 whole seen client = record {
   nodes = nodes_of seen client.links;

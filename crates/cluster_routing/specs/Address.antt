@@ -12,6 +12,7 @@ pub record Address : Type 0 where
   pub host : List ℕ
   pub port : ℕ
 
+-- whether two addresses are one
 abbrev pub same_address : Address → Address → Bool
 same_address a b = bytes_eq a.host b.host && a.port == b.port
 

@@ -25,8 +25,10 @@ node_sets entries = map (λ e. e.1.1) entries
 abbrev pub node_list : Nodes → List Address
 node_list nodes = nodes.primary ∷ nodes.replicas
 
+-- the primaries of a slot map, each once and ascending
 abbrev pub all_primaries : SlotEntries → List Address
 all_primaries entries = ascending (map (λ n. n.primary) (node_sets entries))
 
+-- the nodes of a slot map, each once and ascending
 abbrev pub all_nodes : SlotEntries → List Address
 all_nodes entries = ascending (flat_map node_list (node_sets entries))

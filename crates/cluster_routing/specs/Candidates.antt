@@ -17,10 +17,12 @@ pub record AnyNodeOf : Type 0 where
   pub slot : ℕ
   pub nodes : Nodes
 
+-- a slot with its replicas, of which a strategy may choose
 pub record ReplicasOf : Type 0 where
   pub slot : ℕ
   pub replicas : List Address
 
+-- the slot whose nodes they are
 abbrev pub candidate_slot : Candidates → ℕ
 candidate_slot (any_node slot nodes) = slot
 candidate_slot (replicas_only slot replicas) = slot

@@ -15,6 +15,7 @@ role_place Master = 0
 role_place ReplicaOptional = 1
 role_place ReplicaRequired = 2
 
+-- the order of roles, by their places
 abbrev pub role_cmp : SlotAddr → SlotAddr → Ordering
 role_cmp a b = nat_cmp (role_place a) (role_place b)
 
@@ -22,11 +23,14 @@ role_cmp a b = nat_cmp (role_place a) (role_place b)
 abbrev pub route_cmp : Route → Route → Ordering
 route_cmp a b = ordering_then (nat_cmp a.slot b.slot) (role_cmp a.slot_addr b.slot_addr)
 
+-- what a slot feeds a hasher: its number
 abbrev pub hashed_slot : Slot → List (List ℕ)
 hashed_slot s = fed.u16 s.number
 
+-- what a role feeds a hasher: its place
 abbrev pub hashed_role : SlotAddr → List (List ℕ)
 hashed_role a = fed.isize (pos (role_place a))
 
+-- what a route feeds a hasher: its slot, then its role
 abbrev pub hashed_route : Route → List (List ℕ)
 hashed_route r = fed.u16 r.slot ++ hashed_role r.slot_addr

@@ -15,6 +15,8 @@ one_direction (Some (to_route route)) = Slot route
 one_direction (Some to_any_node) = AnyNode
 one_direction _ = Elsewhere
 
+-- Where a command goes, as far as one look into the table tells: to the slots of its keys where its word is
+-- split by them, to a slot, to any node, or elsewhere.
 abbrev pub direction : Args → List (List ℕ) → Direction
 direction args read_only = if has_split_word args then SplitByKeys else one_direction (destination args read_only)
 

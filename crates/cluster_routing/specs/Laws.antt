@@ -65,6 +65,7 @@ pub record OneRange (V : Type 0) : Type 0 where
 abbrev pub is_routed_by : Rule → List ℕ → Bool
 is_routed_by rule name = same_rule (rule_of name true) rule && same_rule (rule_of name false) rule
 
+-- each name of the table is routed by its own row
 abbrev pub EachNameHasItsRow : Type 0
 EachNameHasItsRow = list_all (λ (r : Row). list_all (is_routed_by r.rule) r.names) table ≡ true
 

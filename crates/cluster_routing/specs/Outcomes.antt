@@ -14,6 +14,7 @@ use Rattle.cluster_routing.specs.declared.address.NodeAddress.{NodeAddress}
 abbrev pub outcome_of : NodeAddress × Result Value Refusal → Outcome
 outcome_of o = (address o.0, tree_or_refusal o.1)
 
+-- what the code's outcomes stand for
 abbrev pub outcomes_of : List (NodeAddress × Result Value Refusal) → List Outcome
 outcomes_of os = map outcome_of os
 

@@ -9,7 +9,7 @@ use Rattle.cluster_routing.specs.declared.policy.MultiSlotArgPattern.TheVariants
 abbrev pub Tuple : Type 0
 Tuple = List (List ℕ)
 
--- how many arguments a tuple has
+-- how many arguments a tuple has: a key alone, or with one or two that belong to it
 abbrev pub width_of : MultiSlotArgPattern → ℕ
 width_of KeysOnly = 1
 width_of KeyValuePairs = 2

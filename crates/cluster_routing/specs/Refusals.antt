@@ -12,6 +12,7 @@ IsUnread read (by_cause UnreadableAddress) = read ≡ None
 IsUnread read (by_cause Memory) = IsSome read
 IsUnread read _ = ⊥
 
+-- what reading the address that a text spells answers: the text is cut at its last colon
 abbrev pub Reads : Option Address → Result NodeAddress Refusal → Type 0
 Reads read (Ok a) = read ≡ Some (address a)
 Reads read (Err e) = IsUnread read e

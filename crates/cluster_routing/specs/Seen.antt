@@ -9,6 +9,7 @@ use Rattle.cluster_routing.specs.declared.address.NodeAddress.{NodeAddress}
 abbrev pub address : NodeAddress → Address
 address a = record { host = string_bytes a.host; port = a.port }
 
+-- what several addresses stand for
 abbrev pub addresses : List NodeAddress → List Address
 addresses as' = map address as'
 

@@ -77,5 +77,6 @@ abbrev pub rows_in : List ℕ → Option (List Tree) → List Range
 rows_in asked None = []
 rows_in asked (Some rows) = listed_ranges asked rows
 
+-- the ranges that a reply to CLUSTER SLOTS lists, asked of the node with this host
 abbrev pub ranges : Tree → List ℕ → List Range
 ranges reply asked = rows_in asked (array_items reply)

@@ -94,6 +94,7 @@ rule_in (r ∷ rs) name other = if is_one_of r.names name then r.rule else rule_
 abbrev pub other_rule : Bool → Rule
 other_rule family = if family then nowhere else key_at 1
 
+-- the rule of a name
 unfoldable pub rule_of : List ℕ → Bool → Rule
 rule_of name family = rule_in table name (other_rule family)
 

@@ -26,7 +26,7 @@ put_shards entries (s ∷ ss) = put_shards (put_ranges entries s.ranges s) ss
 abbrev pub shard_at : ℕ → List ShardOf → Option ShardOf
 shard_at slot shards = value_at slot (put_shards [] shards)
 
--- the same with the shard's place, counted from n
+-- the shard's place for each of its slots, counted from n
 abbrev pub put_places : ℕ → List (Entry ℕ) → List ShardOf → List (Entry ℕ)
 put_places n entries [] = entries
 put_places n entries (s ∷ ss) = put_places (suc n) (put_ranges entries s.ranges n) ss

@@ -12,12 +12,12 @@ use Rattle.resp_core.specs.declared.value.write.WriteError.TheVariants.{TooLarge
 use Rattle.cluster_servers.specs.declared.reply.Reply.{Reply}
 use Rattle.cluster_servers.specs.declared.reply.Reply.TheVariants.{Written, Unwritten}
 
--- what it takes of a guest's share
+-- what a reply takes of a guest's share
 abbrev pub reply_bytes : Reply → ℕ
 reply_bytes (Written bytes) = vec_len bytes
 reply_bytes (Unwritten why) = 0
 
--- the bytes that its guest reads
+-- the bytes that a guest reads: those of the reply, or a line that says that it can not be written
 abbrev pub guest_bytes : Reply → List ℕ
 guest_bytes (Written bytes) = bytes.items
 guest_bytes (Unwritten why) = codes "-ERR proxy: the reply can not be written\r\n"
@@ -55,7 +55,8 @@ abbrev pub IsRefusedBy : Protocol → Option Cause → List (ℕ × ErrorText) �
 IsRefusedBy protocol (Some cause) errors reply = IsLine (line_by cause) reply
 IsRefusedBy protocol None errors reply = IsErrorIn protocol errors reply
 
--- what a guest reads of a command of which this was told
+-- What a guest reads of a command of which this was told: the reply in its protocol, a server's error, or a
+-- line of the proxy's own; memory aside.
 abbrev pub IsReplyTo : Protocol → Result Tree Refusal → Reply → Type 0
 IsReplyTo protocol (Ok tree) reply = IsWritten protocol tree reply
 IsReplyTo protocol (Err refusal) reply =

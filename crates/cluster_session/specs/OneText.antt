@@ -22,6 +22,7 @@ abbrev pub MemoryWasThere : {session : Session} {output : List ℕ} → PrintsRu
 MemoryWasThere run = HadMemory run.plays.run × LinksHadMemory run.plays.is_run.events
     × HadRoom run.after.nodes
 
+-- two runs of a session without a `fault` line print the same text, memory aside
 abbrev pub OneText : Type 0
 OneText = (session : Session) (output output' : List ℕ) (p : PrintsRun session output)
     (q : PrintsRun session output')

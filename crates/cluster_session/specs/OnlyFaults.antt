@@ -34,6 +34,8 @@ RefuseOnlyFaults (s ∷ ss) (n ∷ ns) =
     × RefuseOnlyFaults ss ns
 RefuseOnlyFaults _ _ = ⊥
 
+-- Over each link of a session only the read and the write were refused that its `fault` lines name, or a write
+-- for want of room.
 abbrev pub OnlyFaults : Type 0
 OnlyFaults = (session : Session) (output : List ℕ) (p : PrintsRun session output)
     → RefuseOnlyFaults session.nodes p.after.nodes

@@ -14,6 +14,7 @@ use Rattle.cluster_steps.specs.declared.route.Targets.TheVariants as targets
 use Rattle.cluster_calls.specs.Calls.Parts.{Part, Target, at_slot, is_gap, part_to, parts_of}
 use Rattle.cluster_steps.specs.FirstPlaces.{part_of, target_of}
 
+-- the parts that the code found for a command, or why it found none
 abbrev pub parts_by : Result CodeParts Refusal → Result (List Part) Refusal
 parts_by (Ok parts) = Ok (map part_of parts.list.items)
 parts_by (Err refusal) = Err refusal
@@ -23,6 +24,7 @@ abbrev pub part_targets : Result (List Part) Refusal → Result (List Target) Re
 part_targets (Ok parts) = Ok (map (λ (part : Part). part.target) parts)
 part_targets (Err refusal) = Err refusal
 
+-- how the code splits a command, none where it goes whole
 abbrev pub split_in : CodeTargets → Option SplitParts
 split_in (targets.Whole target) = None
 split_in (targets.Split split) = Some split
@@ -34,6 +36,7 @@ abbrev pub targets_in : CodeTargets → List Target
 targets_in (targets.Whole target) = target_of target ∷ []
 targets_in (targets.Split split) = map route_target (shown_parts split.routes.items)
 
+-- where the code lets the parts of a command go, or why nowhere
 abbrev pub targets_by : Result CodeTargets Refusal → Result (List Target) Refusal
 targets_by (Ok made) = Ok (targets_in made)
 targets_by (Err refusal) = Err refusal

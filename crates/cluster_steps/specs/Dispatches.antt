@@ -19,6 +19,7 @@ use Rattle.cluster_calls.specs.Calls.Call.{Call}
 use Rattle.cluster_calls.specs.Calls.Plan.{Client, Dispatch, dispatches, plan}
 use Rattle.cluster_calls.specs.Calls.Picks.{ArePartPicks, ArePicks}
 
+-- a client by its settings, its slot map and its open links
 abbrev pub client_with : Settings → SlotEntries → List Node → Client
 client_with settings entries all = record { settings = settings; entries = entries; links = open_links all }
 
@@ -26,10 +27,12 @@ client_with settings entries all = record { settings = settings; entries = entri
 abbrev pub dispatch_of : CodeDispatch → Dispatch
 dispatch_of d = record { node = address d.place.node; args = texts d.args.items }
 
+-- the code's dispatches, or why there are none
 abbrev pub dispatches_of : Result (Vec CodeDispatch Global) Refusal → Result (List Dispatch) Refusal
 dispatches_of (Ok ds) = Ok (map dispatch_of ds.items)
 dispatches_of (Err refusal) = Err refusal
 
+-- the only dispatch, or why there is none
 abbrev pub one_dispatch : Result CodeDispatch Refusal → Result (List Dispatch) Refusal
 one_dispatch (Ok d) = Ok (dispatch_of d ∷ [])
 one_dispatch (Err refusal) = Err refusal

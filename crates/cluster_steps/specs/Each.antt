@@ -15,7 +15,7 @@ abbrev pub replies_or_cause : Result (Vec Value Global) Cause → Result (List T
 replies_or_cause (Ok replies) = Ok (map view replies.items)
 replies_or_cause (Err cause) = Err cause
 
--- those that were not told yet
+-- the replies of a node that were not told yet, or why none are told
 abbrev pub left_or_cause : {Q : Type 0} → (Q → List Value) → Result Q Cause → Result (List Tree) Cause
 left_or_cause items (Ok replies) = Ok (map view (items replies))
 left_or_cause items (Err cause) = Err cause
@@ -37,7 +37,7 @@ without_next (Err cause) = Err cause
 abbrev pub without_next_from : ℕ → (ℕ → Result (List Tree) Cause) → ℕ → Result (List Tree) Cause
 without_next_from k came n = if n == k then without_next (came n) else came n
 
--- the same for one number after another
+-- what is told of one number after another, and what is left
 abbrev pub told_each : List ℕ → (ℕ → Result (List Tree) Cause) → List (Result Tree Refusal)
 told_each [] came = []
 told_each (k ∷ ks) came = next_outcome (came k) ∷ told_each ks (without_next_from k came)

@@ -37,6 +37,7 @@ abbrev pub part_by : List (List ℕ) → Option Target → Result (List Part) Re
 part_by args None = Err (by_cause NoRoute)
 part_by args (Some target) = Ok (part_to args target ∷ [])
 
+-- what a part of the code stands for
 abbrev pub part_of : CodePart → Part
 part_of part = record { target = target_of part.target; args = texts part.args.items }
 
@@ -53,7 +54,7 @@ abbrev pub node_by_place : Option Address → Result Address Refusal
 node_by_place None = Err (by_cause NoNode)
 node_by_place (Some node) = Ok node
 
--- the same, where an open link leads to it
+-- the node that a target leads to: refused where no node serves it, and where no open link leads to it
 abbrev pub node_with_link : List Address → Option First → Result Address Refusal
 node_with_link links None = Err (by_cause NoNode)
 node_with_link links (Some first) = if is_linked links first.node then Ok first.node

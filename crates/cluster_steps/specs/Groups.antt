@@ -20,9 +20,11 @@ group_of g = record { which = g.which; requests = g.requests.items }
 abbrev pub gathered_of : Gathered → Group
 gathered_of g = record { which = g.which; requests = g.requests.items }
 
+-- the place of the link that a dispatch goes over
 abbrev pub place_in : CodeDispatch → ℕ
 place_in d = d.place.which
 
+-- the request that a dispatch sends
 abbrev pub request_in : CodeDispatch → Request
 request_in d = record { node = address d.place.node; args = texts d.args.items; asking = d.place.asking }
 

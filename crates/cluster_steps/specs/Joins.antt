@@ -14,6 +14,7 @@ use Rattle.cluster_steps.specs.declared.join.Join.{Join}
 
 -- ---- fates
 
+-- a fate of the code, as that of a position
 abbrev pub fate_in : Fate → told.Fate
 fate_in fates.Answered = answered
 fate_in fates.Redirected = redirected
@@ -28,6 +29,7 @@ IsTold (Err _) = ⊥
 
 -- ---- the code's joins
 
+-- how a join's command is split
 abbrev pub shown_join : Join → PartsByPlace
 shown_join j = shown_split j.split
 
@@ -59,10 +61,12 @@ IsOutcomeBy (Some p) os outcome = IsJoinedBy p os outcome
 
 -- ---- one position after another
 
+-- how many parts several commands have
 abbrev pub width_of_all : List (Option PartsByPlace) → ℕ
 width_of_all [] = 0
 width_of_all (p ∷ ps) = width_by p + width_of_all ps
 
+-- the outcomes of commands, of those of their parts, by the places of the parts
 abbrev pub AreOutcomesBy : List (Option PartsByPlace) → List (Result Tree Refusal)
     → List (Result Tree Refusal) → Type 0
 AreOutcomesBy [] os [] = os ≡ []

@@ -11,6 +11,7 @@ abbrev pub list_or_none : {T : Type 0} → Option (List T) → List T
 list_or_none None = []
 list_or_none (Some xs) = xs
 
+-- the queue of a place
 abbrev pub queue_in : {T : Type 0} → List (List T) → ℕ → List T
 queue_in queues k = list_or_none (slice_get queues k)
 
@@ -19,5 +20,6 @@ abbrev pub queued : {T : Type 0} → (ℕ → List T) → List (ℕ × List T) �
 queued queues [] = queues
 queued queues (a ∷ answers) = queued (λ n. if n == a.0 then a.1 else queues n) answers
 
+-- empty queues
 abbrev pub no_queues : {T : Type 0} → ℕ → List T
 no_queues n = []

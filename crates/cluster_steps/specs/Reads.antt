@@ -21,6 +21,7 @@ use Rattle.cluster_steps.specs.declared.read_parts.Stream.{Stream as CodeStream}
 abbrev pub stream_of : CodeStream → Stream
 stream_of s = record { key = s.key.items; id = s.id.items }
 
+-- the code's streams
 abbrev pub streams_in : List CodeStream → List Stream
 streams_in streams = map stream_of streams
 
@@ -61,7 +62,8 @@ abbrev pub joined_at : List (List ℕ) → List (List ℕ) → List (List Row) �
 joined_at keys places records = if are_of_one_slot keys then Some (all_rows records)
     else join keys places records
 
--- the same of the replies to the parts
+-- The rows from the replies to parts that have these places: of one slot as they were read, else joined in the
+-- order of the keys.
 abbrev pub rows_at : List (List ℕ) → List (List ℕ) → List Tree → Option (List Row)
 rows_at keys places replies = option_and_then (joined_at keys places) (traverse read_reply replies)
 

@@ -48,7 +48,9 @@ IsInTime w t is_refused fault (pendings.Words words) = (w.has_ended t ≡ false)
 IsInTime w t is_refused fault (pendings.Fault f) = (fault ≡ Some f) × (is_refused ≡ false)
 IsInTime w t is_refused fault _ = Unit {0}
 
--- The connection c of a guest whose queue is q, and of which this was seen.
+-- The connection c of a guest whose queue is q, and of which this was seen: the commands that were read of its
+-- bytes were understood so and came into the queue in order, and what was written is the replies that were
+-- taken of it, each whole, but for the rest of the last.
 pub record Serves {T C V : Type 0} (w : Ways T C V) (c : Connection T C V) (q : List (Entry C V))
     (h : History T C V) : Type 0 where
   pub commands : List Command

@@ -14,6 +14,7 @@ pub record Ways (T C V : Type 0) : Type 1 where
   pub refuses : T → Fault → V → Type 0
   pub has_ended : T → Bool
 
+-- how words are understood and replies written, in one
 abbrev pub ways : {T C V : Type 0} → (C → C → Bool) → (V → List ℕ) → (T → Command → Entry C V → T → Type 0)
     → (T → Fault → V → Type 0) → (T → Bool) → Ways T C V
 ways overlaps written translates refuses has_ended = record {

@@ -8,7 +8,7 @@ use Rattle.proxy_core.specs.declared.guest.Guest.{Guest}
 abbrev pub Queues : Type 0 → Type 0 → Type 0
 Queues C V = List (List (Entry C V))
 
--- those of these guests
+-- the queues of guests
 abbrev pub queues : {C V : Type 0} → List (Guest C V) → Queues C V
 queues {C} {V} guests = map (λ (g : Guest C V). g.entries.items) guests
 
@@ -35,7 +35,7 @@ abbrev pub entry_bytes : {C V : Type 0} → (C → ℕ) → (V → ℕ) → Entr
 entry_bytes command reply (Waits c) = command c
 entry_bytes command reply (Reads v) = reply v
 
--- and a queue
+-- how many bytes a queue takes
 abbrev pub queue_bytes : {C V : Type 0} → (C → ℕ) → (V → ℕ) → List (Entry C V) → ℕ
 queue_bytes command reply [] = 0
 queue_bytes command reply (e ∷ es) = entry_bytes command reply e + queue_bytes command reply es

@@ -25,7 +25,7 @@ only g more histories n = cond (g == n) (more (histories n)) (histories n)
 abbrev pub joined : {T C V : Type 0} → ℕ → Limits → T → Histories T C V → Histories T C V
 joined g limits t = only g (λ o. Some (beginning limits t))
 
--- it sent these bytes
+-- guest g sent these bytes
 abbrev pub heard : {T C V : Type 0} → ℕ → List ℕ → Histories T C V → Histories T C V
 heard g bytes = only g (option_map (λ h. fed_more h bytes))
 
@@ -37,7 +37,7 @@ entered g e = only g (option_map (λ h. then h (Came e)))
 abbrev pub wrote : {T C V : Type 0} → ℕ → List ℕ → Histories T C V → Histories T C V
 wrote g bytes = only g (option_map (λ h. written_more h bytes))
 
--- it left
+-- guest g left
 abbrev pub left : {T C V : Type 0} → ℕ → Histories T C V → Histories T C V
 left g = only g (λ o. None)
 

@@ -18,7 +18,8 @@ IsServed w g None is_there q None = (is_there ≡ false) × (q ≡ [])
 IsServed w g (Some c) is_there q None = ⊥
 IsServed w g None is_there q (Some h) = ⊥
 
--- at every number
+-- At each number there is the connection of that guest, which serves what was seen of it, or neither guest nor
+-- connection, and nothing is held.
 abbrev pub AreServed : {T C V : Type 0} → Ways T C V → State T C V → Histories T C V → Type 0
 AreServed w state histories = (g : ℕ) → IsServed w g (connection_at state.connections g)
     (is_open_at state.proxy.openings g) (queue_at state.proxy.queues g) (histories g)
@@ -33,6 +34,6 @@ AllGo {T} {C} {V} w old new more =
 abbrev pub AllStay : {T C V : Type 0} → Ways T C V → State T C V → State T C V → Type 0
 AllStay w old new = AllGo w old new (λ histories. histories)
 
--- so it is whatever was seen of each guest
+-- whatever was seen of each guest before
 abbrev pub Always : {T C V : Type 0} → Ways T C V → State T C V → (Histories T C V → Type 0) → Type 0
 Always {T} {C} {V} w state is_so = (histories : Histories T C V) → AreServed w state histories → is_so histories

@@ -19,6 +19,7 @@ abbrev pub state_from : {T C V : Type 0} → List (Option (Connection T C V)) �
 state_from connections guests shares limits =
     record { connections = connections; proxy = seen.state_of guests shares; limits = limits }
 
+-- what a frontend stands for
 abbrev pub state_of : {T C V : Type 0} {command : _} {reply : _} → Frontend T C V command reply → State T C V
 state_of f = state_from f.connections.items f.proxy.guests.items f.proxy.limits f.limits
 

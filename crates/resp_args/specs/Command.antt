@@ -3,6 +3,8 @@
 use Rattle.std.specs.Prelude.{ℕ, List, [], Option, None, Bool, false}
 use Rattle.resp_args.specs.declared.cmd.Arg.{Arg}
 
+-- A command: its arguments, each of them bytes or a gap for a cursor; the number for the gaps; and whether no
+-- response is wanted.
 pub record Command : Type 0 where
   pub args : List (Arg (List ℕ))
   pub cursor : Option ℕ

@@ -17,7 +17,7 @@ Answers meaning wanted (Ok value) = wanted ≡ Some (meaning value)
 Answers meaning wanted (Err (refused text)) = wanted ≡ None
 Answers meaning wanted (Err no_memory) = ⊤
 
--- the tree behind its attributes
+-- The tree behind its attributes. Every conversion looks there, but those of tuples, of `Value` and of `()`.
 abbrev pub plain : Tree → Tree
 plain (attribute inner attributes) = plain inner
 plain t = t
@@ -144,6 +144,7 @@ abbrev pub lone_pair : {M N : Type 0} → (Tree → Option M) → (Tree → Opti
 lone_pair f g (p ∷ []) = both (f p.0) (g p.1)
 lone_pair f g ps = None
 
+-- an array of two items, or a map of one pair
 abbrev pub tuple2 : {M N : Type 0} → (Tree → Option M) → (Tree → Option N) → Tree → Option (M × N)
 tuple2 f g (array ts) = pair_of f g (items ts)
 tuple2 f g (map ps) = lone_pair f g (pair_list ps)
@@ -158,6 +159,7 @@ abbrev pub triple_of : {M N O : Type 0} → (Tree → Option M) → (Tree → Op
 triple_of f g h (a ∷ b ∷ c ∷ []) = three (f a) (g b) (h c)
 triple_of f g h ts = None
 
+-- an array of three items
 abbrev pub tuple3 : {M N O : Type 0} → (Tree → Option M) → (Tree → Option N) → (Tree → Option O) → Tree
     → Option (M × N × O)
 tuple3 f g h (array ts) = triple_of f g h (items ts)
@@ -172,6 +174,7 @@ abbrev pub quadruple_of : {M N O P : Type 0} → (Tree → Option M) → (Tree �
 quadruple_of f g h k (a ∷ b ∷ c ∷ d ∷ []) = four (f a) (g b) (h c) (k d)
 quadruple_of f g h k ts = None
 
+-- an array of four items
 abbrev pub tuple4 : {M N O P : Type 0} → (Tree → Option M) → (Tree → Option N) → (Tree → Option O)
     → (Tree → Option P) → Tree → Option (M × N × O × P)
 tuple4 f g h k (array ts) = quadruple_of f g h k (items ts)

@@ -22,6 +22,7 @@ fits_signed bits (negsuc n) = nat_lt n (2 ^ (bits - 1))
 abbrev pub unsigned_number : ℕ → ℤ → Option ℤ
 unsigned_number bits z = if fits_unsigned bits z then Some z else None
 
+-- the integer, where so many bits hold it
 abbrev pub signed_number : ℕ → ℤ → Option ℤ
 signed_number bits z = if fits_signed bits z then Some z else None
 
@@ -32,6 +33,7 @@ unsigned_text bits bs =
     if is_numeral digits && nat_lt (digits_value 10 digits) (2 ^ bits)
     then Some (pos (digits_value 10 digits)) else None
 
+-- the integer of so many bits that a text spells
 abbrev pub signed_text : ℕ → List ℕ → Option ℤ
 signed_text bits bs =
     if is_numeral (without_leading_sign bs) && fits_signed bits (signed_digits_value 10 bs)

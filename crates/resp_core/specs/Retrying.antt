@@ -18,6 +18,7 @@ retry_by_server servers.ClusterDown = methods.WaitAndRetry
 retry_by_server servers.MasterDown = methods.WaitAndRetry
 retry_by_server _ = methods.NoRetry
 
+-- how a refused call may be tried again, by its kind
 abbrev pub retry_by_kind : ErrorKind → RetryMethod
 retry_by_kind (kinds.Server kind) = retry_by_server kind
 retry_by_kind kinds.ClusterConnectionNotFound = methods.ReconnectFromInitialConnections

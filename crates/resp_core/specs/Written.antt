@@ -200,7 +200,7 @@ attribute_form Resp2 t ps = t
 attribute_form Resp3 t ps = attribute t ps
 
 unfoldable mutual
-  -- the tree that is read of what is written
+  -- the tree that is read of what is written: in RESP2 one without the types that it has not
   pub form : Protocol → Tree → Tree
   form p nil = nil
   form p (int n) = int n
@@ -280,7 +280,8 @@ unfoldable mutual
   fits_pairs p left (pair k v ps) = (nat_lt 0 left && fits_in p (left - 1) k)
       && ((nat_lt 0 left && fits_in p (left - 1) v) && fits_pairs p left ps)
 
--- the tree can be written where values may nest so deep
+-- The tree can be written where values may nest so deep: the kind of a push and the value of an attribute each
+-- stand one level below it, and no part has 2^62 bytes or values or more.
 abbrev pub fits : Protocol → ℕ → Tree → Bool
 fits p limit t = nat_lt 0 limit && fits_in p (limit - 1) t
 

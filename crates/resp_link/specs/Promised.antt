@@ -22,6 +22,8 @@ pub data WhyRefused (old new : Seen) (refusal : Refusal) : Type 0 where
       → WhyRefused old new refusal
   no_memory : refusal ≡ by_cause Memory → WhyRefused old new refusal
 
+-- Over devices that promise to refuse none a call is refused only where the link was closed, a write found no
+-- room, the bytes end, 2^32 reads gave too few of them, the bytes are faulty, or memory was refused.
 abbrev pub FaultsHaveACause : Type 0
 FaultsHaveACause = (old new : Seen) (bytes : List ℕ) (wanted : ℕ) (refusal : Refusal)
     → old.counts.promise ≡ refuses_none → old.write_counts.promise ≡ refuses_none

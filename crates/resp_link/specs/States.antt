@@ -3,11 +3,13 @@ use Rattle.std.specs.Prelude.{Bool, true, false}
 use Rattle.resp_link.specs.declared.byte_link.State.{State}
 use Rattle.resp_link.specs.declared.byte_link.State.TheVariants.{Open, Owing, Closed}
 
+-- a call may be made
 abbrev pub is_open : State → Bool
 is_open Open = true
 is_open Owing = false
 is_open Closed = false
 
+-- replies are owed, and nothing but these may be taken
 abbrev pub is_owing : State → Bool
 is_owing Open = false
 is_owing Owing = true

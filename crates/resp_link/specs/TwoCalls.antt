@@ -34,6 +34,9 @@ pub data SendRefused (old new : Seen) (bytes : List ℕ) (refusal : Refusal) : T
   closed : old.usable ≡ false → new ≡ old → refusal ≡ by_cause NoLink → SendRefused old new bytes refusal
   sending : SendFails old new bytes → refusal ≡ by_cause Io → SendRefused old new bytes refusal
 
+-- What a sending did: the bytes went out and were flushed, nothing was read, and the link owes replies; or it
+-- was refused: the link was not open and nothing was touched, or a write or flush failed behind a front of the
+-- bytes, and the link is closed and owes nothing.
 abbrev pub Sends : {T : Type 0} → Seen → Seen → List ℕ → Result T RedisError → Type 0
 Sends old new bytes result = MatchResult result (λ _. ComesToOwe old new bytes)
     (λ e. SendRefused old new bytes e)
@@ -71,6 +74,9 @@ pub data ReceiveRefused (old new : Seen) (wanted : ℕ) (refusal : Refusal) : Ty
       → ReceiveRefused old new wanted refusal
   receiving : LacksOwed old new wanted refusal → ReceiveRefused old new wanted refusal
 
+-- What a taking of owed replies did: nothing was written, the replies are the answer, and the link is open
+-- again; or it was refused: the link owed nothing and nothing was touched, or fewer replies came than wanted,
+-- and the link is closed and owes nothing.
 abbrev pub Receives : Seen → Seen → ℕ → Result (Vec Value Global) RedisError → Type 0
 Receives old new count result = MatchResult result
     (λ replies. TakesOwed old new 0 count (map view replies.items))

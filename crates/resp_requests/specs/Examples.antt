@@ -31,6 +31,7 @@ ArraysOfBulks =
     × Reads (codes "*0\r\n*-1\r\n*1\r\n$4\r\nPING\r\n") (ping ∷ []) []
     × Reads (codes "*1\r\n$4\r\nPINGxyPING\r\n") (ping ∷ ping ∷ []) []
 
+-- each part of an array that is none is told, behind the commands before it
 abbrev pub BadArrays : Type 0
 BadArrays =
     Refuses (codes "PING\r\n*x\r\nPING\r\n") (ping ∷ []) BadCount
@@ -47,6 +48,7 @@ Words =
     × Refuses (codes "ECHO 12345678901234567890123456") [] LongInline
     × Refuses (codes "PING\r\nPING" ++ 0 ∷ []) (ping ∷ []) ZeroByte
 
+-- double quotes have escapes, single ones only that of a quote, and behind either a blank stands
 abbrev pub Quotes : Type 0
 Quotes =
     Reads (codes "ECHO \"a \\x41\\q\\\"\"\r\n") (echo (codes "a Aq\"") ∷ []) []

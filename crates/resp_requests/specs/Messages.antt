@@ -11,6 +11,7 @@ shown b = if b == 13 || b == 10 then 32 else b
 abbrev pub no_dollar : ℕ → List ℕ
 no_dollar b = codes "Protocol error: expected '$', got '" ++ shown b ∷ codes "'"
 
+-- the text by which a server refuses: that of Redis, but for a zero byte
 abbrev pub message : Fault → List ℕ
 message LongInline = codes "Protocol error: too big inline request"
 message LongCount = codes "Protocol error: too big mbulk count string"

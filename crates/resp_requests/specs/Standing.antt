@@ -28,6 +28,7 @@ going reader more =
 abbrev pub told : RequestReader → Option Fault
 told reader = reader.fault
 
+-- the limits of a reader
 abbrev pub limits_of : RequestReader → Limits
 limits_of reader = reader.limits
 

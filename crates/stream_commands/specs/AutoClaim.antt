@@ -12,6 +12,7 @@ pub record Claimed : Type 0 where
   pub entries : List Entry
   pub some_invalid : Bool
 
+-- where to go on, what was claimed, and ids that are gone
 pub record AutoClaim : Type 0 where
   pub next : List ℕ
   pub claimed : Claimed
@@ -45,6 +46,7 @@ entries_by_first (Some other) t = None
 abbrev pub claimed_from : List Tree → List Entry → Claimed
 claimed_from ts es = record { entries = es; some_invalid = nat_lt (length es) (length ts) }
 
+-- what the second item of a reply tells as claimed
 abbrev pub claimed : Tree → Option Claimed
 claimed (array ts) = option_map (claimed_from (items ts))
     (entries_by_first (first_no_null (items ts)) (array ts))
@@ -60,6 +62,7 @@ autoclaim_of (next ∷ list ∷ deleted ∷ []) =
     Some autoclaim and a_text next and claimed list and list_of a_text deleted
 autoclaim_of ts = None
 
+-- what a reply to XAUTOCLAIM is read as
 abbrev pub autoclaim_reply : Tree → Option AutoClaim
 autoclaim_reply (array ts) = autoclaim_of (items ts)
 autoclaim_reply t = None

@@ -29,6 +29,7 @@ ids_with_fields = named some_fields
 abbrev pub without_times : List ℕ × Fields → Entry
 without_times e = record { id = e.0; fields = e.1; milliseconds = None; deliveries = None }
 
+-- entries in standard form: ids, each with its fields
 abbrev pub entries : Tree → Option (List Entry)
 entries t = option_map (flat_map (each without_times)) (list_of ids_with_fields t)
 
@@ -40,5 +41,6 @@ claimed_entry = tuple4 a_text some_fields (perhaps a_count) (perhaps a_count)
 abbrev pub with_times : List ℕ × Fields × Option ℤ × Option ℤ → Entry
 with_times e = record { id = e.0; fields = e.1; milliseconds = e.2; deliveries = e.3 }
 
+-- entries in claim form: id, fields, milliseconds and deliveries side by side
 abbrev pub claimed_entries : Tree → Option (List Entry)
 claimed_entries t = option_map (each with_times) (list_of claimed_entry t)

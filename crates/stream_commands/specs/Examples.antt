@@ -96,6 +96,7 @@ XreadWrites =
     × Writes (xread read_plainly (codes "STREAMS" ∷ []) (codes "0" ∷ [])) (codes "XREAD STREAMS STREAMS 0")
     (codes "XREAD STREAMS 0 STREAMS")
 
+-- the first id stands before the last one
 abbrev pub XrangeWrites : Type 0
 XrangeWrites = Writes (xrange (codes "mystream") (codes "1-0") (codes "2-0"))
     (codes "XRANGE mystream 1-0 2-0") (codes "XRANGE mystream 2-0 1-0")
@@ -115,6 +116,7 @@ XautoclaimWrites = Writes
     (codes "XAUTOCLAIM mystream mygroup Alice 3600000 0-0 COUNT 25 JUSTID")
     (codes "XAUTOCLAIM mystream mygroup Alice 0-0 3600000 COUNT 25 JUSTID")
 
+-- the key stands before the group
 abbrev pub XpendingWrites : Type 0
 XpendingWrites = Writes (xpending (codes "mystream") (codes "mygroup")) (codes "XPENDING mystream mygroup")
     (codes "XPENDING mygroup mystream")

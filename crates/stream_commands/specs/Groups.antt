@@ -6,6 +6,7 @@ use Rattle.stream_commands.specs.Shapes.{list_of, ◌and◌}
 use Rattle.stream_commands.specs.Entries.{Fields, some_fields}
 use Rattle.stream_commands.specs.UnderNames.{text_at, count_at, perhaps_at}
 
+-- a group of a stream
 pub record Group : Type 0 where
   pub name : List ℕ
   pub consumers : ℤ
@@ -14,6 +15,7 @@ pub record Group : Type 0 where
   pub entries_read : Option ℤ
   pub lag : Option ℤ
 
+-- a group of these
 abbrev pub group : List ℕ → ℤ → ℤ → List ℕ → Option ℤ → Option ℤ → Group
 group name consumers pending last_delivered entries_read lag = record {
   name = name;
@@ -34,8 +36,10 @@ group_of fields =
     and perhaps_at (codes "entries-read") fields
     and perhaps_at (codes "lag") fields
 
+-- a group that a reply lists
 abbrev pub a_group : Tree → Option Group
 a_group t = option_and_then group_of (some_fields t)
 
+-- what a reply to XINFO GROUPS is read as
 abbrev pub groups_reply : Tree → Option (List Group)
 groups_reply = list_of a_group

@@ -16,9 +16,11 @@ use Rattle.stream_commands.specs.declared.records.pending_count.StreamPendingId.
 use Rattle.stream_commands.specs.declared.records.stream_info.StreamInfoStreamReply.{StreamInfoStreamReply}
 use Rattle.stream_commands.specs.declared.records.stream_info.StreamInfoStreamReplyWithIdempotency.{StreamInfoStreamReplyWithIdempotency}
 
+-- what a consumer in a reply to XINFO CONSUMERS stands for
 abbrev pub consumer_view : StreamInfoConsumer → Consumer
 consumer_view c = record { name = string_bytes c.name; pending = pos c.pending; idle = pos c.idle }
 
+-- what a group in a reply to XINFO GROUPS stands for
 abbrev pub group_view : StreamInfoGroup → Group
 group_view g = record {
   name = string_bytes g.name;
@@ -32,6 +34,7 @@ group_view g = record {
 abbrev pub pair_view : String Global × String Global → List ℕ × List ℕ
 pair_view p = (string_bytes p.0, string_bytes p.1)
 
+-- what the data of pending entries stand for
 abbrev pub pending_data_view : StreamPendingData → PendingData
 pending_data_view d = record {
   count = pos d.count;
@@ -40,6 +43,7 @@ pending_data_view d = record {
   consumers = each consumer_view d.consumers.items;
 }
 
+-- what a reply to XPENDING stands for
 abbrev pub pending_view : StreamPendingReply → Pending
 pending_view Empty = none_pending
 pending_view (Data d) = some_pending (pending_data_view d)
@@ -49,6 +53,7 @@ abbrev pub pending_count : StreamPendingReply → ℕ
 pending_count Empty = 0
 pending_count (Data d) = d.count
 
+-- what a pending entry of a range stands for
 abbrev pub pending_id_view : StreamPendingId → PendingId
 pending_id_view p = record {
   id = string_bytes p.id;
@@ -57,6 +62,7 @@ pending_id_view p = record {
   deliveries = pos p.times_delivered;
 }
 
+-- what a reply to XINFO STREAM stands for
 abbrev pub stream_info_view : StreamInfoStreamReply → StreamInfo
 stream_info_view r = record {
   last_generated = string_bytes r.last_generated_id;
@@ -67,6 +73,7 @@ stream_info_view r = record {
   last = entry_view r.last_entry;
 }
 
+-- what a reply to XINFO STREAM with idempotency stands for
 abbrev pub idempotent_info_view : StreamInfoStreamReplyWithIdempotency → IdempotentInfo
 idempotent_info_view r = record {
   base = stream_info_view r.base;

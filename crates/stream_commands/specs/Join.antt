@@ -7,6 +7,7 @@ use Rattle.std.specs.Str.{bytes_eq}
 use Rattle.std.specs.Borrow.{Bor}
 use Rattle.stream_commands.specs.ReadReply.{Row}
 
+-- the bytes of keys that are lent
 abbrev pub lent_keys : List (Bor (List ℕ)) → List (List ℕ)
 lent_keys keys = each (λ (k : Bor (List ℕ)). k.now) keys
 

@@ -7,6 +7,7 @@ use Rattle.stream_commands.specs.ReadReply.{Row}
 use Rattle.stream_commands.specs.RecordViews.{row_view}
 use Rattle.stream_commands.specs.declared.records.read.StreamKey.{StreamKey}
 
+-- the positions of the streams of each part
 abbrev pub positions : List (Vec ℕ Global) → List (List ℕ)
 positions parts = each (λ (v : Vec ℕ Global). v.items) parts
 

@@ -14,6 +14,7 @@ pub record PendingData : Type 0 where
   pub end : List ℕ
   pub consumers : List Consumer
 
+-- how many entries are pending, between which ids and for whom; or none is
 pub data Pending : Type 0 where
   none_pending : Pending
   some_pending : PendingData → Pending
@@ -37,6 +38,7 @@ abbrev pub pending_of : ℤ × Option (List ℕ) × Option (List ℕ) × List (O
     → Option Pending
 pending_of p = if is_zero p.0 then Some none_pending else (Some (pending_data p.0 p.3) and p.1 and p.2)
 
+-- what a reply to XPENDING is read as
 abbrev pub pending_reply : Tree → Option Pending
 pending_reply t = option_and_then pending_of
     (tuple4 a_count (perhaps a_text) (perhaps a_text) (list_of (perhaps (tuple2 a_text a_text))) t)

@@ -16,9 +16,11 @@ use Rattle.stream_commands.specs.declared.records.read.StreamKey.{StreamKey}
 abbrev pub Map : Type 0 → Type 0
 Map V = IndexMap (String Global) V (BuildHasherDefault FoldHasher)
 
+-- what the fields of an entry stand for
 abbrev pub fields_view : Map Value → Fields
 fields_view m = each (λ f. (string_bytes f.0, view f.1)) m.entries
 
+-- what an entry stands for
 abbrev pub entry_view : StreamId → Entry
 entry_view s = record {
   id = string_bytes s.id;
@@ -27,18 +29,22 @@ entry_view s = record {
   deliveries = option_map pos s.delivered_count;
 }
 
+-- what entries stand for
 abbrev pub entries_view : List StreamId → List Entry
 entries_view ids = each entry_view ids
 
+-- what a row of a read stands for
 abbrev pub row_view : StreamKey → Row
 row_view k = record { key = string_bytes k.key; entries = entries_view k.ids.items }
 
+-- what rows of a read stand for
 abbrev pub rows_view : List StreamKey → List Row
 rows_view keys = each row_view keys
 
 abbrev pub claimed_view : List StreamId → Bool → Claimed
 claimed_view ids invalid = record { entries = entries_view ids; some_invalid = invalid }
 
+-- what a reply to XAUTOCLAIM stands for
 abbrev pub autoclaim_view : StreamAutoClaimReply → AutoClaim
 autoclaim_view r = record {
   next = string_bytes r.next_stream_id;

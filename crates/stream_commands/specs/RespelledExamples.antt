@@ -113,6 +113,7 @@ rows_in_one_map key id name word = (
 
 -- A wrong reading, of arrays alone, is refused by the law: for fields, and for entries.
 
+-- a reading that takes arrays alone; the laws refuse it
 abbrev pub of_arrays_alone : {M : Type 0} → (Tree → Option M) → Tree → Option M
 of_arrays_alone reading (array ts) = reading (array ts)
 of_arrays_alone reading t = None

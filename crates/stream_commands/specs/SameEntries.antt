@@ -18,6 +18,7 @@ same_value = (value_eq.ghosts).eq
 abbrev pub same_field : String Global × Value → String Global × Value → Bool
 same_field = eq_of_both (on (λ f. string_bytes f.0) (pointwise nat_eq)) (on (λ f. f.1) same_value)
 
+-- two entries: id, fields one after another, and both times
 abbrev pub same_entry : StreamId → StreamId → Bool
 same_entry =
     eq_of_both (on (λ s. string_bytes s.id) (pointwise nat_eq))
@@ -25,7 +26,7 @@ same_entry =
     (eq_of_both (on (λ s. s.milliseconds_elapsed_from_delivery) (option_eq nat_eq))
     (on (λ s. s.delivered_count) (option_eq nat_eq))))
 
--- it is symmetric and transitive
+-- the equality of entries is symmetric and transitive
 pub same_entry_laws : IsPartialEquivalence same_entry
 same_entry_laws =
     and_per (on_per (λ (s : StreamId). string_bytes s.id) (partial_equiv_from_equiv nat_list_eq_equiv))

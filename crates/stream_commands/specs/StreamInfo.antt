@@ -21,6 +21,7 @@ entry_of [] = Some no_entry
 entry_of (id ∷ []) = Some entry and a_text id and Some []
 entry_of (id ∷ fields ∷ more) = Some entry and a_text id and some_fields fields
 
+-- an entry where it is an array, and else an empty one
 abbrev pub an_entry : Tree → Option Entry
 an_entry (array ts) = entry_of (items ts)
 an_entry t = Some no_entry
@@ -28,6 +29,7 @@ an_entry t = Some no_entry
 abbrev pub entry_at : List ℕ → Fields → Option Entry
 entry_at name fields = read_or an_entry no_entry (under name fields)
 
+-- what XINFO STREAM tells of a stream
 pub record StreamInfo : Type 0 where
   pub last_generated : List ℕ
   pub radix_tree_keys : ℤ
@@ -60,11 +62,13 @@ stream_info_of fields =
     and entry_at (codes "first-entry") fields
     and entry_at (codes "last-entry") fields
 
+-- what a reply to XINFO STREAM is read as
 abbrev pub info_stream_reply : Tree → Option StreamInfo
 info_stream_reply t = option_and_then stream_info_of (some_fields t)
 
 -- with idempotent ids
 
+-- what XINFO STREAM tells of a stream, with what a server tells of idempotent ids
 pub record IdempotentInfo : Type 0 where
   pub base : StreamInfo
   pub duration : ℤ
@@ -74,6 +78,7 @@ pub record IdempotentInfo : Type 0 where
   pub ids_added : ℤ
   pub ids_repeated : ℤ
 
+-- what is told of a stream and of idempotent ids
 abbrev pub idempotent_info : StreamInfo → ℤ → ℤ → ℤ → ℤ → ℤ → ℤ → IdempotentInfo
 idempotent_info base duration maxsize producers_tracked ids_tracked ids_added ids_repeated = record {
   base = base;
@@ -96,5 +101,6 @@ idempotent_info_of fields =
     and count_at (codes "iids-added") fields
     and count_at (codes "iids-duplicates") fields
 
+-- what a reply to XINFO STREAM with idempotency is read as
 abbrev pub info_stream_idempotent_reply : Tree → Option IdempotentInfo
 info_stream_idempotent_reply t = option_and_then idempotent_info_of (some_fields t)

@@ -8,10 +8,12 @@ use Rattle.stream_commands.specs.declared.trim.StreamTrimStrategy.TheVariants.{M
 use Rattle.stream_commands.specs.declared.idempotency.StreamIdempotencyMode.{StreamIdempotencyMode}
 use Rattle.stream_commands.specs.declared.idempotency.StreamIdempotencyMode.TheVariants.{Manual, Automatic}
 
+-- what a trimming stands for
 abbrev pub trim_of : StreamTrimStrategy → Trim
 trim_of (MaxLen mode n limit) = record { mode = mode; threshold = max_entries n; limit = limit }
 trim_of (MinId mode id limit) = record { mode = mode; threshold = min_id (string_bytes id); limit = limit }
 
+-- what a mode of idempotency stands for
 abbrev pub idempotency_of : StreamIdempotencyMode → Idempotency
 idempotency_of (Manual producer_id idempotent_id) = manual (string_bytes producer_id)
     (string_bytes idempotent_id)

@@ -35,6 +35,8 @@ pub data Deletion : Type 0 where
   deleted : Deletion
   still_referenced : Deletion
 
+-- What a call answers: that a refresh was accepted, the one reply, what a call on streams is read as, or the
+-- outcomes of a pipeline's positions.
 pub data Answer : Type 0 where
   Refreshed : Answer
   Value : Tree → Answer

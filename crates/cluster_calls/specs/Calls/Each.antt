@@ -72,6 +72,7 @@ fate_by_kind (Some kinds.Moved) = redirected
 fate_by_kind (Some kinds.Ask) = redirected
 fate_by_kind _ = answered
 
+-- what became of a position's command, by its outcome
 abbrev pub fate_of : Result Tree Refusal → Fate
 fate_of (Ok tree) = answered
 fate_of (Err (by_server e)) = fate_by_kind (server_kind e.code)

@@ -72,6 +72,7 @@ common_slot position known (c ∷ cs) = with_own position known (own_slot c)
 
 -- ---- its parts
 
+-- the commands by their wire arguments
 abbrev pub args_of : List Command → List (List (List ℕ))
 args_of commands = map sent commands
 

@@ -70,6 +70,7 @@ only_part args number (Some (to_route route)) = Ok (part_to args (at_slot route)
 only_part args number (Some to_any_node) = Ok (part_to args (at_number number) ∷ [])
 only_part args number _ = Err (by_cause NoRoute)
 
+-- the parts of a command in order of first appearance, or the check that is not met
 abbrev pub parts_of : List (List ℕ) → Command → ℕ → Result (List Part) Refusal
 parts_of read_only command number =
     if command.no_response then Err (by_cause NoResponse)
@@ -112,6 +113,8 @@ abbrev pub is_read_name : Option (List ℕ) → Bool
 is_read_name None = false
 is_read_name (Some name) = is_one_of (codes "XREAD" ∷ []) name
 
+-- Whether a command is an XREAD whose keys have several slots: of what stands behind the first STREAMS, where
+-- that is an even number of byte arguments, the first half.
 abbrev pub reads_several_slots : Args → Bool
 reads_several_slots args = is_read_name (name_of args)
     && have_several_slots (keys_behind args (place_of (codes "STREAMS") args))
@@ -155,6 +158,7 @@ read_part role options streams slot =
     part_to (commands.xread options (stream_keys (streams_at slot streams))
     (stream_ids (streams_at slot streams))) (at_slot (route_to role slot))
 
+-- the parts of a read of streams, one for each slot of their keys, as these first appear
 abbrev pub read_parts : List (List ℕ) → ReadSettings → List Stream → List Part
 read_parts read_only options streams = map (read_part (role_of (codes "XREAD") read_only) options streams)
     (stream_slots streams)

@@ -16,6 +16,7 @@ use Rattle.cluster_calls.specs.Calls.Call.{Entry, Stream, StreamCall, Xadd, Xtri
 
 -- ---- sentences of calls on streams
 
+-- the keys of some streams
 abbrev pub stream_keys : List Stream → List (List ℕ)
 stream_keys streams = map (λ (s : Stream). s.key) streams
 

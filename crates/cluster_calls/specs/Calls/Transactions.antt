@@ -151,7 +151,7 @@ error_or_bad (Some e) = by_server e
 abbrev pub answers : Bool → Option ErrorText → Option Tree → Bool
 answers begun error reply = is_array reply || (begun && (is_nil reply && is_none error))
 
--- whether the reply to EXEC is the answer
+-- whether the reply to EXEC is the answer: an array is, and nil where nothing was wrong before it
 abbrev pub exec_answers : List (Option Tree) → Bool
 exec_answers replies = answers (is_okay (multi_reply replies)) (first_own_error replies) (exec_reply replies)
 

@@ -6,6 +6,8 @@ use Rattle.resp_core.specs.declared.errors.redis_error.Cause.TheVariants.{Memory
 use Rattle.cluster_calls.specs.Links.Request.{Request, bytes_of}
 use Rattle.cluster_calls.specs.Links.World.{Node, Called, Calls}
 
+-- Requests were written to the log, and then the link at a place was called for them; or memory was refused
+-- before, and nothing was done.
 pub data Exchanges (old new : List Node) (which : ℕ) (before after : List Request) (requests : List Request)
     (offset size : ℕ) (result : Result (List Tree) Refusal) : Type 0 where
   -- memory was refused before the log was written, and nothing was done

@@ -10,6 +10,7 @@ pub record Leaves (old new : List Node) (log : List Request) : Type 0 where
   pub addresses : addresses_of new ≡ addresses_of old
   pub unasked : (a : Address) → requests_to a log ≡ [] → link_at new a ≡ link_at old a
 
--- so do the link calls of every run, however they end
+-- The link calls of every run, however they end, leave the addresses of the nodes, and the link of each node
+-- that their log does not name.
 abbrev pub UnaskedNodesStay : Type 0
 UnaskedNodesStay = (old new : List Node) (xs : List Event) → Runs old new xs → Leaves old new (log_of xs)

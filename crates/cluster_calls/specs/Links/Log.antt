@@ -57,6 +57,7 @@ is_data_reply (Some tree) = is_data (sort_of tree)
 abbrev pub is_answered : Exchange → Bool
 is_answered x = is_data_reply x.reply
 
+-- whether a reply of this sort is itself MOVED
 abbrev pub is_moved_sort : Sort → Bool
 is_moved_sort (Moved e) = true
 is_moved_sort _ = false
@@ -75,6 +76,7 @@ has_lost node xs = list_any (λ (x : Exchange). same_address x.request.node node
 
 -- ---- words on exchanges
 
+-- the last of a list
 abbrev pub last_of : {X : Type 0} → List X → Option X
 last_of [] = None
 last_of (x ∷ []) = Some x

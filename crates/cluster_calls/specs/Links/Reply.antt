@@ -25,6 +25,7 @@ abbrev pub inner_sort : Option ErrorText → Sort
 inner_sort None = Data
 inner_sort (Some e) = Failed e
 
+-- what a reply is
 abbrev pub sort_of : Tree → Sort
 sort_of (server_error e) = error_sort e (server_kind e.code)
 sort_of tree = inner_sort (first_error tree)

@@ -6,5 +6,6 @@ abbrev pub there : {T : Type 0} → Option (Option T) → Option T
 there None = None
 there (Some o) = o
 
+-- the item at a place of a list from which some were taken
 abbrev pub there_at : {T : Type 0} → List (Option T) → ℕ → Option T
 there_at items i = there (slice_get items i)

@@ -31,6 +31,7 @@ pub record World : Type 0 where
   pub log : List Request
   pub picked : List Address
 
+-- links with their addresses, as plain data
 abbrev pub nodes : {L : Type 0} → (L → Seen) → List (NodeAddress × L) → List Node
 nodes seen links = map (λ pair. record { address = address pair.0; link = seen pair.1 }) links
 
@@ -39,6 +40,7 @@ abbrev pub new_world : List Node → Settings → World
 new_world ns settings = record
     { nodes = ns; entries = []; settings = settings; needs_refresh = false; log = []; picked = [] }
 
+-- the addresses of nodes
 abbrev pub addresses_of : List Node → List Address
 addresses_of ns = map (λ (n : Node). n.address) ns
 
@@ -47,11 +49,12 @@ abbrev pub has_repeats : List Address → Bool
 has_repeats [] = false
 has_repeats (a ∷ as') = list_any (λ b. same_address b a) as' || has_repeats as'
 
--- the place of a node, and the link to it
+-- the place of a node
 abbrev pub place_at : List Node → Address → Option ℕ
 place_at [] a = None
 place_at (n ∷ ns) a = if same_address n.address a then Some 0 else option_map (λ i. i + 1) (place_at ns a)
 
+-- the link to a node
 abbrev pub link_at : List Node → Address → Option Seen
 link_at [] a = None
 link_at (n ∷ ns) a = if same_address n.address a then Some n.link else link_at ns a
@@ -73,6 +76,7 @@ open_links (n ∷ ns) =
     let others = filter (λ a. not (same_address a n.address)) (open_links ns) in
     if n.link.usable then n.address ∷ others else others
 
+-- whether a node is among those with an open link
 abbrev pub is_linked : List Address → Address → Bool
 is_linked links node = list_any (λ known. same_address known node) links
 

@@ -24,7 +24,7 @@ planned_bound client task (Err refusal) = 0
 abbrev pub call_bound : Client → List Address → Call → ℕ
 call_bound client picks call = planned_bound client (task_of call) (plan client picks call)
 
--- one call, however it ended
+-- one call of a client, however it ended: one that a check refuses before sending makes no request
 abbrev pub CallsAreBounded : Type 0
 CallsAreBounded = (strategy : Option Strategy) (old new : World) (call : Call)
     (answer : Result Answer Refusal) → CallMade strategy old new call answer

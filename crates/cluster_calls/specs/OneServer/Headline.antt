@@ -99,7 +99,8 @@ pub record AsOneServer (meaning : Meaning) (keys : Keyspace) (done : ℕ → Boo
 abbrev pub AreOnSlots : List RepliedCall → Type 0
 AreOnSlots ts = AllByRecursion (λ (t : RepliedCall). is_on_slots t.call ≡ true) ts
 
--- over honest servers a run is as good as one server
+-- Over honest servers a run of calls on slots has the answers, and leaves the keyspace, of one server that is
+-- given the operations that count.
 abbrev pub AnswersAndKeyspace : Type 0
 AnswersAndKeyspace =
     (strategy : Option Strategy) (client : Client) (faults : Address → LinkFault) (ts : List RepliedCall)
@@ -114,6 +115,7 @@ RefusedByKind client faults (t ∷ ts) =
     (refusal_in t.answer ≡ kind client t.picks faults t.call t.log)
     × RefusedByKind (client_after client t.call t.log) faults ts
 
+-- in a run each call is refused exactly where and as `kind` says
 abbrev pub Refusals : Type 0
 Refusals = (strategy : Option Strategy) (client : Client) (faults : Address → LinkFault)
     (ts : List RepliedCall) → IsPlayedFrom strategy client faults ts → RefusedByKind client faults ts

@@ -45,7 +45,9 @@ request_bound budget parts (one_node node command) = 1
 request_bound budget parts (read_of options streams) = parts * suc budget
 request_bound budget parts (transaction_of commands) = parts * suc budget
 
--- a part has at most one request more than the budget
+-- A legal log has at most so many requests: one of a refresh; for each part one more than the budget; one for
+-- each command of a pipeline, and for each part of one that tells of each position; one for each node of a
+-- command to several, and one of a command to a node that is named.
 abbrev pub RequestsAreBounded : Type 0
 RequestsAreBounded = (client : Client) (picks : List Address) (call : Call) (ds : List Dispatch)
     (xs : List Exchange)
@@ -88,6 +90,8 @@ AreRepeatsRedirected (x ∷ y ∷ xs) =
     MatchBool (is_answered x) ⊤ ((is_redirected x ≡ true) × (y.request.args ≡ x.request.args))
     × AreRepeatsRedirected (y ∷ xs)
 
+-- Of a task that goes out in parts: behind an answered request stands that of the next part, and behind any
+-- other the same arguments again, where that one was answered by a redirect.
 abbrev pub OnlyRedirectsRepeat : Type 0
 OnlyRedirectsRepeat = (client : Client) (picks : List Address) (call : Call) (xs : List Exchange)
     → is_in_parts (task_of call) ≡ true → IsLegalCall client picks call xs → AreRepeatsRedirected xs

@@ -24,6 +24,7 @@ pub record HonestSharedCluster {strategy : Option Strategy} {old new : World} {c
   pub on_slots : AllByRecursion (λ call. is_on_slots call ≡ true) calls
   pub honest : HonestAmongOthers meaning keys done (replied played) turns last keys'
 
+-- the claim among others, of what `play` made
 abbrev pub PlayedAmongOthers : Type 0
 PlayedAmongOthers = (strategy : Option Strategy) (old new : World) (calls : List Call)
     (before after : List Shown) (all : Bool)

@@ -38,6 +38,9 @@ SentSame ns ms = (a : Address) (l m : Seen) → link_at ns a ≡ Some l → link
 abbrev pub LinksHadMemory : List Event → Type 0
 LinksHadMemory events = lack_memory events ≡ false
 
+-- Two plays of the same calls from one client without a strategy, whose devices promise to refuse none, tell
+-- their bytes and have fewer than 2^32 of them: memory aside, they show the same, and over each link the same
+-- bytes went out.
 abbrev pub PromisedPlays : Type 0
 PromisedPlays = (old new new' : World) (calls : List Call) (before after after' : List Shown)
     → (p : Plays None old new calls before after true) (q : Plays None old new' calls before after' true)

@@ -18,6 +18,8 @@ pub record Stretches (strategy : Option Strategy) (old new : World) (ts us : Lis
   pub before_played : HadMemory ts → RunPlayed strategy old mid ts (taken_of first)
   pub behind_played : HadMemory us → RunPlayed strategy mid new us (taken_of later)
 
+-- Calls that were made one after another are such calls up to any of them, and from there on. So what is known
+-- of a run without want of memory holds of the calls before one that lacked it, and of those behind.
 abbrev pub RunsHaveStretches : Type 0
 RunsHaveStretches = (strategy : Option Strategy) (old new : World) (ts us : List PlayedCall)
     (events : List Event) → CallsMade strategy old new (ts ++ us) events
