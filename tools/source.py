@@ -278,37 +278,58 @@ MUTUAL = re.compile(r"(?:\w+ )*mutual")
 CONSTRUCTOR = re.compile(r" {2}([^\W\d][\w']*) *:")
 
 
+# A word that a file of specs/ defines: the comment right above it, and the type whose constructor it is, if it is one.
+Word = namedtuple("Word", "name comment of")
+
+
 def words_of(text):
-    """The words that a file of specs/ defines, the constructors of its types among them."""
-    found, indent, in_data = set(), "", False
+    """The words that a file of specs/ defines, by name and in its order, the constructors of its types among them."""
+    found, indent, data, told = {}, "", "", []
     for line in text.splitlines():
         if line[:1].strip():
             indent = "  " if MUTUAL.fullmatch(line) else ""
+        if line.strip().startswith("--"):
+            told = [] if line.strip().startswith("-- ----") else [*told, line.strip()[2:].strip()]
+            continue
         if not line.startswith(indent) or not line.strip():
+            told = []
             continue
         line = line.removeprefix(indent)
-        named = DEFINED.match(line)
+        named, comment = DEFINED.match(line), " ".join(told)
         if named:
-            found.add(named[1])
-            in_data = line.partition(named[1])[0].endswith("data ")
-        elif in_data and CONSTRUCTOR.match(line):
-            found.add(CONSTRUCTOR.match(line)[1])
+            found.setdefault(named[1], Word(named[1], comment, ""))
+            data = named[1] if line.partition(named[1])[0].endswith("data ") else ""
+        elif data and CONSTRUCTOR.match(line):
+            name = CONSTRUCTOR.match(line)[1]
+            found.setdefault(name, Word(name, comment, data))
+        told = []
     return found
+
+
+def head_of(text):
+    """The first sentences of a file of specs/, which tell what it is about, without its sources."""
+    told = []
+    for line in text.splitlines():
+        if not line.startswith("--"):
+            break
+        told.append(line[2:].strip())
+    return re.split(r"(?<=\.) Sources?:|^Sources?:", " ".join(" ".join(told).split()))[0].strip()
 
 
 class Specs:
     """The files of specs/ of every crate, by crate and name, each with the words that it defines.
 
-    `names` are all names that stand in them, those of files too.
+    `heads` are what they are about, and `names` all names that stand in them, those of files too.
     """
 
     def __init__(self, root):
-        self.files, self.names = {}, set()
+        self.files, self.heads, self.names = {}, {}, set()
         for path in sorted((root / "crates").glob("*/specs/**/*.antt")):
             crate = path.relative_to(root / "crates").parts[0]
             name = path.relative_to(root / "crates" / crate / "specs").with_suffix("").as_posix()
             text = path.read_text()
             self.files[crate, name] = words_of(text)
+            self.heads[crate, name] = head_of(text)
             self.names |= {*name.split("/"), *re.findall(r"[^\W\d][\w']*", text)}
 
     def home(self, use):
