@@ -6,6 +6,7 @@ pub mod Ranges
 pub mod RangePlaces
 pub mod SlotMap
 pub mod AllNodes
+pub mod NodePlaces
 pub mod Topology
 pub mod Candidates
 pub mod Choice

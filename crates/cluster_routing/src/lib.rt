@@ -10,6 +10,7 @@ mod copies;
 mod direction;
 mod keys;
 pub mod laws;
+mod node_places;
 mod parts;
 mod policy;
 mod range;
@@ -34,6 +35,7 @@ pub use combine::{
 };
 pub use direction::Direction;
 pub use keys::group_keys_by_slot;
+pub use node_places::NodePlace;
 pub use policy::{AggregateOp, LogicalAggregateOp, MultiSlotArgPattern, ResponsePolicy};
 pub use range::{SlotAddrs, SlotAddrsIter, SlotRange};
 pub use range_map::{SlotRangeMap, SlotRangeValues, SlotRanges};
