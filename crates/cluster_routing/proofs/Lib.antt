@@ -13,6 +13,7 @@ pub mod Choices
 pub mod AllNodes
 pub mod OnceAscending
 mod OnceSorted
+mod NodePlaces
 pub mod PlacedShards
 pub mod DistinctNodes
 pub mod ServingShards

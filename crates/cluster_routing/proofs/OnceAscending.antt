@@ -49,7 +49,7 @@ below_put c a (b ∷ bs) h l = by (address_cmp a b)
     by Equal = h
     by Greater = h
 
-put-ascends : (a : Address) (bs : List Address) → AddressesAscend bs → AddressesAscend (put_address a bs)
+pub put-ascends : (a : Address) (bs : List Address) → AddressesAscend bs → AddressesAscend (put_address a bs)
 put-ascends a [] h = (tt, tt)
 put-ascends a (b ∷ bs) h = by (address_cmp a b) refl (put-ascends a bs h.1)
   where
@@ -77,7 +77,7 @@ or_assoc : (s t r : Bool) → ((s || t) || r) ≡ (s || (t || r))
 or_assoc true t r = refl
 or_assoc false t r = refl
 
-put-among : (x a : Address) (bs : List Address) → among same_address x (put_address a bs) ≡ (same_address x a || among same_address x bs)
+pub put-among : (x a : Address) (bs : List Address) → among same_address x (put_address a bs) ≡ (same_address x a || among same_address x bs)
 put-among x a [] = refl
 put-among x a (b ∷ bs) = by (address_cmp a b) refl (put-among x a bs)
   where

@@ -1,5 +1,5 @@
 -- Sorted addresses, each taken once, are the addresses put into their places.
-use Rattle.std.proofs.Common.{◌≡◌, ℕ, suc, ◌+◌, Bool, true, false, true≢false, ◌||◌, if◌then◌else◌, List, [], ◌∷◌, ◌++◌, Option, Some, None, option_map, unwrap_or, map, get_or, IsPermutation, Bor, refl, sym, subst, ap, ◌∙◌, arith}
+use Rattle.std.proofs.Common.{◌≡◌, ℕ, suc, ◌+◌, Bool, true, false, true≢false, ◌||◌, if◌then◌else◌, List, [], ◌∷◌, ◌++◌, Option, Some, None, option_map, unwrap_or, map, get_or, IsPermutation, refl, sym, subst, ap, ◌∙◌, arith}
 use Rattle.std.specs.List.Sorted.{IsSortedBy}
 use Rattle.std.specs.Ordering.{match_ordering, nat_cmp, ordering_reverse, then_cmp, on, is_lt}
 use Rattle.std.specs.Cmp.{IsTotalOrder, nat_cmp_total, then_total, on_total}
@@ -11,11 +11,9 @@ use Rattle.cluster_routing.specs.Address.{Address, address_cmp, same_address}
 use Rattle.cluster_routing.specs.Lists.{among}
 use Rattle.cluster_routing.specs.AllNodes.{ascending, put_address, put_addresses}
 use Rattle.cluster_routing.specs.Laws.{AddressesAscend, IsBelowFirst}
-use Rattle.cluster_routing.specs.Seen.{address}
-use Rattle.cluster_routing.specs.declared.address.NodeAddress.{NodeAddress}
 use Rattle.cluster_routing.proofs.AllNodes.{then_is}
 use Rattle.cluster_routing.proofs.DistinctNodes.{address_same, address_same_of}
-use Rattle.cluster_routing.proofs.OnceAscending.{each_address_once, equal, equal_to_itself, greater}
+use Rattle.cluster_routing.proofs.OnceAscending.{each_address_once, equal, equal_to_itself, greater, put-among, put-ascends}
 
 -- ---- the order of addresses
 
@@ -83,6 +81,14 @@ unique (a ∷ as') (b ∷ bs) s t h = by (address_cmp a b) refl (unique as' bs s
         let nor : among same_address a bs ≡ false = ap (λ c. among same_address c bs) same ∙ absent b bs t.0 t.1 in
         ap (λ c. c ∷ as') same ∙ ap (λ r. b ∷ r) (later (λ x. tails a as' bs (absent a as' s.0 s.1) nor x (rest x)))
 
+-- one that is among them is put in already
+pub put_there : (a : Address) (xs : List Address) → among same_address a xs ≡ true → put_address a (ascending xs) ≡ ascending xs
+put_there a xs h = unique (put_address a (ascending xs)) (ascending xs) (put-ascends a (ascending xs) (each_address_once.ascends xs)) (each_address_once.ascends xs) (λ x. put-among x a (ascending xs) ∙ by x (same_address x a) refl)
+  where
+    by : (x : Address) (s : Bool) → same_address x a ≡ s → (s || among same_address x (ascending xs)) ≡ among same_address x (ascending xs)
+    by x true e = sym (ap (λ c. among same_address c (ascending xs)) (address_same x a e) ∙ each_address_once.same xs a ∙ h)
+    by x false e = refl
+
 -- ---- one walk over sorted addresses
 
 abbrev pub is_last : Option Address → Address → Bool
@@ -96,6 +102,13 @@ taken done last (x ∷ xs) = if (is_last last x) then (taken done last xs) else 
 abbrev AllBelow : Address → List Address → Type 0
 AllBelow x [] = Unit {0}
 AllBelow x (a ∷ as') = (address_cmp a x ≡ Less) × AllBelow x as'
+
+-- one step of it
+pub takes : (done : List Address) (last : Option Address) (x : Address) (xs : List Address) → is_last last x ≡ false → taken done last (x ∷ xs) ≡ taken (done ++ x ∷ []) (Some x) xs
+takes done last x xs h = ap (λ b. if b then (taken done last xs) else (taken (done ++ x ∷ []) (Some x) xs)) h
+
+pub leaves : (done : List Address) (last : Option Address) (x : Address) (xs : List Address) → is_last last x ≡ true → taken done last (x ∷ xs) ≡ taken done last xs
+leaves done last x xs h = ap (λ b. if b then (taken done last xs) else (taken (done ++ x ∷ []) (Some x) xs)) h
 
 raised : (l x : Address) (as' : List Address) → AllBelow l as' → address_cmp l x ≡ Less → AllBelow x (as' ++ l ∷ [])
 raised l x [] h e = (e, tt)
@@ -130,25 +143,27 @@ walk done l (x ∷ xs) h r = by (address_cmp l x) refl (walk done l xs h) (walk 
         ∙ stays (subst (λ c. Rises c xs) (sym same) r.1) ∙ ap (λ s. put_addresses s xs) (sym (put_same l done h)) ∙ ap (λ c. put_addresses (put_address c (done ++ l ∷ [])) xs) same
     by Greater e stays goes = absurd (true≢false (sym (ap is_lt (greater l x e)) ∙ r.0))
 
-abbrev seen : Bor NodeAddress → Address
-seen a = address a.now
-
-rises : (cmp : Bor NodeAddress → Bor NodeAddress → Ordering) → ((x y : Bor NodeAddress) → cmp x y ≡ address_cmp (seen x) (seen y)) → (p : Bor NodeAddress) (ps : List (Bor NodeAddress)) → IsSortedBy (λ x y. is_lt (cmp x y)) (p ∷ ps) → Rises (seen p) (map seen ps)
-rises cmp same p [] s = tt
-rises cmp same p (q ∷ ps) s = (
-  ap is_lt (sym (same q p)) ∙ s 0 p (omega arith) (omega arith),
-  rises cmp same q ps (λ k d low high.
+-- any list of things that have an address
+rises : {A : Type 0} (seen : A → Address) (cmp : A → A → Ordering) → ((x y : A) → is_lt (address_cmp (seen x) (seen y)) ≡ true → is_lt (cmp x y) ≡ true) → (p : A) (ps : List A) → IsSortedBy (λ x y. is_lt (cmp x y)) (p ∷ ps) → Rises (seen p) (map seen ps)
+rises seen cmp below p [] s = tt
+rises seen cmp below p (q ∷ ps) s = (
+  by (is_lt (address_cmp (seen q) (seen p))) refl,
+  rises seen cmp below q ps (λ k d low high.
       let next : suc k + 1 ≡ suc (k + 1) = omega arith in
       subst (λ (n : ℕ). is_lt (cmp (get_or (p ∷ q ∷ ps) n d) (get_or (q ∷ ps) k d)) ≡ false) next (s (suc k) d (omega arith) (omega arith))),
 )
+  where
+    by : (b : Bool) → is_lt (address_cmp (seen q) (seen p)) ≡ b → b ≡ false
+    by false e = refl
+    by true e = absurd (true≢false (sym (below q p e) ∙ s 0 p (omega arith) (omega arith)))
 
-sorted_once : (cmp : Bor NodeAddress → Bor NodeAddress → Ordering) → ((x y : Bor NodeAddress) → cmp x y ≡ address_cmp (seen x) (seen y)) → (sorted : List (Bor NodeAddress)) → IsSortedBy (λ x y. is_lt (cmp x y)) sorted → taken [] None (map seen sorted) ≡ ascending (map seen sorted)
-sorted_once cmp same [] s = refl
-sorted_once cmp same (p ∷ ps) s = walk [] (seen p) (map seen ps) tt (rises cmp same p ps s)
+sorted_once : {A : Type 0} (seen : A → Address) (cmp : A → A → Ordering) → ((x y : A) → is_lt (address_cmp (seen x) (seen y)) ≡ true → is_lt (cmp x y) ≡ true) → (sorted : List A) → IsSortedBy (λ x y. is_lt (cmp x y)) sorted → taken [] None (map seen sorted) ≡ ascending (map seen sorted)
+sorted_once seen cmp below [] s = refl
+sorted_once seen cmp below (p ∷ ps) s = walk [] (seen p) (map seen ps) tt (rises seen cmp below p ps s)
 
--- sorted addresses, each taken once
-pub taken_once : (cmp : Bor NodeAddress → Bor NodeAddress → Ordering) → ((x y : Bor NodeAddress) → cmp x y ≡ address_cmp (seen x) (seen y)) → (all sorted : List (Bor NodeAddress)) → IsPermutation all sorted → IsSortedBy (λ x y. is_lt (cmp x y)) sorted → taken [] None (map seen sorted) ≡ ascending (map seen all)
-taken_once cmp same all sorted moved s =
-    sorted_once cmp same sorted s
+-- sorted by an order that puts lower addresses first, each address taken once
+pub taken_once : {A : Type 0} (seen : A → Address) (cmp : A → A → Ordering) → ((x y : A) → is_lt (address_cmp (seen x) (seen y)) ≡ true → is_lt (cmp x y) ≡ true) → (all sorted : List A) → IsPermutation all sorted → IsSortedBy (λ x y. is_lt (cmp x y)) sorted → taken [] None (map seen sorted) ≡ ascending (map seen all)
+taken_once seen cmp below all sorted moved s =
+    sorted_once seen cmp below sorted s
     ∙ unique (ascending (map seen sorted)) (ascending (map seen all)) (each_address_once.ascends (map seen sorted)) (each_address_once.ascends (map seen all))
     (λ x. each_address_once.same (map seen sorted) x ∙ sym (list_any-IsPermutation (same_address x) (map seen all) (map seen sorted) (IsPermutation-map seen all sorted moved)) ∙ sym (each_address_once.same (map seen all) x))

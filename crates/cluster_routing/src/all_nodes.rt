@@ -1,12 +1,12 @@
 //! The addresses of a map of slots, each once, in their order.
 
-ghost use Rattle.std.specs.Prelude.{◌≡◌, ◌++◌, false, map, option_map, unwrap_or, IfOk};
-ghost use Rattle.cluster_routing.specs.Address.{same_address};
-ghost use Rattle.cluster_routing.specs.AllNodes.{all_nodes, all_primaries, ascending, node_list};
+ghost use Rattle.std.specs.Prelude.{◌≡◌, map, option_map, IfOk};
+ghost use Rattle.cluster_routing.specs.AllNodes.{all_nodes, all_primaries};
+ghost use Rattle.cluster_routing.specs.NodePlaces.{AreOfAll, node_at};
 ghost use Rattle.cluster_routing.specs.Seen.{address};
 
 use crate::address::NodeAddress;
-use crate::range::SlotAddrs;
+use crate::node_places::{NodePlace, PlacedNode, once_ascending, placed_nodes};
 use crate::slot_map::SlotMap;
 use std::alloc::{AllocError, Global};
 
@@ -22,10 +22,13 @@ impl SlotMap {
         ensures { IfOk result (λ v. map (λ a. address a.now) v.items ≡ all_primaries self.now) }
     {
         let mut primaries = Vec::with_capacity(alloc, self.slot_ranges().len())?;
-        'ranges: for nodes in self.values() {
-            primaries.push(nodes.primary())?;
+        'entries: for (range, entry) in self.slot_ranges().entries().iter().enumerate() {
+            primaries.push(PlacedNode {
+                node: entry.1.1.primary(),
+                place: NodePlace { range, node: 0 },
+            })?;
         }
-        once_ascending(primaries)
+        addresses_of(once_ascending(primaries)?)
     }
 
     /// The primaries and the replicas of the ranges, each address once, in the order of
@@ -36,51 +39,42 @@ impl SlotMap {
     pub fn addresses_for_all_nodes(&self, alloc: Global) -> Result<Vec<&NodeAddress>, AllocError>
         ensures { IfOk result (λ v. map (λ a. address a.now) v.items ≡ all_nodes self.now) }
     {
-        let mut all = Vec::with_capacity(alloc, self.slot_ranges().len())?;
-        'ranges: for nodes in self.values() {
-            push_nodes(&mut all, nodes)?;
+        addresses_of(once_ascending(placed_nodes(alloc, self.slot_ranges().entries())?)?)
+    }
+
+    /// For each address of the ranges' nodes a place at which it stands, in the order of
+    /// addresses.
+    ///
+    /// # Errors
+    /// `AllocError` where memory is refused.
+    pub fn places_of_all_nodes(&self, alloc: Global) -> Result<Vec<NodePlace>, AllocError>
+        ensures { IfOk result (λ v. AreOfAll self.now v.items) }
+    {
+        let placed = once_ascending(placed_nodes(alloc, self.slot_ranges().entries())?)?;
+        let mut places = Vec::with_capacity(alloc, placed.len())?;
+        'nodes: for node in &placed {
+            places.push(node.place)?;
         }
-        once_ascending(all)
+        Ok(places)
+    }
+
+    /// The node that stands at a place, if one does.
+    pub fn node_at(&self, place: NodePlace) -> Option<&NodeAddress>
+        ensures { option_map (λ a. address a.now) result ≡ node_at self.now place }
+    {
+        let (_, (_, nodes)) = self.slot_ranges().entries().get(place.range)?;
+        nodes.at(place.node)
     }
 }
 
-/// Puts the nodes of a range behind the others.
-fn push_nodes<'a>(all: &mut Vec<&'a NodeAddress>, nodes: &'a SlotAddrs) -> Result<(), AllocError>
+/// The nodes without their places.
+fn addresses_of(placed: Vec<PlacedNode<'_>>) -> Result<Vec<&NodeAddress>, AllocError>
     ensures { IfOk result
-        (λ _. map (λ a. address a.now) all.new.items
-        ≡ map (λ a. address a.now) all.old.items ++ node_list nodes.now) }
+        (λ v. map (λ a. address a.now) v.items ≡ map (λ p. address p.node.now) placed.entry.items) }
 {
-    'nodes: for node in nodes {
-        all.push(node)?;
+    let mut nodes = Vec::with_capacity(*placed.allocator(), placed.len())?;
+    'nodes: for node in &placed {
+        nodes.push(node.node)?;
     }
-    Ok(())
-}
-
-/// These addresses in their order, each once.
-fn once_ascending(all: Vec<&NodeAddress>) -> Result<Vec<&NodeAddress>, AllocError>
-    ensures { IfOk result
-        (λ v. map (λ a. address a.now) v.items ≡ ascending (map (λ a. address a.now) all.entry.items)) }
-{
-    let mut sorted = all;
-    sorted.sort()?;
-    let mut once = Vec::with_capacity(*sorted.allocator(), sorted.len())?;
-    let mut last = None;
-    'nodes: for node in &sorted {
-        if !is_last(last, node) {
-            once.push(*node)?;
-            last = Some(*node);
-        }
-    }
-    Ok(once)
-}
-
-/// Whether an address is the last one, where there is one.
-fn is_last(last: Option<&NodeAddress>, node: &NodeAddress) -> bool
-    ensures { result
-        ≡ unwrap_or (option_map (λ l. same_address (address l.now) (address node.now)) last.entry) false }
-{
-    match last {
-        Some(last) => last == node,
-        None => false,
-    }
+    Ok(nodes)
 }

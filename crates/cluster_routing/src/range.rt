@@ -1,6 +1,7 @@
 //! Ranges of slots, and the nodes that serve them.
 
-ghost use Rattle.std.specs.Prelude.{◌≡◌, ◌∷◌, option_map, IfOk};
+ghost use Rattle.std.specs.Prelude.{◌≡◌, ◌∷◌, option_map, slice_get, IfOk};
+ghost use Rattle.cluster_routing.specs.AllNodes.{node_list};
 ghost use Rattle.cluster_routing.specs.Choice.{IsChosen};
 ghost use Rattle.cluster_routing.specs.Seen.{address, addresses};
 
@@ -61,6 +62,16 @@ impl SlotAddrs {
         ensures { addresses result.now ≡ self.now.replicas }
     {
         &self.replicas
+    }
+
+    /// The node with a number: the primary has 0, the replicas those behind it.
+    pub(crate) fn at(&self, number: usize) -> Option<&NodeAddress>
+        ensures { option_map (λ a. address a.now) result ≡ slice_get (node_list self.now) number }
+    {
+        match number.checked_sub(1) {
+            None => Some(&self.primary),
+            Some(number) => self.replicas.get(number),
+        }
     }
 
     /// The same nodes.

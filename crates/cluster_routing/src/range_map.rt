@@ -99,6 +99,13 @@ impl<V> SlotRangeMap<V> {
         self.entries.len()
     }
 
+    /// The ranges by ascending ends, each as its end, its start and its value.
+    pub(crate) fn entries(&self) -> &[(u16, (u16, V))]
+        ensures { result.now ≡ self.now }
+    {
+        &self.entries
+    }
+
     fn entry_from(&self, slot: u16) -> Option<&(u16, (u16, V))>
         ensures { option_copied result ≡ first_from slot self.now }
     {

@@ -1,3 +1,4 @@
+mod NumberedPlaces
 pub mod GroupCalls
 pub mod Queueing
 pub mod Telling

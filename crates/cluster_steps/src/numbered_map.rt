@@ -1,16 +1,17 @@
 //! Choices of a node by its number among all nodes of a slot map.
-ghost use Rattle.std.specs.Prelude.{◌≡◌, ◌≢◌, IfOk, Err};
+ghost use Rattle.std.specs.Prelude.{◌≡◌, ◌≢◌, Err, option_map};
 ghost use Rattle.resp_core.specs.Errors.{by_cause};
 ghost use Rattle.resp_core.specs.declared.errors.redis_error.Cause.TheVariants.{Memory};
 ghost use Rattle.cluster_routing.specs.AllNodes.{all_nodes};
-ghost use Rattle.cluster_routing.specs.Seen.{address, addresses};
+ghost use Rattle.cluster_routing.specs.NodePlaces.{AreOfAll};
+ghost use Rattle.cluster_routing.specs.Seen.{address};
 ghost use Rattle.cluster_calls.specs.Calls.Plan.{by_number};
 ghost use Rattle.cluster_steps.specs.FirstPlaces.{node_by, node_by_place};
 
 use crate::place::{item_among, node_by_number};
-use cluster_routing::{NodeAddress, SlotMap};
+use cluster_routing::{NodeAddress, NodePlace, SlotMap};
 use resp_core::{Cause, RedisError};
-use std::alloc::{AllocError, Global};
+use std::alloc::Global;
 use std::marker::Model;
 
 /// A slot map, and the list of all of its nodes from the first choice by a number on.
@@ -20,21 +21,20 @@ use std::marker::Model;
 pub struct NumberedMap {
     map: SlotMap,
 
-    // All nodes, ascending. A choice without them sorts the nodes of the map.
-    all: Option<Vec<NodeAddress>>,
+    // Where each of all nodes stands, in the order of addresses. A choice without them sorts the nodes of the map.
+    all: Option<Vec<NodePlace>>,
 }
 
 impl Model for NumberedMap {
-    ghost use Rattle.std.specs.Prelude.{◌≡◌, IfSome};
-    ghost use Rattle.cluster_routing.specs.AllNodes.{all_nodes};
-    ghost use Rattle.cluster_routing.specs.Seen.{addresses};
+    ghost use Rattle.std.specs.Prelude.{IfSome};
+    ghost use Rattle.cluster_routing.specs.NodePlaces.{AreOfAll};
     ghost use Rattle.cluster_routing.specs.SlotMap.{SlotEntries};
 
     ghost Value = { SlotEntries };
 
     ghost view = { λ m. m.map };
 
-    ghost invariant = { λ m. IfSome m.all (λ all. addresses all.items ≡ all_nodes m.map) };
+    ghost invariant = { λ m. IfSome m.all (λ all. AreOfAll m.map all.items) };
 }
 
 impl NumberedMap {
@@ -65,7 +65,7 @@ impl NumberedMap {
         ensures { self.new ≡ self.old }
     {
         if self.all.is_none() {
-            self.all = all_nodes_of(alloc, &self.map).ok();
+            self.all = self.map.places_of_all_nodes(alloc).ok();
         }
     }
 
@@ -82,23 +82,19 @@ impl NumberedMap {
             → node_by (λ node. address node.now) result ≡ node_by_place (by_number number (all_nodes self.now)) }
     {
         match &self.all {
-            Some(all) => match item_among(all, number) {
+            Some(all) => match self.listed_node(all, number) {
                 None => Err(RedisError::from(Cause::NoNode)),
                 Some(node) => Ok(node),
             },
             None => node_by_number(alloc, &self.map, number),
         }
     }
-}
 
-/// All nodes of a slot map, ascending.
-fn all_nodes_of(alloc: Global, map: &SlotMap) -> Result<Vec<NodeAddress>, AllocError>
-    ensures { IfOk result (λ all. addresses all.items ≡ all_nodes map.now) }
-{
-    let sorted = map.addresses_for_all_nodes(alloc)?;
-    let mut all = Vec::with_capacity(alloc, sorted.len())?;
-    'nodes: for node in sorted {
-        all.push(node.clone()?)?;
+    /// The node at the place with a number among these, modulo their count.
+    fn listed_node(&self, all: &[NodePlace], number: u64) -> Option<&NodeAddress>
+        requires { AreOfAll self.now all.now }
+        ensures { option_map (λ node. address node.now) result ≡ by_number number (all_nodes self.now) }
+    {
+        self.map.node_at(*item_among(all, number)?)
     }
-    Ok(all)
 }
