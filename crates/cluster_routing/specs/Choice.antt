@@ -1,5 +1,6 @@
 -- Which of a slot's nodes a request goes to (documentation of the crate `redis`).
-use Rattle.std.specs.Prelude.{◌≡◌, ℕ, ◌%◌, Bool, true, List, [], ◌∷◌, length, slice_get, Contains, Option, Some, None, IsSomeAnd, ⊤}
+use Rattle.std.specs.Prelude.{◌≡◌, ℕ, ◌%◌, Bool, true, List, [], ◌∷◌, length, slice_get, Contains, Option, Some, None, option_map, IsSomeAnd, ⊤}
+use Rattle.std.specs.Borrow.{Bor}
 use Rattle.cluster_routing.specs.Address.{Address}
 use Rattle.cluster_routing.specs.SlotMap.{Nodes, SlotEntries, nodes_at}
 use Rattle.cluster_routing.specs.Candidates.{Candidates, any_node, replicas_only, candidate_nodes}
@@ -10,6 +11,10 @@ use Rattle.cluster_routing.specs.declared.route.SlotAddr.TheVariants.{Master, Re
 -- what a strategy may answer: which address it admits for which candidates
 abbrev pub Strategy : Type 0
 Strategy = Candidates → Address → Bool
+
+-- what a strategy that is lent may answer
+abbrev pub strategy_of : {S : Type 0} → (S → Strategy) → Option (Bor S) → Option Strategy
+strategy_of admits strategy = option_map (λ s. admits s.now) strategy
 
 -- the strategy admits the address, and it is one of the candidates
 pub record IsAdmitted (admits : Strategy) (candidates : Candidates) (address : Address) : Type 0 where
