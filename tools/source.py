@@ -7,8 +7,8 @@ language; what they can not read is an error, and never passed over.
 import re
 from collections import namedtuple
 
-# Crates of tests, examples and benches, and the program `live`, have no contracts.
-LEFT_OUT = re.compile(r"\w+_tests|\w+_bench|example_\w+|redis_live|redis_proxy|node_files")
+# Crates of tests, of stubs for them, of examples and benches, and the program `live`, have no contracts.
+LEFT_OUT = re.compile(r"\w+_tests|\w+_stubs|\w+_bench|example_\w+|redis_live|redis_proxy|node_files")
 
 TOKEN = re.compile(
     r"""(?P<blank>\s+|//[^\n]*|/\*.*?\*/)

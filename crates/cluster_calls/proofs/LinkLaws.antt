@@ -17,11 +17,13 @@ pub mod AnyStrategy
 pub mod PlayedRuns
 pub mod PlayLoop
 pub mod LackingLists
+pub mod Grown
 pub mod ChainLoop
 pub mod PartLoop
 pub mod LastCommand
 pub mod PipeErrors
 pub mod Nodes
+pub mod PartedCalls
 pub mod ManyParts
 pub mod Ordering
 pub mod OneCommand

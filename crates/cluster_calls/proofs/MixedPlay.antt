@@ -1,5 +1,3 @@
-pub mod LinksEnd
-pub mod Spelled
 pub mod Redirected
 pub mod Parted
 pub mod Piped

@@ -9,6 +9,7 @@ pub mod SeveralNodes
 pub mod OneNode
 pub mod Checks
 pub mod WrongRules
+pub mod Deeds
 pub mod KeyRuns
 pub mod WrongServers
 pub mod TurnsOnSlots

@@ -1,7 +1,7 @@
 -- A pipeline that tells of each position, from the link calls of its groups and what came from each.
 use Rattle.std.specs.Prelude.{filter, nat_eq, ◌||◌, slice_get, unwrap_or, MatchBool, ⊤}
 use Rattle.std.specs.List.{AllByRecursion}
-use Rattle.std.proofs.Common.{◌≡◌, ◌≢◌, ◌<◌, ℕ, suc, zero, ◌+◌, ◌==◌, Bool, true, false, cond, List, [], ◌∷◌, ◌++◌, map, length, Option, Some, None, Result, Ok, Err, refl, sym, ap, ◌∙◌, subst, append-nil, eqb-true, eq-eqb, arith}
+use Rattle.std.proofs.Common.{◌≡◌, ◌≢◌, ◌<◌, ℕ, suc, zero, ◌+◌, ◌==◌, Bool, true, false, cond, List, [], ◌∷◌, ◌++◌, map, length, Option, Some, Result, Ok, Err, refl, sym, ap, ◌∙◌, subst, append-nil, eqb-true, eq-eqb, arith}
 use Rattle.std.proofs.lemmas.Bool.{false≢true}
 use Rattle.std.proofs.lemmas.List.{length-map, map-append}
 use Rattle.std.proofs.lemmas.List.Elements.{filter-append}
@@ -18,7 +18,6 @@ use Rattle.cluster_calls.specs.Links.EachMade.{EachHappened, WholesMade, refusal
 use Rattle.cluster_calls.specs.Links.Events.{Event, Ending, answers, fails, AllTo, LinkCalled, Runs, log_of, exchanges_at, exchanges_of}
 use Rattle.cluster_calls.specs.Links.Happened.{client_of}
 use Rattle.cluster_calls.specs.Links.Log.{Exchange, requests, has_lost}
-use Rattle.cluster_calls.specs.Links.Request.{Request}
 use Rattle.cluster_calls.specs.Links.Run.{with_log}
 use Rattle.cluster_calls.specs.Links.World.{World, Node}
 use Rattle.cluster_calls.specs.Calls.Call.{Entry, Pipeline}
@@ -30,15 +29,15 @@ use Rattle.cluster_calls.specs.Calls.Task.{pipeline_of}
 use Rattle.cluster_steps.specs.Dispatches.{IsPlaced, IsPlanned, dispatch_of}
 use Rattle.cluster_steps.specs.Each.{came_from, next_outcome, told_each, without_next, without_next_from}
 use Rattle.cluster_steps.specs.GroupRuns.{group_node, group_nodes, request_lists}
-use Rattle.cluster_steps.specs.Groups.{Group, group_at, place_in, request_in}
+use Rattle.cluster_steps.specs.Groups.{NodeRequests, group_at, place_in, request_in}
 use Rattle.cluster_client.specs.Outcomes.{AreKept, EachExchanged, IsKept}
 use Rattle.cluster_calls.proofs.LinkLaws.Addresses.{same_true, same_refl}
-use Rattle.cluster_calls.proofs.LinkLaws.ChainLoop.{or_none}
 use Rattle.cluster_calls.proofs.LinkLaws.LinkCalls.{link_calls_made}
 use Rattle.cluster_calls.proofs.LinkLaws.LinkRuns.{or_parts}
 use Rattle.cluster_calls.proofs.LinkLaws.OpenLinks.{swapped}
 use Rattle.cluster_calls.proofs.LinkLaws.Pairing.{has_lost-append}
 use Rattle.cluster_calls.proofs.LinkLaws.Told.{LosesBy, told_here, told_other}
+use Rattle.cluster_calls.proofs.Lists.{or_none}
 use Rattle.cluster_calls.proofs.ServerLaws.Distinct.{firsts_distinct}
 use Rattle.cluster_steps.proofs.GroupCalls.{paired_requests}
 use Rattle.cluster_steps.proofs.PipeGroups.{agree, alike, all_both, group_node_is, groups_are, groups_distinct, map_twice, node_of, some_alike}
@@ -83,7 +82,7 @@ abbrev Fits : List Exchange → (Address → Refusal) → Address → Result (Li
 Fits xs refusals a came count = FitsAs (has_lost a xs) (exchanges_with xs a) (refusals a) came count
 
 -- group by group
-abbrev AllFit : List Exchange → (Address → Refusal) → List Group → List (Result (List Tree) Cause) → Type 0
+abbrev AllFit : List Exchange → (Address → Refusal) → List NodeRequests → List (Result (List Tree) Cause) → Type 0
 AllFit xs refusals [] [] = ⊤
 AllFit xs refusals (g ∷ gs) (c ∷ came) = Fits xs refusals (group_node g.requests) c (length g.requests) × AllFit xs refusals gs came
 AllFit xs refusals _ _ = ⊥
@@ -91,7 +90,7 @@ AllFit xs refusals _ _ = ⊥
 -- ---- the groups of a run
 
 -- a node that is none of those of later groups
-unnamed : (old new : List Node) (place : ℕ) (xs : List Event) (gs : List Group) (came : List (Result (List Tree) Cause)) (a : Address) → Runs old new xs → AreKept gs xs came → among same_address a (group_nodes gs) ≡ false
+unnamed : (old new : List Node) (place : ℕ) (xs : List Event) (gs : List NodeRequests) (came : List (Result (List Tree) Cause)) (a : Address) → Runs old new xs → AreKept gs xs came → among same_address a (group_nodes gs) ≡ false
     → (exchanges_with (exchanges_of place xs) a ≡ []) × (has_lost a (exchanges_of place xs) ≡ false)
 unnamed old new place [] [] [] a r q n = (refl, refl)
 unnamed old new place [] [] (c ∷ came) a r q n = absurd q
@@ -109,7 +108,7 @@ unnamed old new place (x ∷ xs) (g ∷ gs) (c ∷ came) a r q n =
     )
 
 -- the group of the first link call
-first_fits : (old mid : List Node) (place : ℕ) (x : Event) (g : Group) (came : Result (List Tree) Cause) (later : Refusal) → LinkCalled old mid x → x.requests ≡ g.requests → IsKept x x.ending came
+first_fits : (old mid : List Node) (place : ℕ) (x : Event) (g : NodeRequests) (came : Result (List Tree) Cause) (later : Refusal) → LinkCalled old mid x → x.requests ≡ g.requests → IsKept x x.ending came
     → FitsAs (has_lost x.node (exchanges_at place x)) (exchanges_with (exchanges_at place x) x.node) (refusal_by x.ending later) came (length g.requests)
 first_fits old mid place x g came later s same q = (count, by x.ending came refl q (told_here old mid x place s))
   where
@@ -148,7 +147,7 @@ module _ (old mid : List Node) (place : ℕ) (x : Event) (s : LinkCalled old mid
       filter-append (λ (e : Exchange). same_address e.request.node a) (exchanges_at place x) later ∙ ap (λ ys. ys ++ exchanges_with later a) (with_other x.node a (exchanges_at place x) all n) in
       rw (lost, own, n) f
 
-  still_fit : (a : Address) → x.node ≡ a → (gs : List Group) (came : List (Result (List Tree) Cause)) → among same_address a (group_nodes gs) ≡ false → AllFit later refusals gs came → AllFit both both_refusals gs came
+  still_fit : (a : Address) → x.node ≡ a → (gs : List NodeRequests) (came : List (Result (List Tree) Cause)) → among same_address a (group_nodes gs) ≡ false → AllFit later refusals gs came → AllFit both both_refusals gs came
   still_fit a is [] [] n f = tt
   still_fit a is [] (c ∷ came) n f = absurd f
   still_fit a is (g ∷ gs) [] n f = absurd f
@@ -157,7 +156,7 @@ module _ (old mid : List Node) (place : ℕ) (x : Event) (s : LinkCalled old mid
       (still_fits (group_node g.requests) c (length g.requests) (ap (λ k. same_address k (group_node g.requests)) is ∙ parts.0) f.0, still_fit a is gs came parts.1 f.1)
 
   -- the group of the link call itself
-  own_fits : (g : Group) (came : Result (List Tree) Cause) → x.node ≡ group_node g.requests → x.requests ≡ g.requests → IsKept x x.ending came → exchanges_with later x.node ≡ [] → has_lost x.node later ≡ false
+  own_fits : (g : NodeRequests) (came : Result (List Tree) Cause) → x.node ≡ group_node g.requests → x.requests ≡ g.requests → IsKept x x.ending came → exchanges_with later x.node ≡ [] → has_lost x.node later ≡ false
       → Fits both both_refusals (group_node g.requests) came (length g.requests)
   own_fits g came is same q none kept =
       subst (λ a. Fits both both_refusals a came (length g.requests)) is (rw (lost, own, same_refl x.node) (first_fits old mid place x g came (refusals x.node) s same q))
@@ -168,7 +167,7 @@ module _ (old mid : List Node) (place : ℕ) (x : Event) (s : LinkCalled old mid
       own : exchanges_with both x.node ≡ exchanges_with (exchanges_at place x) x.node
       own = filter-append (λ (e : Exchange). same_address e.request.node x.node) (exchanges_at place x) later ∙ ap (λ ys. exchanges_with (exchanges_at place x) x.node ++ ys) none ∙ append-nil _
 
-groups_fit : (old new : List Node) (place : ℕ) (xs : List Event) (gs : List Group) (came : List (Result (List Tree) Cause)) → Runs old new xs → IsDistinct same_address (group_nodes gs) → AreKept gs xs came → AllFit (exchanges_of place xs) (refusals_of xs) gs came
+groups_fit : (old new : List Node) (place : ℕ) (xs : List Event) (gs : List NodeRequests) (came : List (Result (List Tree) Cause)) → Runs old new xs → IsDistinct same_address (group_nodes gs) → AreKept gs xs came → AllFit (exchanges_of place xs) (refusals_of xs) gs came
 groups_fit old new place [] [] [] r d q = tt
 groups_fit old new place [] [] (c ∷ came) r d q = absurd q
 groups_fit old new place [] (g ∷ gs) came r d q = absurd q
@@ -183,10 +182,10 @@ groups_fit old new place (x ∷ xs) (g ∷ gs) (c ∷ came) r d q =
 
 -- ---- numbers of groups
 
-fit_at : (xs : List Exchange) (refusals : Address → Refusal) (gs : List Group) (came : List (Result (List Tree) Cause)) (n : ℕ) (g : Group) → AllFit xs refusals gs came → slice_get gs n ≡ Some g → Fits xs refusals (group_node g.requests) (came_from came n) (length g.requests)
+fit_at : (xs : List Exchange) (refusals : Address → Refusal) (gs : List NodeRequests) (came : List (Result (List Tree) Cause)) (n : ℕ) (g : NodeRequests) → AllFit xs refusals gs came → slice_get gs n ≡ Some g → Fits xs refusals (group_node g.requests) (came_from came n) (length g.requests)
 fit_at xs refusals [] came n g f e = cc
 fit_at xs refusals (h ∷ gs) [] n g f e = absurd f
-fit_at xs refusals (h ∷ gs) (c ∷ came) zero g f e = let same : h ≡ g = cc in subst (λ (k : Group). Fits xs refusals (group_node k.requests) c (length k.requests)) same f.0
+fit_at xs refusals (h ∷ gs) (c ∷ came) zero g f e = let same : h ≡ g = cc in subst (λ (k : NodeRequests). Fits xs refusals (group_node k.requests) c (length k.requests)) same f.0
 fit_at xs refusals (h ∷ gs) (c ∷ came) (suc n) g f e = fit_at xs refusals gs came n g f.1 e
 
 found_among : (ks : List ℕ) (n k : ℕ) → slice_get ks n ≡ Some k → among nat_eq k ks ≡ true
@@ -344,7 +343,7 @@ module _ (xs : List Exchange) (refusals : Address → Refusal) where
 
 -- ---- the requests
 
-events_of_groups : (gs : List Group) (xs : List Event) (came : List (Result (List Tree) Cause)) → AreKept gs xs came → (map (λ (x : Event). x.node) xs ≡ group_nodes gs) × (log_of xs ≡ concat (request_lists gs))
+events_of_groups : (gs : List NodeRequests) (xs : List Event) (came : List (Result (List Tree) Cause)) → AreKept gs xs came → (map (λ (x : Event). x.node) xs ≡ group_nodes gs) × (log_of xs ≡ concat (request_lists gs))
 events_of_groups [] [] [] k = (refl, refl)
 events_of_groups [] [] (c ∷ came) k = absurd k
 events_of_groups [] (x ∷ xs) came k = absurd k
@@ -399,7 +398,7 @@ made_each strategy old new entries cds ns came outcomes planned placed numbers e
     }
 
 -- the same from what the code says of its steps
-pub each_made : (strategy : Option Strategy) (old mid new : World) (entries : List Entry) (cds : List CodeDispatch) (gs : List Group) (ns : List ℕ) (came : List (Result (List Tree) Cause)) (outcomes : List (Result Tree Refusal))
+pub each_made : (strategy : Option Strategy) (old mid new : World) (entries : List Entry) (cds : List CodeDispatch) (gs : List NodeRequests) (ns : List ℕ) (came : List (Result (List Tree) Cause)) (outcomes : List (Result Tree Refusal))
     → mid ≡ with_log old [] [] → IsPlanned strategy (client_of old) (Pipeline entries) [] (Ok (map dispatch_of cds)) → AllByRecursion (IsPlaced mid.nodes) cds → gs ≡ pipe_groups cds → map (slice_get (firsts nat_eq (map place_in cds))) ns ≡ map (λ d. Some (place_in d)) cds
     → EachExchanged mid new gs came → outcomes ≡ told_each ns (came_from came) → WholesTold strategy old new entries (Ok outcomes)
 each_made strategy old mid new entries cds gs ns came outcomes stays planned placed grouped numbers e told =

@@ -1,8 +1,8 @@
 -- A pipeline in which split commands stand as their parts, from the run of these parts.
-use Rattle.std.specs.Prelude.{◌+◌, ◌≤◌, ◌||◌, cond, is_some, IfSome, MatchOption}
+use Rattle.std.specs.Prelude.{◌+◌, ◌≤◌, ◌||◌, cond, is_some, replicate, IfSome, MatchOption}
 use Rattle.std.specs.List.{list_any, AllByRecursion}
 use Rattle.std.proofs.Common.{◌≡◌, ◌≢◌, ℕ, zero, suc, Bool, true, false, List, [], ◌∷◌, ◌++◌, map, take, drop, length, length-append, append-nil, append_assoc, Option, Some, None, option_map, Result, Ok, Err, refl, sym, ap, ◌∙◌, subst, arith}
-use Rattle.std.proofs.lemmas.List.{length-map}
+use Rattle.std.proofs.lemmas.List.{length-map, map-append}
 use Rattle.resp_core.specs.Trees.{Tree, nil}
 use Rattle.resp_core.specs.Trees as trees
 use Rattle.resp_core.specs.Errors.{Refusal, by_cause, at_position}
@@ -34,13 +34,13 @@ use Rattle.cluster_calls.specs.Links.Happened.{client_of}
 use Rattle.cluster_calls.specs.Links.Log.{Exchange, has_lost, requests}
 use Rattle.cluster_calls.specs.Links.Run.{with_log}
 use Rattle.cluster_calls.specs.Links.World.{World}
-use Rattle.cluster_steps.specs.Joins.{AreOutcomesBy, HasRoom, IsJoinedBy, IsTold, width_by, width_of_all}
+use Rattle.cluster_steps.specs.Joins.{AreOutcomesBy, HasRoom, IsJoinedBy, IsTold, shown_join, width_by, width_of_all}
 use Rattle.cluster_steps.specs.FirstPlaces.{part_of}
 use Rattle.cluster_steps.specs.declared.join.Join.{Join}
 use Rattle.cluster_steps.specs.declared.route.Part.{Part as CodePart}
-use Rattle.cluster_steps.specs.CodeParts.{part_targets, routed_part}
+use Rattle.cluster_steps.specs.CodeParts.{part_targets, routed_at, routed_part}
 use Rattle.cluster_steps.specs.WholeParts.{whole_by}
-use Rattle.cluster_client.specs.InParts.{AreInParts, AreReady, IsAdded, if_several_targets, places_of, shown_joins}
+use Rattle.cluster_client.specs.InParts.{AreInParts, AreReady, IsAdded, if_several_targets, joined_by, joins_after, places_of, shown_joins}
 use Rattle.cluster_client.specs.declared.pipeline.in_parts.InParts.{InParts}
 use Rattle.cluster_client.proofs.PipeParts.{before, before_none}
 use Rattle.cluster_calls.proofs.LinkLaws.EventLists.{exchanged}
@@ -50,7 +50,7 @@ use Rattle.cluster_calls.proofs.LogLaws.Fates.{pairwise_length, pipe_dispatches}
 use Rattle.cluster_calls.proofs.ServerLaws.Pipes.{IsEntryDispatch}
 use Rattle.cluster_steps.proofs.PartReplies.{cut_so}
 use Rattle.cluster_steps.proofs.ReadStreams.{sent_plain}
-use Rattle.cluster_steps.proofs.SplitCommands.{all_of, routed_at}
+use Rattle.cluster_steps.proofs.SplitCommands.{all_of}
 use Rattle.cluster_client.proofs.EachPiping.{WholesTold, nothing_sent}
 
 abbrev Outcome : Type 0
@@ -107,6 +107,13 @@ pub told_length : (client : Client) (picks : List Address) (entries : List Entry
 told_length client picks entries ds refusals xs planned sent =
     length-map (position_exchanges ds xs) (outcome_of refusals xs) ∙ pairwise_length (IsItsOwn xs) ds (position_exchanges ds xs) (positions_drawn ds xs sent).0
     ∙ pairwise_length IsEntryDispatch entries ds (pipe_dispatches client picks entries ds planned).1
+
+-- ---- a command of several slots is split
+
+pub several_is : (ts : List Target) (p : Option PartsByPlace) (made : PartsByPlace) → Some made ≡ if_several_targets ts p → Some made ≡ p
+several_is [] p made e = cc
+several_is (t ∷ []) p made e = cc
+several_is (t ∷ u ∷ ts) p made e = e
 
 -- ---- what is told of each
 
@@ -218,42 +225,41 @@ module _ (strategy : Option Strategy) (old new : World) (entries : List Entry) (
   refused_in_parts refusal w = unsent strategy old new entries refusal w.told.stays
       (λ m. ap (λ o. unless o (plan (client_of old) [] (Pipeline (in_parts entries)))) placed ∙ w.told.refused m)
 
--- ---- all commands go whole
+-- ---- no command is split
 
-parts_there : (client : Client) (picks : List Address) (r : Result (List Part) Refusal) (ds : List Dispatch) → result_then r (λ parts. result_then (dispatches client picks parts) (λ ds. Ok ds)) ≡ Ok ds → (parts : List Part) × (r ≡ Ok parts)
-parts_there client picks (Ok parts) ds e = (parts, refl)
-parts_there client picks (Err refusal) ds e = cc
+own_outcomes : (n : ℕ) (told : List Outcome) → n ≡ length told → AreOutcomesBy (replicate n None) told told
+own_outcomes zero [] e = refl
+own_outcomes zero (t ∷ told) e = cc
+own_outcomes (suc n) [] e = cc
+own_outcomes (suc n) (t ∷ told) e = (refl, own_outcomes n told (let k : n ≡ length told = omega (arith, e) in k))
 
-pub told_whole : (strategy : Option Strategy) (old new : World) (entries : List Entry) (told : List Outcome) → WholesTold strategy old new entries (Ok told) → EachMade strategy old new entries (Ok told)
-told_whole strategy old new entries told w =
-    let found = parts_there (client_of old) new.picked (pipeline_parts 0 entries) w.told.dispatches w.told.planned in
-    let whole = wholes_stay_whole entries found.0 found.1 in
-    let count = (wholes_are_told strategy old new entries told w).count in
-    told_in_parts strategy old new entries whole.1 told told (subst (λ es. WholesTold strategy old new es (Ok told)) (sym whole.0) w) (whole_told_so entries found.0 found.1 told count)
-
--- a pipeline without parts tells a position
-refused_at : (entries : List Entry) (position : ℕ) (refusal : Refusal) → pipeline_parts position entries ≡ Err refusal → (n : ℕ) × (refusal ≡ at_position n)
-refused_at [] position refusal e = cc
-refused_at (e ∷ es) position refusal k = by (entry_part e) (pipeline_parts (suc position) es) refl k (λ f. refused_at es (suc position) refusal f)
+pub told_so : (entries : List Entry) (told : List Outcome) → replicate (length entries) None ≡ map places_of (splits_in entries) → width_of_all (map places_of (splits_in entries)) ≡ length told → AreOutcomesOf (splits_in entries) told told
+told_so entries told none width =
+    outcomes_by_places entries told told width
+    (subst (λ ps. AreOutcomesBy ps told told) none (own_outcomes (length entries) told (sym (whole_widths (length entries)) ∙ ap width_of_all none ∙ width)))
   where
-    by : (o : Option Part) (r : Result (List Part) Refusal) → pipeline_parts (suc position) es ≡ r → with_whole position o r ≡ Err refusal → (pipeline_parts (suc position) es ≡ Err refusal → (n : ℕ) × (refusal ≡ at_position n)) → (n : ℕ) × (refusal ≡ at_position n)
-    by None r f k ih = (position, cc)
-    by (Some part) (Ok parts) f k ih = cc
-    by (Some part) (Err other) f k ih = let same : other ≡ refusal = cc in ih (f ∙ ap (λ q. Err q) same)
+    whole_widths : (n : ℕ) → width_of_all (replicate n None) ≡ n
+    whole_widths zero = refl
+    whole_widths (suc n) = let k : 1 + width_of_all (replicate n None) ≡ suc n = omega (arith, whole_widths n) in k
 
-pub refused_whole : (strategy : Option Strategy) (old new : World) (entries : List Entry) (refusal : Refusal) → ((n : ℕ) → refusal ≢ at_position n) → WholesTold strategy old new entries (Err refusal) → EachMade strategy old new entries (Err refusal)
-refused_whole strategy old new entries refusal other w = by (pipeline_parts 0 entries) refl
-  where
-    by : (r : Result (List Part) Refusal) → pipeline_parts 0 entries ≡ r → EachMade strategy old new entries (Err refusal)
-    by (Ok parts) p =
-        let whole = wholes_stay_whole entries parts p in
-        refused_in_parts strategy old new entries whole.1 refusal (subst (λ es. WholesTold strategy old new es (Err refusal)) (sym whole.0) w)
-    by (Err found) p = unsent strategy old new entries refusal w.told.stays
-        (λ m.
-        let at = refused_at entries 0 found p in
-        let is : Err found ≡ Err refusal = sym (ap (λ r. result_then r (λ parts. result_then (dispatches (client_of old) [] parts) (λ ds. Ok ds))) p) ∙ w.told.refused m in
-        let same : found ≡ refusal = cc in
-        absurd (other at.0 (sym same ∙ at.1)))
+-- ---- joins behind those of commands that go whole
+
+pub all_joined : (n : ℕ) (joins : List (Option PartsByPlace)) → joins ≢ [] → joined_by n joins ≡ joins
+all_joined n [] some = absurd (some refl)
+all_joined n (join ∷ joins) some = refl
+
+replicated : (n : ℕ) (joins : List (Option PartsByPlace)) → replicate n None ++ None ∷ joins ≡ None ∷ (replicate n None ++ joins)
+replicated zero joins = refl
+replicated (suc n) joins = ap (λ js. None ∷ js) (replicated n joins)
+
+-- one more that goes whole
+pub one_more : (n : ℕ) → joined_by (suc n) [] ≡ joined_by n [] ++ None ∷ []
+one_more n = sym (replicated n [] ∙ ap (λ js. None ∷ js) (append-nil (replicate n None)))
+
+-- one more behind the others
+pub pushed_join : (n : ℕ) (joins new : List (Option Join)) (join : Option Join) → new ≡ joins ++ join ∷ [] → joined_by n (shown_joins new) ≡ shown_joins joins ++ option_map shown_join join ∷ []
+pushed_join n [] new join is = rw is refl
+pushed_join n (j ∷ joins) new join is = rw is (ap (λ js. option_map shown_join j ∷ js) (map-append (option_map shown_join) joins (join ∷ [])))
 
 -- ---- what goes out, command by command
 
@@ -406,10 +412,11 @@ parts_then (e ∷ es) fs ps position h = by (entry_part e) (pipeline_parts (suc 
 pub record Added (entries : List Entry) (position : ℕ) (rest : List Entry) (p : InParts) : Type 0 where
   pub placed : first_unplaced position rest ≡ first_unplaced 0 entries
   pub parts : before (map part_of p.parts.items) (pipeline_parts (length (map part_of p.parts.items)) (in_parts rest)) ≡ pipeline_parts 0 (in_parts entries)
-  pub joins : shown_joins p.joins.items ++ map places_of (splits_in rest) ≡ map places_of (splits_in entries)
+  pub count : position + length rest ≡ length entries
+  pub joins : joins_after position p ++ map places_of (splits_in rest) ≡ map places_of (splits_in entries)
   pub ready : AreReady p.joins.items
 
-pub added_more : (entries : List Entry) (position : ℕ) (e : Entry) (rest : List Entry) (old new : InParts) → Added entries position (e ∷ rest) old → IsAdded e old new → Added entries (suc position) rest new
+pub added_more : (entries : List Entry) (position : ℕ) (e : Entry) (rest : List Entry) (old new : InParts) → Added entries position (e ∷ rest) old → IsAdded position e old new → Added entries (suc position) rest new
 added_more entries position e rest old new a more = record {
   placed = sym (ap (λ b. cond b (first_unplaced (suc position) rest) (Some (at_position position))) more.placed) ∙ a.placed;
   parts =
@@ -420,7 +427,8 @@ added_more entries position e rest old new a more = record {
       ∙ sym (before_more ps more.more (pipeline_parts (length ps + length more.more) (in_parts rest)))
       ∙ ap (before ps) (sym (parts_then (entries_by e (split_at e)) (in_parts rest) more.more (length ps) (more.goes (length ps))))
       ∙ a.parts;
-  joins = ap (λ js. js ++ map places_of (splits_in rest)) more.joins ∙ append_assoc (shown_joins old.joins.items) (places_of (split_at e) ∷ []) (map places_of (splits_in rest)) ∙ a.joins;
+  count = let count : suc position + length rest ≡ length entries = omega (arith, a.count) in count;
+  joins = ap (λ js. js ++ map places_of (splits_in rest)) more.joins ∙ append_assoc (joins_after position old) (places_of (split_at e) ∷ []) (map places_of (splits_in rest)) ∙ a.joins;
   ready = more.ready a.ready;
 }
 
@@ -428,7 +436,9 @@ pub added_all : (entries : List Entry) (position : ℕ) (p : InParts) → Added 
 added_all entries position p a = record {
   placed = sym a.placed;
   parts = sym a.parts ∙ ap (λ xs. Ok xs) (append-nil (map part_of p.parts.items));
-  joins = sym (append-nil (shown_joins p.joins.items)) ∙ a.joins;
+  joins =
+      let all : length entries ≡ position = omega (arith, a.count) in
+      ap (λ n. joins_after n p) all ∙ sym (append-nil (joins_after position p)) ∙ a.joins;
   ready = a.ready;
 }
 

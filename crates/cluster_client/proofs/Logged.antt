@@ -3,7 +3,7 @@ use Rattle.std.proofs.Common.{◌≡◌, ◌≤◌, ◌+◌, ℕ, List, [], leng
 use Rattle.resp_core.specs.Errors.{by_cause}
 use Rattle.resp_core.specs.declared.errors.redis_error.Cause.TheVariants.{Memory}
 use Rattle.cluster_routing.specs.Address.{Address}
-use Rattle.cluster_steps.specs.declared.place.Place.{Place}
+use Rattle.cluster_steps.specs.declared.hop.Hop.{Hop as CodeHop}
 use Rattle.cluster_steps.specs.Turns.{hop_to}
 use Rattle.cluster_calls.specs.Calls.Plan.{Dispatch}
 use Rattle.cluster_calls.specs.Calls.Redirects.{Hop}
@@ -31,14 +31,14 @@ module _ (world : World) (log : List Request) (same : log ≡ world.log) (ds : L
   pub nodes_not_begun : NodesAsked world (record world { log = log }) ds (Err (by_cause Memory))
   nodes_not_begun = subst (λ l. NodesAsked world (record world { log = l }) ds (Err (by_cause Memory))) (sym same) (none_asked world ds)
 
-pub chain_with_room : (old now : World) (args : List (List ℕ)) (first : Hop) (left : ℕ) (hop : Hop) (which : ℕ) (log : List Request) → log ≡ now.log → Loop old now args first left hop which
-    → Loop old (record now { log = log }) args first left hop which
-chain_with_room old now args first left hop which log same l = subst (λ k. Loop old (record now { log = k }) args first left hop which) (sym same) l
+pub chain_with_room : (old now : World) (args : List (List ℕ)) (first : Hop) (redirects : ℕ) (hop : Hop) (link : ℕ) (log : List Request) → log ≡ now.log → Loop old now args first redirects hop link
+    → Loop old (record now { log = log }) args first redirects hop link
+chain_with_room old now args first redirects hop link log same l = subst (λ k. Loop old (record now { log = k }) args first redirects hop link) (sym same) l
 
 -- ---- places
 
-pub chain_to : (old now : World) (args : List (List ℕ)) (first : Hop) (left : ℕ) (p q : Place) → p ≡ q → Loop old now args first left (hop_to q) q.which → Loop old now args first left (hop_to p) p.which
-chain_to old now args first left p q same l = subst (λ r. Loop old now args first left (hop_to r) r.which) (sym same) l
+pub chain_to : (old now : World) (args : List (List ℕ)) (first : Hop) (redirects : ℕ) (p q : CodeHop) → p ≡ q → Loop old now args first redirects (hop_to q) q.link → Loop old now args first redirects (hop_to p) p.link
+chain_to old now args first redirects p q same l = subst (λ r. Loop old now args first redirects (hop_to r) r.link) (sym same) l
 
 pub open_at : (all : List Node) (node : Address) (m n : ℕ) → m ≡ n → IsOpenAt all node n → IsOpenAt all node m
 open_at all node m n same at = subst (λ k. IsOpenAt all node k) (sym same) at

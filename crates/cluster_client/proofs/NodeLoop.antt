@@ -1,7 +1,7 @@
 -- A command sent to several nodes one after another.
 use Rattle.std.specs.Prelude.{◌||◌, IfErr}
 use Rattle.std.specs.List.{AllByRecursion}
-use Rattle.std.proofs.Common.{◌≡◌, ◌≢◌, ℕ, ◌+◌, Bool, false, List, [], ◌∷◌, ◌++◌, map, length, inl, inr, refl, sym, ap, ◌∙◌, subst, append-nil, append_assoc, Result, Ok, Err, arith}
+use Rattle.std.proofs.Common.{◌≡◌, ◌≢◌, ℕ, ◌+◌, Bool, true, false, List, [], ◌∷◌, ◌++◌, map, length, inl, inr, refl, sym, ap, ◌∙◌, subst, append-nil, append_assoc, Result, Ok, Err, arith}
 use Rattle.std.proofs.lemmas.List.{map-append}
 use Rattle.resp_core.specs.Trees.{Tree}
 use Rattle.resp_core.specs.Errors.{Refusal, by_cause}
@@ -18,7 +18,7 @@ use Rattle.cluster_calls.specs.Links.Log.{Exchange, is_moved_reply}
 use Rattle.cluster_calls.specs.Links.World.{World, Node, is_usable, one_reply, tree_result}
 use Rattle.cluster_calls.specs.Links.Places.{IsOpenAt}
 use Rattle.cluster_calls.specs.Links.Faults.{LinkFault}
-use Rattle.cluster_calls.specs.Links.Events.{Event, Runs, log_of, exchanges_of, Agrees, is_memory_ending, lack_memory, answered_moved, faults_of}
+use Rattle.cluster_calls.specs.Links.Events.{Event, log_of, exchanges_of, Agrees, is_memory_ending, lack_memory, answered_moved, faults_of, StopsAtMemory}
 use Rattle.cluster_calls.specs.Links.Exchanges.{Exchanges}
 use Rattle.cluster_calls.specs.Links.Chains.{IsSingle}
 use Rattle.cluster_steps.specs.Dispatches.{IsPlaced}
@@ -29,13 +29,15 @@ use Rattle.cluster_calls.specs.Calls.Legal.{direct}
 use Rattle.cluster_calls.specs.Calls.Replies.{outcome_by, outcomes, reply_error, unless_error}
 use Rattle.cluster_calls.proofs.LinkLaws.LinkPlaces.{linked}
 use Rattle.cluster_calls.proofs.LinkLaws.LackingLists.{ends-append, lacking}
-use Rattle.cluster_calls.proofs.LinkLaws.LinkRuns.{Runs-append, or_parts}
+use Rattle.cluster_calls.proofs.LinkLaws.LinkRuns.{or_parts}
 use Rattle.cluster_calls.proofs.LinkLaws.LinkCalls.{leaves}
-use Rattle.cluster_calls.proofs.LinkLaws.EventLists.{log-append, exchanges-append, memory-append, moved-append, stops-had, stops-append}
+use Rattle.cluster_calls.proofs.LinkLaws.EventLists.{log-append, exchanges-append, memory-append, stops-had, stops-append}
 use Rattle.cluster_calls.proofs.LinkLaws.FaultsAgree.{agrees, Agrees-front, Agrees-back}
-use Rattle.cluster_calls.proofs.LinkLaws.ChainLoop.{Keeps, or_assoc, or_none}
-use Rattle.cluster_calls.proofs.LinkLaws.PartLoop.{all-append, place_same, place_within}
+use Rattle.cluster_calls.proofs.LinkLaws.Grown.{Keeps, Grown, grown_more, grown_none, grown_one, grown_same}
+use Rattle.cluster_calls.proofs.LinkLaws.PartLoop.{place_same, place_within}
 use Rattle.cluster_calls.proofs.LinkLaws.OneRequest.{exchanged_one, reply_in, single, OneMade, one_reply_is, one_had_memory, one_fault, single_moved}
+use Rattle.cluster_calls.proofs.Lists.{or_none, all-append}
+use Rattle.cluster_calls.specs.Links.Lacking.{ends_lacking}
 
 abbrev failed : Refusal → Result (List Outcome) Refusal
 failed e = Err e
@@ -45,22 +47,15 @@ no_tree e = Err e
 
 -- ---- one node
 
--- nothing was done, for want of memory
-pub nothing_asked : (old new : World) (d : Dispatch) → Keeps old new → new.nodes ≡ old.nodes → new.log ≡ old.log → new.needs_refresh ≡ old.needs_refresh → NodesAsked old new (d ∷ []) (Err (by_cause Memory))
-nothing_asked old new d same nodes log flag = record {
-  events = [];
-  runs = nodes;
-  stops = tt;
-  logged = log ∙ sym (append-nil old.log);
-  single = tt;
-  begins = (direct d ∷ [], refl);
-  flag = flag ∙ sym (or_none old.needs_refresh);
-  entries = same.entries;
-  settings = same.settings;
-  picked = same.picked;
-  answered = λ m. absurd (m refl);
-  room = λ lacks some. absurd (some refl);
-}
+-- what these link calls come to
+nodes_by : (old new : World) (ds : List Dispatch) (result : Result (List Outcome) Refusal) (events : List Event) → Grown old new events → StopsAtMemory events → AllByRecursion IsSingle events → (later : List Request) → log_of events ++ later ≡ map direct ds
+    → (result ≢ Err (by_cause Memory) → NodesAnswered ds events result) → (result ≡ Err (by_cause Memory) → events ≢ [] → ends_lacking events ≡ true) → NodesAsked old new ds result
+nodes_by old new ds result events g stops single later begins answered room = record { events = events; runs = g.runs; stops = stops; logged = g.logged; single = single; begins = (later, begins); flag = g.flag; entries = g.keeps.entries; settings = g.keeps.settings; picked = g.keeps.picked; answered = answered; room = room }
+
+-- no node was asked, for want of memory
+pub nothing_asked : (old new : World) (ds : List Dispatch) → Keeps old new → new.nodes ≡ old.nodes → new.log ≡ old.log → new.needs_refresh ≡ old.needs_refresh → NodesAsked old new ds (Err (by_cause Memory))
+nothing_asked old new ds same nodes log flag =
+    nodes_by old new ds (Err (by_cause Memory)) [] (grown_same old old new [] (grown_none old) nodes log flag same) tt tt (map direct ds) refl (λ m. absurd (m refl)) (λ lacks some. absurd (some refl))
 
 -- a request without ASKING
 pub by_asking : (d : Dispatch) (asking : Bool) → asking ≡ false → record { node = d.node; args = d.args; asking = asking } ≡ direct d
@@ -99,20 +94,9 @@ module _ (old new : World) (d : Dispatch) (same : Keeps old new) (reply : Result
     moved = or_none _ ∙ single_moved old.nodes new.nodes (direct d) reply o ∙ ap is_moved_reply (same_reply reply)
 
     one_asked : (r : Result (List Outcome) Refusal) → (r ≢ Err (by_cause Memory) → NodesAnswered (d ∷ []) (event ∷ []) r) → (r ≡ Err (by_cause Memory) → reply ≡ Err (by_cause Memory)) → NodesAsked old new (d ∷ []) r
-    one_asked r answered alike = record {
-      events = event ∷ [];
-      runs = (new.nodes, o.called, refl);
-      stops = (λ lacks. refl, tt);
-      logged = log;
-      single = ((direct d, refl), tt);
-      begins = ([], refl);
-      flag = flag ∙ ap (λ b. old.needs_refresh || b) (sym moved);
-      entries = same.entries;
-      settings = same.settings;
-      picked = same.picked;
-      answered = answered;
-      room = λ lacks some. lacking (one_reply reply) (ap one_reply (alike lacks));
-    }
+    one_asked r answered alike =
+        nodes_by old new (d ∷ []) r (event ∷ []) (grown_one old old new [] event (is_moved_reply (tree_in reply)) (grown_none old) o.called log flag moved same) (λ lacks. refl, tt) ((direct d, refl), tt) [] refl answered
+        (λ lacks some. lacking (one_reply reply) (ap one_reply (alike lacks)))
 
     one_told : (outcome : Result Tree Refusal) → IsOutcomeOf reply outcome → NodesAsked old new (d ∷ []) (Ok ((d.node, outcome) ∷ []))
     one_told outcome told = one_asked (Ok ((d.node, outcome) ∷ [])) (λ m.
@@ -127,9 +111,9 @@ module _ (old new : World) (d : Dispatch) (same : Keeps old new) (reply : Result
         (λ lacks. cc)
 
   -- the same from what the code says of its exchange
-  module _ (which : ℕ) (at : IsOpenAt old.nodes d.node which) (q : Request) (is : q ≡ direct d) (x : Exchanges old.nodes new.nodes which old.log new.log (q ∷ []) (skipped q.asking) 1 (one_reply reply)) where
-    asked : Exchanges old.nodes new.nodes which old.log new.log (direct d ∷ []) (skipped (direct d).asking) 1 (one_reply reply)
-    asked = subst (λ p. Exchanges old.nodes new.nodes which old.log new.log (p ∷ []) (skipped p.asking) 1 (one_reply reply)) is x
+  module _ (link : ℕ) (at : IsOpenAt old.nodes d.node link) (q : Request) (is : q ≡ direct d) (x : Exchanges old.nodes new.nodes link old.log new.log (q ∷ []) (skipped q.asking) 1 (one_reply reply)) where
+    asked : Exchanges old.nodes new.nodes link old.log new.log (direct d ∷ []) (skipped (direct d).asking) 1 (one_reply reply)
+    asked = subst (λ p. Exchanges old.nodes new.nodes link old.log new.log (p ∷ []) (skipped p.asking) 1 (one_reply reply)) is x
 
     none_replied : (r : Result Tree Refusal) → one_reply r ≡ Err (by_cause Memory) → r ≡ Err (by_cause Memory)
     none_replied (Ok tree) e = cc e
@@ -137,15 +121,15 @@ module _ (old new : World) (d : Dispatch) (same : Keeps old new) (reply : Result
 
     -- the node has an outcome
     pub node_told : (outcome : Result Tree Refusal) → IsOutcomeOf reply outcome → NodesAsked old new (d ∷ []) (Ok ((d.node, outcome) ∷ []))
-    node_told outcome told = elim (exchanged_one old.nodes new.nodes which old.log new.log (direct d) reply at asked) as (λ _. NodesAsked old new (d ∷ []) (Ok ((d.node, outcome) ∷ []))) [
+    node_told outcome told = elim (exchanged_one old.nodes new.nodes link old.log new.log (direct d) reply at asked) as (λ _. NodesAsked old new (d ∷ []) (Ok ((d.node, outcome) ∷ []))) [
       | inl none ↦ absurd (had_memory reply outcome told (none_replied reply none.2))
       | inr made ↦ one_told made.1 made.0 outcome told
     ]
 
     -- memory was refused in its exchange
     pub node_lost : reply ≡ Err (by_cause Memory) → NodesAsked old new (d ∷ []) (Err (by_cause Memory))
-    node_lost lost = elim (exchanged_one old.nodes new.nodes which old.log new.log (direct d) reply at asked) as (λ _. NodesAsked old new (d ∷ []) (Err (by_cause Memory))) [
-      | inl none ↦ nothing_asked old new d same none.0 none.1
+    node_lost lost = elim (exchanged_one old.nodes new.nodes link old.log new.log (direct d) reply at asked) as (λ _. NodesAsked old new (d ∷ []) (Err (by_cause Memory))) [
+      | inl none ↦ nothing_asked old new (d ∷ []) same none.0 none.1
           (flag ∙ ap (λ r. old.needs_refresh || is_moved_reply (tree_in r)) (none_replied reply none.2) ∙ or_none old.needs_refresh)
       | inr made ↦ one_asked made.1 made.0 (Err (by_cause Memory)) (λ m. absurd (m refl)) (λ lacks. lost)
     ]
@@ -155,85 +139,33 @@ module _ (old new : World) (d : Dispatch) (same : Keeps old new) (reply : Result
 -- what the loop over nodes keeps: those before `rest` were asked, with these outcomes
 pub record AskLoop (old now : World) (ds rest : List Dispatch) (os : List Outcome) : Type 0 where
   pub events : List Event
-  pub runs : Runs old.nodes now.nodes events
-  pub logged : now.log ≡ old.log ++ log_of events
+  pub grown : Grown old now events
   pub single : AllByRecursion IsSingle events
   pub memory : lack_memory events ≡ false
   pub sent : log_of events ++ map direct rest ≡ map direct ds
   pub tells : (faults : Address → LinkFault) → Agrees faults events → (place : ℕ) → outcomes faults (exchanges_of place events) ≡ os
-  pub flag : now.needs_refresh ≡ (old.needs_refresh || answered_moved events)
-  pub entries : now.entries ≡ old.entries
-  pub settings : now.settings ≡ old.settings
-  pub picked : now.picked ≡ old.picked
 
 pub asks_start : (old : World) (ds : List Dispatch) → AskLoop old old ds ds []
-asks_start old ds = record {
-  events = [];
-  runs = refl;
-  logged = sym (append-nil old.log);
-  single = tt;
-  memory = refl;
-  sent = refl;
-  tells = λ faults agrees place. refl;
-  flag = sym (or_none old.needs_refresh);
-  entries = refl;
-  settings = refl;
-  picked = refl;
-}
+asks_start old ds = record { events = []; grown = grown_none old; single = tt; memory = refl; sent = refl; tells = λ faults agrees place. refl }
 
--- no node was asked, for want of memory
 pub none_asked : (old : World) (ds : List Dispatch) → NodesAsked old old ds (Err (by_cause Memory))
-none_asked old ds = record {
-  events = [];
-  runs = refl;
-  stops = tt;
-  logged = sym (append-nil old.log);
-  single = tt;
-  begins = (map direct ds, refl);
-  flag = sym (or_none old.needs_refresh);
-  entries = refl;
-  settings = refl;
-  picked = refl;
-  answered = λ m. absurd (m refl);
-  room = λ lacks some. absurd (some refl);
-}
+none_asked old ds = nothing_asked old old ds (record { entries = refl; settings = refl; picked = refl }) refl refl refl
 
 -- all nodes were asked
 pub asks_done : (old now : World) (ds : List Dispatch) (os : List Outcome) → AskLoop old now ds [] os → NodesAsked old now ds (Ok os)
 asks_done old now ds os l =
     let sent : log_of l.events ≡ map direct ds = sym (append-nil (log_of l.events)) ∙ l.sent in
-    record {
-      events = l.events;
-      runs = l.runs;
-      stops = stops-had l.events l.memory;
-      logged = l.logged;
-      single = l.single;
-      begins = ([], l.sent);
-      flag = l.flag;
-      entries = l.entries;
-      settings = l.settings;
-      picked = l.picked;
-      answered = λ m. record { memory = l.memory; sent = sent; tells = λ faults agrees place. ap (λ all. Ok all) (sym (l.tells faults agrees place)) };
-      room = λ lacks some. cc;
-    }
+    nodes_by old now ds (Ok os) l.events l.grown (stops-had l.events l.memory) l.single [] l.sent
+    (λ m. record { memory = l.memory; sent = sent; tells = λ faults agrees place. ap (λ all. Ok all) (sym (l.tells faults agrees place)) })
+    (λ lacks some. cc)
 
 module _ (old now new : World) (ds : List Dispatch) (d : Dispatch) (rest : List Dispatch) (os : List Outcome) (l : AskLoop old now ds (d ∷ rest) os) where
   module _ (r : Result (List Outcome) Refusal) (m : NodesAsked now new (d ∷ []) r) where
     abbrev more_events : List Event
     more_events = l.events ++ m.events
 
-    runs_more : Runs old.nodes new.nodes more_events
-    runs_more = Runs-append old.nodes now.nodes new.nodes l.events m.events l.runs m.runs
-
-    logged_more : new.log ≡ old.log ++ log_of more_events
-    logged_more =
-        m.logged ∙ ap (λ qs. qs ++ log_of m.events) l.logged ∙ append_assoc old.log (log_of l.events) (log_of m.events)
-        ∙ ap (λ qs. old.log ++ qs) (sym (log-append l.events m.events))
-
-    flag_more : new.needs_refresh ≡ (old.needs_refresh || answered_moved more_events)
-    flag_more =
-        m.flag ∙ ap (λ b. b || answered_moved m.events) l.flag ∙ sym (or_assoc old.needs_refresh (answered_moved l.events) (answered_moved m.events))
-        ∙ ap (λ b. old.needs_refresh || b) (sym (moved-append l.events m.events))
+    grown_here : Grown old new more_events
+    grown_here = grown_more old now new l.events m.events l.grown (record { runs = m.runs; logged = m.logged; flag = m.flag; keeps = record { entries = m.entries; settings = m.settings; picked = m.picked } })
 
     -- these requests of the node, and then those of the later nodes
     sent_more : (later : List Request) → log_of m.events ++ later ≡ direct d ∷ [] → log_of more_events ++ (later ++ map direct rest) ≡ map direct ds
@@ -249,22 +181,12 @@ module _ (old now new : World) (ds : List Dispatch) (d : Dispatch) (rest : List 
 
   -- memory was refused at the node
   pub asks_refused : (e : Refusal) → NodesAsked now new (d ∷ []) (Err e) → length new.log ≡ length now.log + 1 → NodesAsked old new ds (Err e)
-  asks_refused e m grown = record {
-    events = l.events ++ m.events;
-    runs = runs_more (Err e) m;
-    stops = stops-append l.events m.events l.memory m.stops;
-    logged = logged_more (Err e) m;
-    single = all-append l.events m.events l.single m.single;
-    begins = (m.begins.0 ++ map direct rest, sent_more (Err e) m m.begins.0 m.begins.1);
-    flag = flag_more (Err e) m;
-    entries = m.entries ∙ l.entries;
-    settings = m.settings ∙ l.settings;
-    picked = m.picked ∙ l.picked;
-    answered = λ had.
-        let told : failed e ≡ Ok (outcomes (faults_of m.events) (exchanges_of 0 m.events)) = (m.answered had).tells (faults_of m.events) (agrees now.nodes new.nodes m.events m.runs) 0 in
-        cc told;
-    room = λ lacks some. ends-append (λ (x : Event). is_memory_ending x.ending) l.events m.events (m.room lacks (grown_some m.events m.logged grown));
-  }
+  asks_refused e m grown =
+      nodes_by old new ds (Err e) (l.events ++ m.events) (grown_here (Err e) m) (stops-append l.events m.events l.memory m.stops) (all-append IsSingle l.events m.events l.single m.single) (m.begins.0 ++ map direct rest) (sent_more (Err e) m m.begins.0 m.begins.1)
+      (λ had.
+      let told : failed e ≡ Ok (outcomes (faults_of m.events) (exchanges_of 0 m.events)) = (m.answered had).tells (faults_of m.events) (agrees now.nodes new.nodes m.events m.runs) 0 in
+      cc told)
+      (λ lacks some. ends-append (λ (x : Event). is_memory_ending x.ending) l.events m.events (m.room lacks (grown_some m.events m.logged grown)))
 
   -- the node has an outcome
   pub asks_more : (o : Outcome) → NodesAsked now new (d ∷ []) (Ok (o ∷ [])) → AskLoop old new ds rest (os ++ o ∷ [])
@@ -272,9 +194,8 @@ module _ (old now new : World) (ds : List Dispatch) (d : Dispatch) (rest : List 
       let a = m.answered (λ k. cc k) in
       record {
         events = l.events ++ m.events;
-        runs = runs_more (Ok (o ∷ [])) m;
-        logged = logged_more (Ok (o ∷ [])) m;
-        single = all-append l.events m.events l.single m.single;
+        grown = grown_here (Ok (o ∷ [])) m;
+        single = all-append IsSingle l.events m.events l.single m.single;
         memory = memory-append l.events m.events l.memory a.memory;
         sent = sent_more (Ok (o ∷ [])) m [] (append-nil (log_of m.events) ∙ a.sent);
         tells = λ faults agreed place.
@@ -283,16 +204,12 @@ module _ (old now new : World) (ds : List Dispatch) (d : Dispatch) (rest : List 
             ap (outcomes faults) (exchanges-append l.events m.events place)
             ∙ map-append (λ (x : Exchange). (x.request.node, outcome_by (faults x.request.node) x.reply)) (exchanges_of place l.events) (exchanges_of at m.events)
             ∙ ap (λ all. all ++ outcomes faults (exchanges_of at m.events)) (l.tells faults (Agrees-front faults l.events m.events agreed) place) ∙ ap (λ all. os ++ all) (sym here);
-        flag = flag_more (Ok (o ∷ [])) m;
-        entries = m.entries ∙ l.entries;
-        settings = m.settings ∙ l.settings;
-        picked = m.picked ∙ l.picked;
       }
 
 -- ---- places of other nodes stay
 
 abbrev pub node_of : CodeDispatch → Address
-node_of e = address e.place.node
+node_of e = address e.hop.node
 
 not_to : (a : Address) (d : Dispatch) (log : List Request) → log ≡ direct d ∷ [] → same_address d.node a ≡ false → requests_to a log ≡ []
 not_to a d log is ne = ap (requests_to a) is ∙ none
@@ -309,7 +226,7 @@ other_placed old new d o m e ne p =
         place = place;
         linked = linked new.nodes (node_of e) ∙ ap is_usable (left.unasked (node_of e) (not_to (node_of e) d (log_of m.events) (m.answered (λ k. cc k)).sent ne)) ∙ sym (linked old.nodes (node_of e)) ∙ p.place.linked;
       };
-      within = place_within new.nodes (node_of e) e.place.which place;
+      within = place_within new.nodes (node_of e) e.hop.link place;
       direct = p.direct;
     }
 

@@ -1,25 +1,19 @@
 -- The parts of a pipeline, one command after another, and its plan.
-use Rattle.std.specs.Prelude.{option_and_then, option_map, MatchOption, MatchBool}
 use Rattle.std.specs.List.{AllByRecursion}
-use Rattle.std.proofs.Common.{◌≡◌, ◌<◌, ℕ, suc, length, drop, drop-cons, get_or, Bool, true, false, List, [], ◌∷◌, ◌++◌, Option, Some, None, Result, Ok, Err, refl, sym, ap, ◌∙◌, subst, append-nil, append_assoc}
+use Rattle.std.proofs.Common.{◌≡◌, ◌<◌, ℕ, suc, length, drop, drop-cons, get_or, List, [], ◌∷◌, ◌++◌, Option, Some, None, Result, Ok, Err, refl, sym, ap, ◌∙◌, subst, append-nil, append_assoc}
 use Rattle.resp_core.specs.Errors.{Refusal, at_position}
 use Rattle.resp_args.specs.Packed.{sent}
 use Rattle.cluster_routing.specs.Address.{Address}
 use Rattle.cluster_routing.specs.Choice.{Strategy}
-use Rattle.cluster_routing.specs.Lists.{Pairwise}
-use Rattle.cluster_routing.specs.Routing.{route_to}
-use Rattle.cluster_routing.specs.SlotMap.{Nodes, nodes_at}
-use Rattle.cluster_routing.specs.declared.route.SlotAddr.TheVariants.{Master}
-use Rattle.cluster_calls.specs.Links.World.{is_linked}
+use Rattle.cluster_calls.proofs.LinkLaws.EachPlans.{whole_unpicked}
 use Rattle.cluster_steps.specs.Dispatches.{AreDispatched, IsPlanned}
 use Rattle.cluster_calls.specs.Calls.Call.{Entry, Pipeline}
-use Rattle.cluster_calls.specs.Calls.Parts.{Part, Target, if_one_slot, parts_of, reads_several_slots, whole_part, with_whole, pipeline_parts}
-use Rattle.cluster_calls.specs.Calls.Plan.{Client, Dispatch, First, first_by, first_of, read_candidates, target_candidates}
-use Rattle.cluster_calls.specs.Calls.Replies.{args_slot}
-use Rattle.cluster_calls.specs.Calls.Picks.{ArePartPicks, ArePicks, ArePicksOf, IsPick}
+use Rattle.cluster_calls.specs.Calls.Parts.{Part, if_one_slot, parts_of, reads_several_slots, whole_part, with_whole, pipeline_parts}
+use Rattle.cluster_calls.specs.Calls.Plan.{Client, Dispatch}
+use Rattle.cluster_calls.specs.Calls.Picks.{ArePicks, ArePicksOf}
 use Rattle.cluster_steps.proofs.Dispatched.{plan_made, plan_refused, plan_unparted, picks_unparted}
 use Rattle.cluster_calls.proofs.LogLaws.Gaps.{every_gap_names_no_key}
-use Rattle.cluster_calls.proofs.LogLaws.PipePlans.{GapsStay, IsWholePart, whole_parts_are}
+use Rattle.cluster_calls.proofs.LogLaws.PipePlans.{GapsStay, whole_parts_are}
 
 -- ---- one command after another
 
@@ -49,7 +43,7 @@ parts_stop entries position e rest ps h is = sym (ap (λ o. before ps (with_whol
 pub parts_end : (entries : List Entry) (position : ℕ) (ps : List Part) → before ps (pipeline_parts position []) ≡ pipeline_parts 0 entries → Ok ps ≡ pipeline_parts 0 entries
 parts_end entries position ps h = ap (λ xs. Ok xs) (sym (append-nil ps)) ∙ h
 
-pub next_entry : (entries : List Entry) (i : ℕ) (x : Entry) → i < length entries → x ≡ get_or entries i x → drop i entries ≡ x ∷ drop (suc i) entries
+pub next_entry : {A : Type 0} (entries : List A) (i : ℕ) (x : A) → i < length entries → x ≡ get_or entries i x → drop i entries ≡ x ∷ drop (suc i) entries
 next_entry entries i x within is = drop-cons entries i x within ∙ ap (λ y. y ∷ drop (suc i) entries) (sym is)
 
 -- ---- the plan
@@ -60,44 +54,13 @@ gaps_stay_so (e ∷ es) = (λ route h. every_gap_names_no_key e.command [] route
 
 -- ---- no strategy is asked
 
-abbrev no_addresses : List Address
-no_addresses = []
-
-no_pick : (admits : Strategy) (slot : ℕ) (ns : Option Nodes) → IsPick admits (option_and_then (read_candidates (route_to Master slot)) ns) []
-no_pick admits slot None = tt
-no_pick admits slot (Some nodes) = tt
-
-no_first : (admits : Strategy) (client : Client) (parts : List Part) (slot : ℕ) (ns : Option Nodes) → ArePartPicks admits client parts []
-    → MatchOption (option_map (λ (nodes : Nodes). first_by (read_candidates (route_to Master slot) nodes) nodes.primary []) ns) (no_addresses ≡ [])
-    (λ (first : First). MatchBool (is_linked client.links first.node) (ArePartPicks admits client parts first.picks) (first.picks ≡ []))
-no_first admits client parts slot None h = refl
-no_first admits client parts slot (Some nodes) h = either (is_linked client.links nodes.primary) h
-  where
-    either : (b : Bool) → ArePartPicks admits client parts [] → MatchBool b (ArePartPicks admits client parts []) (no_addresses ≡ [])
-    either true k = k
-    either false k = refl
-
-no_picks : (admits : Strategy) (client : Client) (entries : List Entry) (parts : List Part) → Pairwise IsWholePart entries parts → ArePartPicks admits client parts []
-no_picks admits client [] [] w = refl
-no_picks admits client [] (part ∷ parts) w = absurd w
-no_picks admits client (e ∷ es) [] w = absurd w
-no_picks admits client (e ∷ es) (part ∷ parts) w =
-    subst Fits (sym w.0.target) (no_pick admits slot (nodes_at slot client.entries), no_first admits client parts slot (nodes_at slot client.entries) (no_picks admits client es parts w.1))
-  where
-    slot : ℕ
-    slot = args_slot (sent e.command)
-
-    Fits : Target → Type 0
-    Fits t = IsPick admits (target_candidates client.entries t) []
-        × MatchOption (first_of client.entries [] t) (no_addresses ≡ []) (λ (first : First). MatchBool (is_linked client.links first.node) (ArePartPicks admits client parts first.picks) (first.picks ≡ []))
-
 module _ (strategy : Option Strategy) (client : Client) (entries : List Entry) (picks : List Address) where
   picked : (parts : List Part) → pipeline_parts 0 entries ≡ Ok parts → picks ≡ [] → ArePicks strategy client (Pipeline entries) picks
   picked parts e none = subst (λ ps. ArePicks strategy client (Pipeline entries) ps) (sym none) (by strategy)
     where
       by : (s : Option Strategy) → ArePicks s client (Pipeline entries) []
       by None = refl
-      by (Some admits) = subst (λ r. ArePicksOf admits client r []) (sym e) (no_picks admits client entries parts (whole_parts_are entries 0 parts (gaps_stay_so entries) e))
+      by (Some admits) = subst (λ r. ArePicksOf admits client r []) (sym e) (whole_unpicked admits client entries parts (whole_parts_are entries 0 parts (gaps_stay_so entries) e))
 
   pub pipeline_planned : (parts : List Part) (made : Result (List Dispatch) Refusal) → pipeline_parts 0 entries ≡ Ok parts → AreDispatched None client parts picks made → IsPlanned strategy client (Pipeline entries) picks made
   pipeline_planned parts (Ok ds) e d = record { planned = plan_made None client (Pipeline entries) picks parts ds e d; picked = picked parts e d.picked }

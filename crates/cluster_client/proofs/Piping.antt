@@ -34,16 +34,18 @@ use Rattle.cluster_calls.specs.Calls.Replies.{args_slot, in_pipeline_order, not_
 use Rattle.cluster_calls.specs.Calls.Task.{pipeline_of}
 use Rattle.cluster_calls.proofs.LinkLaws.FaultsAgree.{agrees}
 use Rattle.cluster_calls.proofs.LinkLaws.LackingLists.{some_events, value_lacked}
-use Rattle.cluster_calls.proofs.LinkLaws.LinkCalls.{AreLinkCalls, link_calls_made}
+use Rattle.cluster_calls.proofs.LinkLaws.LinkCalls.{AreLinkCalls}
 use Rattle.cluster_calls.proofs.LinkLaws.LinkRuns.{or_parts}
 use Rattle.cluster_calls.proofs.LinkLaws.MovedLaws.{answered_plain}
+use Rattle.cluster_calls.proofs.LinkLaws.PartedCalls.{happened_by}
 use Rattle.cluster_calls.proofs.LinkLaws.PipeErrors.{all_answered, same_errors, value_or}
 use Rattle.cluster_calls.proofs.LinkLaws.Played.{call_made}
+use Rattle.cluster_calls.proofs.Lists.{same_values}
 use Rattle.cluster_calls.proofs.LogLaws.PipePlans.{IsWholePart, pipeline_nodes, primary_of, whole_parts_are}
 use Rattle.cluster_calls.proofs.LogLaws.Plans.{IsFor, dispatches_for}
 use Rattle.cluster_steps.specs.declared.dispatch.Dispatch.{Dispatch as CodeDispatch}
 use Rattle.cluster_steps.specs.Dispatches.{IsPlaced, IsPlanned, dispatch_of}
-use Rattle.cluster_steps.specs.Groups.{Group, group_at, place_in, request_in}
+use Rattle.cluster_steps.specs.Groups.{NodeRequests, group_at, place_in, request_in}
 use Rattle.cluster_steps.specs.GroupRuns.{GroupByGroup, AreGroupResults, GroupsMade, request_lists}
 use Rattle.cluster_steps.specs.Queues.{queued, no_queues}
 use Rattle.cluster_steps.proofs.GroupCalls.{all_replied}
@@ -60,13 +62,7 @@ pub record AreOfSlots (client : Client) (entries : List Entry) (ds : List Dispat
 
 slots_of : (entries : List Entry) (parts : List Part) (ds : List Dispatch) → Pairwise IsWholePart entries parts → Pairwise IsFor parts ds
     → map (λ (e : Entry). args_slot (sent e.command)) entries ≡ map (λ (d : Dispatch). args_slot d.args) ds
-slots_of [] [] [] w f = refl
-slots_of [] [] (d ∷ ds) w f = absurd f
-slots_of [] (p ∷ ps) ds w f = absurd w
-slots_of (e ∷ es) [] ds w f = absurd w
-slots_of (e ∷ es) (p ∷ ps) [] w f = absurd f
-slots_of (e ∷ es) (p ∷ ps) (d ∷ ds) w f =
-    ap (λ args. args_slot args ∷ map (λ (e : Entry). args_slot (sent e.command)) es) (sym (f.0 ∙ w.0.args)) ∙ ap (λ r. args_slot d.args ∷ r) (slots_of es ps ds w.1 f.1)
+slots_of = same_values IsWholePart IsFor (λ (e : Entry). args_slot (sent e.command)) (λ (d : Dispatch). args_slot d.args) (λ e part d w f. ap args_slot (sym (f ∙ w.args)))
 
 as_they_are : (o : Result (List Dispatch) Refusal) (ds : List Dispatch) → result_then o (λ ds. Ok ds) ≡ Ok ds → o ≡ Ok ds
 as_they_are (Ok es) ds e = e
@@ -117,11 +113,11 @@ abbrev slot_place : List Node → Client → ℕ → ℕ
 slot_place ns client slot = unwrap_or (place_at ns (primary_of client slot)) 0
 
 module _ (cds : List CodeDispatch) where
-  abbrev pub pipe_groups : List Group
+  abbrev pub pipe_groups : List NodeRequests
   pipe_groups = map (group_at cds) (firsts nat_eq (map place_in cds))
 
-  pub whiches : map (λ (g : Group). g.which) pipe_groups ≡ firsts nat_eq (map place_in cds)
-  whiches = map_twice (group_at cds) (λ (g : Group). g.which) (firsts nat_eq (map place_in cds)) ∙ map_self (firsts nat_eq (map place_in cds))
+  pub group_links : map (λ (g : NodeRequests). g.link) pipe_groups ≡ firsts nat_eq (map place_in cds)
+  group_links = map_twice (group_at cds) (λ (g : NodeRequests). g.link) (firsts nat_eq (map place_in cds)) ∙ map_self (firsts nat_eq (map place_in cds))
 
   each_count : (answers : List (ℕ × List Tree)) (order : List ℕ) → map (λ (a : ℕ × List Tree). a.0) answers ≡ order → map (λ (a : ℕ × List Tree). length a.1) answers ≡ map (λ k. length (map request_in (filter (λ c. k == place_in c) cds))) order
       → AllByRecursion (λ (a : ℕ × List Tree). length a.1 ≡ length (filter (λ c. a.0 == place_in c) cds)) answers
@@ -155,9 +151,9 @@ module _ (cds : List CodeDispatch) where
   in_order : (ns : List Node) (client : Client) (entries : List Entry) → AllByRecursion (IsPlaced ns) cds → AreOfSlots client entries (map dispatch_of cds) → (faults : Address → LinkFault) (xs : List Exchange) (answers : List (ℕ × List Tree))
       → AreGroupResults faults pipe_groups xs (Ok answers) → map reply_or_nil (in_pipeline_order entries xs) ≡ draw (map place_in cds) (queued no_queues answers)
   in_order ns client entries placed slots faults xs answers (places, counts, sent_all, replied) =
-      let keys : map (λ (a : ℕ × List Tree). a.0) answers ≡ firsts nat_eq (map place_in cds) = places ∙ whiches in
+      let keys : map (λ (a : ℕ × List Tree). a.0) answers ≡ firsts nat_eq (map place_in cds) = places ∙ group_links in
       replies_drawn place_in (λ (c : CodeDispatch). texts c.args.items) cds answers keys
-      (each_count answers (firsts nat_eq (map place_in cds)) keys (counts ∙ map_twice (group_at cds) (λ (g : Group). length g.requests) (firsts nat_eq (map place_in cds))))
+      (each_count answers (firsts nat_eq (map place_in cds)) keys (counts ∙ map_twice (group_at cds) (λ (g : NodeRequests). length g.requests) (firsts nat_eq (map place_in cds))))
       (slot_place ns client)
       (place_known ns client cds placed (all_unmapped (λ (d : Dispatch). d.node ≡ primary_of client (args_slot d.args)) dispatch_of cds slots.nodes))
       entries xs (slots.slots ∙ map_twice dispatch_of (λ (d : Dispatch). args_slot d.args) cds)
@@ -194,18 +190,9 @@ module _ (strategy : Option Strategy) (old new : World) (entries : List Entry) (
   once = distinct_front (map (λ (x : Event). x.node) m.events) m.unasked (subst (IsDistinct same_address) (sym m.in_order) (groups_distinct old.nodes cds placed))
 
   abbrev pub happened : Happened strategy old new (Pipeline entries)
-  happened = record {
-    events = m.events;
-    runs = m.runs;
-    stops = λ e. m.stops;
-    logged = m.logged;
-    calls = λ node. link_calls_made old.nodes new.nodes m.events (pipeline_of entries) m.runs once node;
-    picks = λ some. are;
-    begins = λ some place. record { later = (m.begins place).0; legal = legal (exchanges_of place m.events ++ (m.begins place).0) (m.begins place).1 };
-    settings = m.settings;
-    map_stays = λ n. m.entries;
-    flag = λ n. m.flag;
-  }
+  happened =
+      happened_by strategy old new (Pipeline entries) [] m.events (record { runs = m.runs; logged = m.logged; flag = m.flag; keeps = record { entries = m.entries; settings = m.settings; picked = m.picked } }) m.stops once are
+      (λ place. record { later = (m.begins place).0; legal = legal (exchanges_of place m.events ++ (m.begins place).0) (m.begins place).1 })
 
   -- the call was made
   pub pipeline_made : (reply : Result Tree Refusal) → IsMadeOfGroups entries cds result reply → CallMade strategy old new (Pipeline entries) (value_answer reply)
@@ -227,7 +214,7 @@ module _ (strategy : Option Strategy) (old new : World) (entries : List Entry) (
       by (Err refusal) is one lacks some = let same : refusal ≡ by_cause Memory = let told = sym one ∙ lacks in cc in inl (m.room (is ∙ ap (λ k. Err k) same) some)
 
 -- the same from what the code says of its steps
-pub reply_made : (strategy : Option Strategy) (old mid new : World) (entries : List Entry) (cds : List CodeDispatch) (gs : List Group) (result : Result (List (ℕ × List Tree)) Refusal) (reply : Result Tree Refusal)
+pub reply_made : (strategy : Option Strategy) (old mid new : World) (entries : List Entry) (cds : List CodeDispatch) (gs : List NodeRequests) (result : Result (List (ℕ × List Tree)) Refusal) (reply : Result Tree Refusal)
     → mid ≡ with_log old [] [] → IsPlanned strategy (client_of old) (Pipeline entries) [] (Ok (map dispatch_of cds)) → AllByRecursion (IsPlaced mid.nodes) cds → gs ≡ pipe_groups cds → GroupsMade mid new gs result → IsMadeOfGroups entries cds result reply
     → CallMade strategy old new (Pipeline entries) (value_answer reply)
 reply_made strategy old mid new entries cds gs result reply stays planned placed grouped m made =
@@ -243,10 +230,10 @@ dispatches_within ns count (d ∷ ds) e p = (subst (λ n. place_in d < n) e p.0.
 pub places_within : (ns : List Node) (count : ℕ) (cds : List CodeDispatch) → length ns ≡ count → AllByRecursion (IsPlaced ns) cds → AllByRecursion (λ n. n < count) (map place_in cds)
 places_within ns count cds e p = all_mapped (λ n. n < count) place_in cds (dispatches_within ns count cds e p)
 
-pub answers_within : (ns : List Node) (count : ℕ) (cds : List CodeDispatch) (gs : List Group) (old new : World) (answers : List (ℕ × List Tree)) → length ns ≡ count → AllByRecursion (IsPlaced ns) cds → gs ≡ pipe_groups cds → GroupsMade old new gs (Ok answers)
+pub answers_within : (ns : List Node) (count : ℕ) (cds : List CodeDispatch) (gs : List NodeRequests) (old new : World) (answers : List (ℕ × List Tree)) → length ns ≡ count → AllByRecursion (IsPlaced ns) cds → gs ≡ pipe_groups cds → GroupsMade old new gs (Ok answers)
     → AllByRecursion (λ (a : ℕ × List Tree). a.0 < count) answers
 answers_within ns count cds gs old new answers e p same made =
     let m = subst (λ hs. GroupsMade old new hs (Ok answers)) same made in
     let told = (m.answered (λ k. cc k)).tells (faults_of m.events) (agrees old.nodes new.nodes m.events m.runs) 0 in
     all_unmapped (λ n. n < count) (λ (a : ℕ × List Tree). a.0) answers
-    (subst (AllByRecursion (λ n. n < count)) (sym (told.0 ∙ whiches cds)) (order_within count cds (dispatches_within ns count cds e p)))
+    (subst (AllByRecursion (λ n. n < count)) (sym (told.0 ∙ group_links cds)) (order_within count cds (dispatches_within ns count cds e p)))

@@ -1,25 +1,32 @@
 -- What is prepared for a command, from the code's parts and dispatches.
 use Rattle.std.specs.Prelude.{IfSome}
-use Rattle.std.proofs.Common.{◌≡◌, ℕ, true, false, List, [], map, length, Option, option_map, Ok, Err, sym, ap, ◌∙◌, subst}
+use Rattle.std.proofs.Common.{◌≡◌, ℕ, true, false, List, [], map, length, Option, Some, option_map, Ok, Err, sym, ap, ◌∙◌, subst}
 use Rattle.std.proofs.lemmas.List.{length-map}
 use Rattle.resp_core.specs.Errors.{Refusal, by_cause}
 use Rattle.resp_core.specs.declared.errors.redis_error.Cause.TheVariants.{BadOrder}
 use Rattle.resp_args.specs.Command.{Command}
 use Rattle.cluster_routing.specs.Address.{Address}
 use Rattle.cluster_routing.specs.Choice.{Strategy}
-use Rattle.cluster_routing.specs.Info.{shown_split}
+use Rattle.cluster_routing.specs.Info.{shown_parts, shown_split}
 use Rattle.cluster_routing.specs.Split.{parts_by_place}
 use Rattle.cluster_routing.specs.declared.split.SplitParts.{SplitParts}
 use Rattle.cluster_steps.specs.declared.dispatch.Dispatch.{Dispatch as CodeDispatch}
 use Rattle.cluster_steps.specs.declared.route.Part.{Part as CodePart}
 use Rattle.cluster_steps.specs.Dispatches.{AreDispatched, IsPlanned, dispatch_of}
+use Rattle.cluster_steps.specs.CodeParts.{routed_at, routed_part}
 use Rattle.cluster_steps.specs.FirstPlaces.{part_of}
 use Rattle.cluster_calls.specs.Links.Orders.{command_call}
 use Rattle.cluster_calls.specs.Calls.Parts.{fits_order, parts_of}
 use Rattle.cluster_calls.specs.Calls.Plan.{Client, in_order}
+use Rattle.cluster_steps.proofs.Directions.{parts_are}
 use Rattle.cluster_steps.proofs.Dispatched.{command_planned, command_unfit, command_unplaced}
 use Rattle.cluster_calls.proofs.LinkLaws.Ordering.{made_in_order}
 use Rattle.cluster_steps.proofs.PartReplies.{dispatches_fit, routes_fit}
+
+-- the parts that were pushed for a command that is split
+pub pushed_parts : (command : Command) (read_only : List (List ℕ)) → command.no_response ≡ false → (split : SplitParts) → Some (shown_split split) ≡ parts_by_place command.args read_only → (list : List CodePart)
+    → map part_of list ≡ map routed_part (map (routed_at command.args) (shown_parts split.routes.items)) → (number : ℕ) → parts_of read_only command number ≡ Ok (map part_of list)
+pushed_parts command read_only response split is list pushed number = parts_are command read_only number response (shown_split split) is ∙ ap (λ ps. Ok ps) (sym pushed)
 
 module _ (client : Client) (command : Command) (order : Option (List ℕ)) (number : ℕ) (list : List CodePart) (are : parts_of client.settings.read_only command number ≡ Ok (map part_of list)) where
   -- the order does not fit

@@ -6,7 +6,7 @@ use Rattle.resp_link.specs.Call.{Seen}
 use Rattle.cluster_routing.specs.Address.{Address, same_address}
 use Rattle.cluster_routing.specs.Seen.{address}
 use Rattle.cluster_routing.specs.declared.address.NodeAddress.{NodeAddress}
-use Rattle.cluster_calls.specs.Links.World.{Calls, Node, link_at, nodes, place_at, set_link}
+use Rattle.cluster_calls.specs.Links.World.{CallsLink, Node, link_at, nodes, place_at, set_link}
 use Rattle.cluster_calls.proofs.LinkLaws.LinkPlaces.{found}
 use Rattle.cluster_client.specs.Relinks.{put_link}
 
@@ -46,14 +46,14 @@ node_of : (n : Node) (a : Address) (l : Seen) → n.address ≡ a → n.link ≡
 node_of n a l e f = rw (← e, ← f) refl
 
 -- the link that stood at a node's place gave way to another
-pub replaced : (old new : List Node) (a : Address) (i : ℕ) (s v : Seen) → place_at old a ≡ Some i → Calls old new i (λ before after. (before ≡ s) × (after ≡ v)) → new ≡ put_link old a v
+pub replaced : (old new : List Node) (a : Address) (i : ℕ) (s v : Seen) → place_at old a ≡ Some i → CallsLink old new i (λ before after. (before ≡ s) × (after ≡ v)) → new ≡ put_link old a v
 replaced old new a i s v e c =
     let r = found old a i e in
     let same : r.node ≡ c.before = let at = r.at in let there = c.found in cc in
     c.others ∙ ap (λ n. slice_set old i n) (node_of c.after r.node.address v (c.address ∙ ap (λ (n : Node). n.address) (sym same)) c.call.1) ∙ sym (r.set v) ∙ sym (put_there old a i v e)
 
 -- and it was the node's link
-pub gave_way : (old new : List Node) (a : Address) (i : ℕ) (s v : Seen) → place_at old a ≡ Some i → Calls old new i (λ before after. (before ≡ s) × (after ≡ v)) → Some s ≡ link_at old a
+pub gave_way : (old new : List Node) (a : Address) (i : ℕ) (s v : Seen) → place_at old a ≡ Some i → CallsLink old new i (λ before after. (before ≡ s) × (after ≡ v)) → Some s ≡ link_at old a
 gave_way old new a i s v e c =
     let r = found old a i e in
     let same : r.node ≡ c.before = let at = r.at in let there = c.found in cc in

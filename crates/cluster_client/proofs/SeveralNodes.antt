@@ -5,7 +5,7 @@ use Rattle.std.specs.Cmp.Lexicographic.{slice_cmp, nat_list_cmp_total}
 use Rattle.std.specs.Ordering.{match_ordering, nat_cmp, ordering_then, then_cmp}
 use Rattle.std.specs.declared.cmp.Ordering.{Ordering}
 use Rattle.std.specs.declared.cmp.Ordering.TheVariants.{Less, Equal, Greater}
-use Rattle.std.proofs.Common.{◌≡◌, ◌≢◌, ℕ, Bool, true, false, List, [], ◌∷◌, ◌++◌, map, Option, Some, None, refl, sym, ap, ◌∙◌, subst, Result, Ok, Err, inl, inr}
+use Rattle.std.proofs.Common.{◌≡◌, ◌≢◌, ◌==◌, ℕ, Bool, true, false, List, [], ◌∷◌, ◌++◌, map, length, Option, Some, None, refl, sym, ap, ◌∙◌, subst, Result, Ok, Err, inl, inr}
 use Rattle.std.proofs.lemmas.Bool.{false≢true}
 use Rattle.std.proofs.lemmas.List.{map-append}
 use Rattle.resp_core.specs.Trees.{Tree}
@@ -45,7 +45,6 @@ use Rattle.cluster_calls.specs.Links.Lacking.{MayLack}
 use Rattle.cluster_calls.specs.Links.Run.{with_log}
 use Rattle.cluster_calls.specs.Links.Converted.{value_answer}
 use Rattle.cluster_calls.specs.Calls.Call.{FanOut}
-use Rattle.cluster_calls.specs.Calls.Task.{several_nodes}
 use Rattle.cluster_calls.specs.Calls.Parts.{Part, part_to, at_node, node_parts, to_nodes, unless}
 use Rattle.cluster_calls.specs.Calls.Plan.{Client, Dispatch, First, first_of, call_parts, plan}
 use Rattle.cluster_calls.specs.Calls.Picks.{ArePicks}
@@ -55,9 +54,9 @@ use Rattle.cluster_calls.specs.Calls.Refusals.{refusal_in}
 use Rattle.cluster_calls.specs.Calls.Answer.{answer_in, tree_in}
 use Rattle.cluster_calls.proofs.LinkLaws.EventLists.{exchanged}
 use Rattle.cluster_calls.proofs.LinkLaws.LackingLists.{some_events, value_lacked}
-use Rattle.cluster_calls.proofs.LinkLaws.LinkCalls.{link_calls_made}
 use Rattle.cluster_calls.proofs.LinkLaws.MovedLaws.{answered_plain}
 use Rattle.cluster_calls.proofs.LinkLaws.OneCommand.{Untouched, not_sent, refused_by, relogged}
+use Rattle.cluster_calls.proofs.LinkLaws.PartedCalls.{happened_by}
 use Rattle.cluster_calls.proofs.LinkLaws.Played.{call_made}
 use Rattle.cluster_calls.proofs.LogLaws.SentOnce.{nodes_once_ascending}
 use Rattle.cluster_steps.specs.declared.dispatch.Dispatch.{Dispatch as CodeDispatch}
@@ -108,6 +107,10 @@ fan_parts_by client command entries read_only o r n same names is e =
     fan_parts client command r n
     (ap (λ es. node_parts es (sent command) (destination command.args client.settings.read_only)) same ∙ ap (λ ro. node_parts entries (sent command) (destination command.args ro)) names
     ∙ ap (node_parts entries (sent command)) (sym is) ∙ e)
+
+pub not_empty : {A B : Type 0} (f : A → B) (xs : List A) (n : ℕ) → n ≡ length xs → (n == 0) ≡ false → map f xs ≢ []
+not_empty f [] n e h = λ k. absurd (false≢true (sym h ∙ ap (λ m. m == 0) e))
+not_empty f (x ∷ xs) n e h = λ k. cc k
 
 pub no_nodes : (args : List (List ℕ)) (nodes : List Address) → nodes ≡ [] → to_nodes args nodes ≡ Err (by_cause NoNode)
 no_nodes args nodes none = ap (to_nodes args) none
@@ -308,21 +311,9 @@ module _ (strategy : Option Strategy) (old new : World) (command : Command) (ds 
       ∙ ap (λ qs. qs ++ requests (unreplied_to m.begins.0)) (exchanged m.events place) ∙ ap (λ qs. log_of m.events ++ qs) (same_requests m.begins.0) ∙ m.begins.1
 
   abbrev happened : Happened strategy old new (FanOut command)
-  happened = record {
-    events = m.events;
-    runs = m.runs;
-    stops = λ e. m.stops;
-    logged = m.logged;
-    calls = λ node. link_calls_made old.nodes new.nodes m.events (several_nodes command) m.runs m.single node;
-    picks = λ some. are;
-    begins = λ some place. record {
-      later = unreplied_to m.begins.0;
-      legal = legal (exchanges_of place m.events ++ unreplied_to m.begins.0) (begun place);
-    };
-    settings = m.settings;
-    map_stays = λ n. m.entries;
-    flag = λ n. m.flag;
-  }
+  happened =
+      happened_by strategy old new (FanOut command) [] m.events (record { runs = m.runs; logged = m.logged; flag = m.flag; keeps = record { entries = m.entries; settings = m.settings; picked = m.picked } }) m.stops m.single are
+      (λ place. record { later = unreplied_to m.begins.0; legal = legal (exchanges_of place m.events ++ unreplied_to m.begins.0) (begun place) })
 
   pub several_made : CallMade strategy old new (FanOut command) (value_answer reply)
   several_made =

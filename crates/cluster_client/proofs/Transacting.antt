@@ -30,14 +30,14 @@ use Rattle.cluster_calls.specs.Links.Places.{IsOpenAt}
 use Rattle.cluster_calls.specs.Links.Request.{Request, skipped}
 use Rattle.cluster_calls.specs.Links.World.{World, is_linked, open_links}
 use Rattle.cluster_calls.proofs.LinkLaws.AttemptLoop.{Loop, loop_answered, loop_ended, loop_err, loop_more, loop_ok}
-use Rattle.cluster_calls.proofs.LinkLaws.ChainLoop.{or_none}
 use Rattle.cluster_calls.proofs.LinkLaws.Transacted.{no_picks, planned_at, slot_planned}
 use Rattle.cluster_calls.proofs.LinkLaws.AnyStrategy.{with_strategy}
+use Rattle.cluster_calls.proofs.Lists.{or_none}
 use Rattle.cluster_calls.proofs.LogLaws.Attempts.{size_of}
 use Rattle.cluster_steps.specs.Attempts.{AttemptExchanged, heard}
 use Rattle.cluster_steps.specs.FirstPlaces.{node_with_link}
 use Rattle.cluster_steps.specs.Turns.{hop_to}
-use Rattle.cluster_steps.specs.declared.place.Place.{Place}
+use Rattle.cluster_steps.specs.declared.hop.Hop.{Hop as CodeHop}
 
 -- ---- names, whatever their case
 
@@ -101,42 +101,42 @@ primary_planned client commands slot own made is finds =
 
 -- ---- the attempts
 
-module _ (old now new : World) (commands : List (List (List ℕ))) (first : Hop) (left : ℕ) (hop : Hop) (which : ℕ) (l : Loop old now commands first left hop which) (qs : List Request) (same : qs ≡ attempt hop commands) where
-  whole_attempt : (result : Result (List Tree) Refusal) → AttemptExchanged now new which qs (skipped hop.asking) result → Exchanges now.nodes new.nodes which now.log new.log (attempt hop commands) (skipped hop.asking) (size commands) result
+module _ (old now new : World) (commands : List (List (List ℕ))) (first : Hop) (redirects : ℕ) (hop : Hop) (link : ℕ) (l : Loop old now commands first redirects hop link) (qs : List Request) (same : qs ≡ attempt hop commands) where
+  whole_attempt : (result : Result (List Tree) Refusal) → AttemptExchanged now new link qs (skipped hop.asking) result → Exchanges now.nodes new.nodes link now.log new.log (attempt hop commands) (skipped hop.asking) (size commands) result
   whole_attempt result x =
-      subst (λ n. Exchanges now.nodes new.nodes which now.log new.log (attempt hop commands) (skipped hop.asking) n result) (size_of hop commands)
-      (subst (λ rs. Exchanges now.nodes new.nodes which now.log new.log rs (skipped hop.asking) (length rs) result) same x.exchange)
+      subst (λ n. Exchanges now.nodes new.nodes link now.log new.log (attempt hop commands) (skipped hop.asking) n result) (size_of hop commands)
+      (subst (λ rs. Exchanges now.nodes new.nodes link now.log new.log rs (skipped hop.asking) (length rs) result) same x.exchange)
 
   -- the link call was refused
-  pub attempt_failed : (e : Refusal) → AttemptExchanged now new which qs (skipped hop.asking) (Err e) → AttemptsMade old new first commands (Err e)
-  attempt_failed e x = loop_err old now new commands first left hop which l (record { entries = x.entries; settings = x.settings; picked = x.picked }) e (whole_attempt (Err e) x) (x.flag ∙ or_none now.needs_refresh)
+  pub attempt_failed : (e : Refusal) → AttemptExchanged now new link qs (skipped hop.asking) (Err e) → AttemptsMade old new first commands (Err e)
+  attempt_failed e x = loop_err old now new commands first redirects hop link l (record { entries = x.entries; settings = x.settings; picked = x.picked }) e (whole_attempt (Err e) x) (x.flag ∙ or_none now.needs_refresh)
 
-  module _ (trees : List Tree) (x : AttemptExchanged now new which qs (skipped hop.asking) (Ok trees)) where
+  module _ (trees : List Tree) (x : AttemptExchanged now new link qs (skipped hop.asking) (Ok trees)) where
     -- the replies make the answer, or refuse it; or memory was refused behind them
-    pub attempt_answered : (outcome : Result Tree Refusal) → (outcome ≢ Err (by_cause Memory) → (is_going (next_attempt (open_links new.nodes) left (heard trees)) ≡ false)
-        × (unless_lost (next_attempt (open_links new.nodes) left (heard trees)) (attempt_answer (heard trees)) ≡ outcome)) → (outcome ≡ Err (by_cause Memory) → exec_answers (heard trees) ≡ false) → AttemptsMade old new first commands outcome
+    pub attempt_answered : (outcome : Result Tree Refusal) → (outcome ≢ Err (by_cause Memory) → (is_going (next_attempt (open_links new.nodes) redirects (heard trees)) ≡ false)
+        × (unless_lost (next_attempt (open_links new.nodes) redirects (heard trees)) (attempt_answer (heard trees)) ≡ outcome)) → (outcome ≡ Err (by_cause Memory) → exec_answers (heard trees) ≡ false) → AttemptsMade old new first commands outcome
     attempt_answered outcome why unanswered =
         let made = loop_ok l new.nodes new.log trees (whole_attempt (Ok trees) x) in
-        loop_answered old now new commands first left hop which l (record { entries = x.entries; settings = x.settings; picked = x.picked }) trees made.1 made.0 x.flag outcome (λ m. let told = why m in (told.0, sym told.1)) unanswered
+        loop_answered old now new commands first redirects hop link l (record { entries = x.entries; settings = x.settings; picked = x.picked }) trees made.1 made.0 x.flag outcome (λ m. let told = why m in (told.0, sym told.1)) unanswered
 
     -- the transaction goes on
-    pub attempt_more : (next : Hop) (place : ℕ) → next_attempt (open_links new.nodes) left (heard trees) ≡ Goes next → left ≢ 0 → IsOpenAt new.nodes next.node place → Loop old new commands first (left - 1) next place
+    pub attempt_more : (next : Hop) (place : ℕ) → next_attempt (open_links new.nodes) redirects (heard trees) ≡ Goes next → redirects ≢ 0 → IsOpenAt new.nodes next.node place → Loop old new commands first (redirects - 1) next place
     attempt_more next place go some at =
         let made = loop_ok l new.nodes new.log trees (whole_attempt (Ok trees) x) in
-        loop_more old now new commands first left hop which l (record { entries = x.entries; settings = x.settings; picked = x.picked }) trees made.1 made.0 x.flag next place go some at
+        loop_more old now new commands first redirects hop link l (record { entries = x.entries; settings = x.settings; picked = x.picked }) trees made.1 made.0 x.flag next place go some at
 
 -- the log was only given room
-pub attempt_with_room : (old now : World) (commands : List (List (List ℕ))) (first : Hop) (left : ℕ) (hop : Hop) (which : ℕ) (log : List Request) → log ≡ now.log → Loop old now commands first left hop which
-    → Loop old (record now { log = log }) commands first left hop which
-attempt_with_room old now commands first left hop which log same l = subst (λ k. Loop old (record now { log = k }) commands first left hop which) (sym same) l
+pub attempt_with_room : (old now : World) (commands : List (List (List ℕ))) (first : Hop) (redirects : ℕ) (hop : Hop) (link : ℕ) (log : List Request) → log ≡ now.log → Loop old now commands first redirects hop link
+    → Loop old (record now { log = log }) commands first redirects hop link
+attempt_with_room old now commands first redirects hop link log same l = subst (λ k. Loop old (record now { log = k }) commands first redirects hop link) (sym same) l
 
-pub attempt_to_place : (old now : World) (commands : List (List (List ℕ))) (first : Hop) (left : ℕ) (p q : Place) → p ≡ q → Loop old now commands first left (hop_to q) q.which → Loop old now commands first left (hop_to p) p.which
-attempt_to_place old now commands first left p q same l = subst (λ r. Loop old now commands first left (hop_to r) r.which) (sym same) l
+pub attempt_to_hop : (old now : World) (commands : List (List (List ℕ))) (first : Hop) (redirects : ℕ) (p q : CodeHop) → p ≡ q → Loop old now commands first redirects (hop_to q) q.link → Loop old now commands first redirects (hop_to p) p.link
+attempt_to_hop old now commands first redirects p q same l = subst (λ r. Loop old now commands first redirects (hop_to r) r.link) (sym same) l
 
 -- and then memory was refused
-pub attempt_stopped : (old now : World) (commands : List (List (List ℕ))) (first : Hop) (left : ℕ) (hop : Hop) (which : ℕ) (log : List Request) → log ≡ now.log → Loop old now commands first left hop which
+pub attempt_stopped : (old now : World) (commands : List (List (List ℕ))) (first : Hop) (redirects : ℕ) (hop : Hop) (link : ℕ) (log : List Request) → log ≡ now.log → Loop old now commands first redirects hop link
     → AttemptsMade old (record now { log = log }) first commands (Err (by_cause Memory))
-attempt_stopped old now commands first left hop which log same l = loop_ended old now (record now { log = log }) commands first left hop which l (record { entries = refl; settings = refl; picked = refl }) refl same refl
+attempt_stopped old now commands first redirects hop link log same l = loop_ended old now (record now { log = log }) commands first redirects hop link l (record { entries = refl; settings = refl; picked = refl }) refl same refl
 
 -- ---- the whole call
 

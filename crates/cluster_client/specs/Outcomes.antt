@@ -13,7 +13,7 @@ use Rattle.cluster_calls.specs.Links.Log.{Exchange}
 use Rattle.cluster_calls.specs.Links.World.{World, tree_result}
 use Rattle.cluster_steps.specs.AtOnce.{IsReceived}
 use Rattle.cluster_steps.specs.GroupRuns.{group_node, is_moved_tree}
-use Rattle.cluster_steps.specs.Groups.{Group}
+use Rattle.cluster_steps.specs.Groups.{NodeRequests}
 use Rattle.cluster_steps.specs.declared.at_once.Sent.{Sent}
 
 -- ---- the groups
@@ -26,7 +26,7 @@ IsKept x (fails fault) (Err cause) = by_cause cause ≡ refusal_by_fault fault
 IsKept _ _ _ = ⊥
 
 -- group by group its link call, and what came
-abbrev pub AreKept : List Group → List Event → List (Result (List Tree) Cause) → Type 0
+abbrev pub AreKept : List NodeRequests → List Event → List (Result (List Tree) Cause) → Type 0
 AreKept [] [] [] = ⊤
 AreKept (g ∷ gs) (x ∷ xs) (came ∷ more) = (x.node ≡ group_node g.requests) × (x.requests ≡ g.requests)
     × IsKept x x.ending came × AreKept gs xs more
@@ -47,7 +47,7 @@ pub record ReceivedFrom (old new : World) (s : Sent) (came : Result (List Tree) 
   pub picked : new.picked ≡ old.picked
 
 -- the link call of each group was made, whatever became of the others
-pub record EachExchanged (old new : World) (gs : List Group) (came : List (Result (List Tree) Cause)) : Type 0 where
+pub record EachExchanged (old new : World) (gs : List NodeRequests) (came : List (Result (List Tree) Cause)) : Type 0 where
   pub events : List Event
   pub runs : Runs old.nodes new.nodes events
   pub logged : new.log ≡ old.log ++ log_of events

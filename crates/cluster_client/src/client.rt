@@ -1,10 +1,11 @@
 //! The client: it refreshes its slot map, and sends commands to the nodes that serve them.
 ghost use Rattle.std.specs.List.{AllByRecursion};
-ghost use Rattle.std.specs.Prelude.{◌≡◌, ◌≢◌, ◌↔◌, ◌<◌, ◌≤◌, ◌+◌, ◌||◌, Err, None, [], ◌∷◌, true, false, vec_capacity, vec_len, map, IfOk, IfErr, OnErr, OnOk, if◌then◌else◌, not, option_map};
+ghost use Rattle.std.specs.Prelude.{ℕ, ◌≡◌, ◌≢◌, ◌↔◌, ◌<◌, ◌≤◌, ◌+◌, ◌||◌, Err, None, Some, [], ◌∷◌, true, false, vec_capacity, vec_len, map, IfOk, IfErr, OnErr, OnOk, if◌then◌else◌, not, option_map};
 ghost use Rattle.resp_core.specs.Errors.{by_cause};
 ghost use Rattle.resp_core.specs.View.{push_view, view};
 ghost use Rattle.resp_core.specs.declared.errors.redis_error.Cause.TheVariants.{Memory, RepeatedAddress};
 ghost use Rattle.resp_link.specs.Call.{Seen};
+ghost use Rattle.cluster_routing.specs.Choice.{strategy_of};
 ghost use Rattle.cluster_routing.specs.Info.{shown_split, texts};
 ghost use Rattle.cluster_routing.specs.Seen.{address, addresses};
 ghost use Rattle.cluster_routing.specs.SlotMap.{put_all};
@@ -31,7 +32,7 @@ mod ordered;
 mod reading;
 mod relink;
 
-use cluster_routing::{ClusterTopology, NodeAddress, ReadRoutingStrategy, SlotMap};
+use cluster_routing::{ClusterTopology, NodeAddress, ReadRoutingStrategy, SlotMap, SplitParts};
 use cluster_steps::asked::{Asked, sent_again};
 use cluster_steps::dispatch::{Dispatch, Outset, Prepared, dispatches_over, one_dispatch_in};
 use cluster_steps::exchange::exchange_one_over;
@@ -41,7 +42,7 @@ use cluster_steps::numbered_map::NumberedMap;
 use cluster_steps::order::{fits_order, prepared_in_order};
 use cluster_steps::ready::{Ready, make_all_ready, make_ready};
 use cluster_steps::reply::{needs_refresh, reply_of_parts};
-use cluster_steps::route::{Parts, parts_of, whole_part};
+use cluster_steps::route::{Targets, push_split, targets_of, whole_part};
 use cluster_steps::slots::{slot_map_in, slots_dispatch};
 use cluster_steps::turn::{Turn, turn_over};
 use resp_args::{Cmd, FromRedisValue, from_redis_value};
@@ -126,10 +127,10 @@ impl<L: ConnectionLike + Drop> ClusterClient<L> {
     {
         self.asked = Vec::new(alloc);
         self.picked = Vec::new(alloc);
-        let Some(which) = self.links.open_place(node) else {
+        let Some(link) = self.links.open_place(node) else {
             return Err(RedisError::from(Cause::NoLink));
         };
-        let dispatch = slots_dispatch(alloc, node, which)?;
+        let dispatch = slots_dispatch(alloc, node, link)?;
         let request = make_ready(alloc, &mut self.asked, dispatch, 1)?;
         let reply = exchange_one_over(&mut self.links, alloc, &mut self.asked, request)?;
         let slots = slot_map_in(alloc, reply, node)?;
@@ -184,14 +185,14 @@ impl<L: ConnectionLike + Drop> ClusterClient<L> {
         strategy: Option<&dyn ReadRoutingStrategy>,
     ) -> Result<T, RedisError>
         // What happened, also where memory is refused.
-        ensures happened { Happened (option_map (λ s. admits s.now) strategy.entry) (whole L.seen self.old)
+        ensures happened { Happened (strategy_of admits strategy.entry) (whole L.seen self.old)
             (whole L.seen self.new) (Query cmd.now number) }
-        ensures answered { ValueMade (option_map (λ s. admits s.now) strategy.entry) (whole L.seen self.old)
+        ensures answered { ValueMade (strategy_of admits strategy.entry) (whole L.seen self.old)
             (whole L.seen self.new) (Query cmd.now number) T.meaning T.convert result }
         // Behind the first byte memory lacks in the last link call, for a request that a redirect sends
         // on, or when nothing more was to be sent.
         ensures room { result ≡ Err (by_cause Memory) → (whole L.seen self.new).log ≢ []
-            → LacksLate (option_map (λ s. admits s.now) strategy.entry) (whole L.seen self.old)
+            → LacksLate (strategy_of admits strategy.entry) (whole L.seen self.old)
             (whole L.seen self.new) (Query cmd.now number) }
         ensures unpicked { result ≡ Err (by_cause Memory) → (whole L.seen self.new).log ≡ []
             → (whole L.seen self.new).picked ≡ [] }
@@ -208,7 +209,7 @@ impl<L: ConnectionLike + Drop> ClusterClient<L> {
         number: u64,
         strategy: Option<&dyn ReadRoutingStrategy>,
     ) -> Result<Value, RedisError>
-        ensures { ReplyMade (option_map (λ s. admits s.now) strategy.entry) (whole L.seen self.old)
+        ensures { ReplyMade (strategy_of admits strategy.entry) (whole L.seen self.old)
             (whole L.seen self.new) (Query cmd.now number) (tree_result view result) }
     {
         self.reply_in_order(alloc, cmd, None, number, strategy)
@@ -223,10 +224,8 @@ impl<L: ConnectionLike + Drop> ClusterClient<L> {
         number: u64,
         strategy: Option<&dyn ReadRoutingStrategy>,
     ) -> Result<Value, RedisError>
-        ensures { ReplyMade (option_map (λ s. admits s.now) strategy.entry) (whole L.seen self.old)
-            (whole L.seen self.new)
-            (command_call cmd.now (option_map (λ o. o.now) order.entry) number)
-            (tree_result view result) }
+        ensures { ReplyMade (strategy_of admits strategy.entry) (whole L.seen self.old) (whole L.seen self.new)
+            (command_call cmd.now (option_map (λ o. o.now) order.entry) number) (tree_result view result) }
     {
         let reply = self.reply_with_picks(alloc, cmd, order, number, strategy);
         self.unpick(&reply);
@@ -242,9 +241,8 @@ impl<L: ConnectionLike + Drop> ClusterClient<L> {
         number: u64,
         strategy: Option<&dyn ReadRoutingStrategy>,
     ) -> Result<Value, RedisError>
-        ensures { CommandEnded (option_map (λ s. admits s.now) strategy.entry) (whole L.seen self.old)
-            (whole L.seen self.new)
-            (command_call cmd.now (option_map (λ o. o.now) order.entry) number)
+        ensures { CommandEnded (strategy_of admits strategy.entry) (whole L.seen self.old)
+            (whole L.seen self.new) (command_call cmd.now (option_map (λ o. o.now) order.entry) number)
             (value_answer (tree_result view result)) }
     {
         match self.prepare(alloc, cmd, order, number, strategy)? {
@@ -283,7 +281,7 @@ impl<L: ConnectionLike + Drop> ClusterClient<L> {
         ensures stays { whole L.seen self.new
             ≡ with_log (whole L.seen self.old) [] (addresses self.new.picked.items) }
         ensures planned { result ≢ Err (by_cause Memory)
-            → IsPlanned (option_map (λ s. admits s.now) strategy.entry) (client_of (whole L.seen self.old))
+            → IsPlanned (strategy_of admits strategy.entry) (client_of (whole L.seen self.old))
             (command_call cmd.now (option_map (λ o. o.now) order.entry) number)
             (addresses self.new.picked.items) (set_out_by result) }
         ensures placed { IfOk result
@@ -296,37 +294,45 @@ impl<L: ConnectionLike + Drop> ClusterClient<L> {
     {
         self.asked = Vec::new(alloc);
         self.picked = Vec::new(alloc);
-        let Some(part) = whole_part(alloc, cmd, &self.read_only, number)? else {
-            let prepared = self.prepare_parts(alloc, cmd, order, number, strategy)?;
-            return Ok(Outset::InParts(prepared));
-        };
-        if !fits_order(alloc, order, 1)? {
-            return Err(RedisError::from(Cause::BadOrder));
+        let targets = targets_of(alloc, cmd, &self.read_only, number)?;
+        match targets {
+            Targets::Split(split) => {
+                let prepared = self.prepare_parts(alloc, cmd, split, order, strategy)?;
+                Ok(Outset::InParts(prepared))
+            }
+            Targets::Whole(target) => {
+                let part = whole_part(cmd, target)?;
+                if !fits_order(alloc, order, 1)? {
+                    return Err(RedisError::from(Cause::BadOrder));
+                }
+                let dispatch = one_dispatch_in(
+                    &self.links,
+                    alloc,
+                    &mut self.slots,
+                    part,
+                    strategy,
+                    &mut self.picked,
+                )?;
+                Ok(Outset::Whole(dispatch))
+            }
         }
-        let dispatch = one_dispatch_in(
-            &self.links,
-            alloc,
-            &mut self.slots,
-            part,
-            strategy,
-            &mut self.picked,
-        )?;
-        Ok(Outset::Whole(dispatch))
     }
 
-    /// The same of a command in parts.
+    /// The same of a command that is split this way.
     fn prepare_parts(
         &mut self,
         alloc: Global,
         cmd: &Cmd,
+        split: SplitParts,
         order: Option<&[usize]>,
-        number: u64,
         strategy: Option<&dyn ReadRoutingStrategy>,
     ) -> Result<Prepared, RedisError>
+        requires response { cmd.now.no_response ≡ false }
+        requires split { Some (shown_split split) ≡ parts_by_place cmd.now.args (texts self.old.read_only.items) }
         ensures stays { whole L.seen self.new
             ≡ with_log (whole L.seen self.old) [] (addresses self.new.picked.items) }
-        ensures planned { result ≢ Err (by_cause Memory)
-            → IsPlanned (option_map (λ s. admits s.now) strategy.entry) (client_of (whole L.seen self.old))
+        ensures planned { result ≢ Err (by_cause Memory) → (number : ℕ)
+            → IsPlanned (strategy_of admits strategy.entry) (client_of (whole L.seen self.old))
             (command_call cmd.now (option_map (λ o. o.now) order.entry) number)
             (addresses self.new.picked.items) (prepared_by result) }
         ensures placed { IfOk result
@@ -338,7 +344,8 @@ impl<L: ConnectionLike + Drop> ClusterClient<L> {
     {
         self.asked = Vec::new(alloc);
         self.picked = Vec::new(alloc);
-        let Parts { list, split } = parts_of(alloc, cmd, &self.read_only, number)?;
+        let mut list = Vec::with_capacity(alloc, split.routes.len())?;
+        push_split(alloc, &mut list, cmd, &split)?;
         if !fits_order(alloc, order, list.len())? {
             return Err(RedisError::from(Cause::BadOrder));
         }
@@ -350,7 +357,11 @@ impl<L: ConnectionLike + Drop> ClusterClient<L> {
             strategy,
             &mut self.picked,
         )?;
-        Ok(prepared_in_order(alloc, Prepared { dispatches, split }, order)?)
+        let prepared = Prepared {
+            dispatches,
+            split: Some(split),
+        };
+        Ok(prepared_in_order(alloc, prepared, order)?)
     }
 
     /// The reply to a command that goes out whole, behind its redirects.
@@ -385,23 +396,23 @@ impl<L: ConnectionLike + Drop> ClusterClient<L> {
     /// many parts, this one among them, and when it is answered for the others.
     fn follow(&mut self, alloc: Global, first: Ready, parts: usize) -> Result<Value, RedisError>
         requires place { IsOpenAt (nodes L.seen self.old.links.nodes.items)
-            (address first.dispatch.place.node) first.dispatch.place.which }
-        requires within { first.dispatch.place.which < vec_len self.old.links.nodes }
+            (address first.dispatch.hop.node) first.dispatch.hop.link }
+        requires within { first.dispatch.hop.link < vec_len self.old.links.nodes }
         requires some { 0 < parts }
         requires room { vec_len self.old.asked + parts ≤ vec_capacity self.old.asked }
-        ensures made { ChainMade (whole L.seen self.old) (whole L.seen self.new) (hop_to first.dispatch.place)
+        ensures made { ChainMade (whole L.seen self.old) (whole L.seen self.new) (hop_to first.dispatch.hop)
             (texts first.dispatch.args.items) (tree_result view result) }
         ensures room { OnOk result (vec_len self.new.asked + parts ≤ vec_capacity self.new.asked + 1) }
     {
         let mut request = first;
-        let mut left = self.budget;
+        let mut redirects = self.budget;
         'requests: loop {
             let reply = exchange_one_over(&mut self.links, alloc, &mut self.asked, request)?;
             self.needs_refresh = needs_refresh(self.needs_refresh, &reply);
-            match turn_over(alloc, &self.links, left, reply)? {
+            match turn_over(alloc, &self.links, redirects, reply)? {
                 Turn::Answered(value) => return Ok(value),
                 Turn::On(next) => {
-                    left -= 1;
+                    redirects -= 1;
                     let again = sent_again(alloc, &self.asked, next)?;
                     request = make_ready(alloc, &mut self.asked, again, parts)?;
                 }
@@ -456,7 +467,7 @@ impl<L: ConnectionLike + Drop> ClusterClient<L> {
             ≡ link_at (whole L.seen self.now).nodes (address node.now) }
     {
         match self.links.place_of(node) {
-            Some(which) => Some(self.links.link(which)),
+            Some(index) => Some(self.links.link(index)),
             None => None,
         }
     }

@@ -7,7 +7,8 @@ ghost use Rattle.resp_core.specs.declared.errors.redis_error.Cause.TheVariants.{
 ghost use Rattle.resp_args.specs.Packed.{sent};
 ghost use Rattle.cluster_routing.specs.Address.{same_address};
 ghost use Rattle.cluster_routing.specs.Choice.{Strategy};
-ghost use Rattle.cluster_routing.specs.Info.{shown_info, texts};
+ghost use Rattle.cluster_routing.specs.Directions.{destination_in, shown_direction};
+ghost use Rattle.cluster_routing.specs.Info.{texts};
 ghost use Rattle.cluster_routing.specs.Lists.{IsDistinct};
 ghost use Rattle.cluster_routing.specs.Outcomes.{outcomes_of};
 ghost use Rattle.cluster_routing.specs.Policies.{tree_or_refusal};
@@ -28,14 +29,12 @@ ghost use Rattle.cluster_client.specs.Whole.{whole};
 ghost use Rattle.cluster_calls.specs.Links.World.{nodes, open_links, tree_result};
 
 use crate::client::ClusterClient;
-use cluster_routing::{
-    MultipleNodeRoutingInfo, NodeAddress, ResponsePolicy, RoutingInfo, SlotMap, combine_nodes,
-};
+use cluster_routing::{Direction, NodeAddress, ResponsePolicy, SlotMap, combine_nodes};
 use cluster_steps::dispatch::Dispatch;
 use cluster_steps::exchange::exchange_one_over;
+use cluster_steps::hop::Hop;
 use cluster_steps::known_links::KnownLinks;
 use cluster_steps::node_links::NodeLinks;
-use cluster_steps::place::Place;
 use cluster_steps::ready::{Ready, make_all_ready};
 use cluster_steps::reply::needs_refresh;
 use resp_args::Cmd;
@@ -47,30 +46,25 @@ use std::alloc::{AllocError, Global};
 fn nodes_named<'a>(
     alloc: Global,
     slots: &'a SlotMap,
-    info: &Option<RoutingInfo>,
+    direction: &Direction,
 ) -> Result<Option<Vec<&'a NodeAddress>>, AllocError>
     ensures { IfOk result
         (λ o. option_map (λ v. map (λ a. address a.now) v.items) o
-        ≡ nodes_named slots.now (option_map shown_info info.now)) }
+        ≡ nodes_named slots.now (destination_in (shown_direction direction.now))) }
 {
-    match info {
-        Some(RoutingInfo::MultiNode((MultipleNodeRoutingInfo::AllNodes, _))) => Ok(Some(
-            slots.addresses_for_all_nodes(alloc)?,
-        )),
-        Some(RoutingInfo::MultiNode((MultipleNodeRoutingInfo::AllMasters, _))) => Ok(Some(
-            slots.addresses_for_all_primaries(alloc)?,
-        )),
+    match direction {
+        Direction::AllNodes(_) => Ok(Some(slots.addresses_for_all_nodes(alloc)?)),
+        Direction::AllPrimaries(_) => Ok(Some(slots.addresses_for_all_primaries(alloc)?)),
         _ => Ok(None),
     }
 }
 
 /// How the replies to a command that goes to several nodes become one.
-fn policy_in(info: Option<RoutingInfo>) -> Option<ResponsePolicy>
-    ensures { result ≡ policy_in (option_map shown_info info) }
+fn policy_in(direction: &Direction) -> Option<ResponsePolicy>
+    ensures { result ≡ policy_in (destination_in (shown_direction direction.now)) }
 {
-    match info {
-        Some(RoutingInfo::MultiNode((MultipleNodeRoutingInfo::AllNodes, policy))) => policy,
-        Some(RoutingInfo::MultiNode((MultipleNodeRoutingInfo::AllMasters, policy))) => policy,
+    match direction {
+        Direction::AllNodes(policy) | Direction::AllPrimaries(policy) => Some(*policy),
         _ => None,
     }
 }
@@ -85,22 +79,22 @@ pub(crate) fn dispatch_to<L: ConnectionLike>(
     cmd: &Cmd,
 ) -> Result<Dispatch, RedisError>
     ensures node { result ≢ Err (by_cause Memory)
-        → node_by (λ d. address d.place.node) result
+        → node_by (λ d. address d.hop.node) result
         ≡ node_with_link (open_links (nodes L.seen links.now.nodes.items))
         (first_of [] [] (at_node (address node.now))) }
     ensures args { IfOk result (λ d. texts d.args.items ≡ sent cmd.now) }
     ensures placed { IfOk result (λ d. IsPlaced (nodes L.seen links.now.nodes.items) d) }
 {
-    let Some(which) = links.open_place(node) else {
+    let Some(link) = links.open_place(node) else {
         return Err(RedisError::from(Cause::NoLink));
     };
-    let place = Place {
+    let hop = Hop {
         node: node.clone()?,
-        which,
+        link,
         asking: false,
     };
     Ok(Dispatch {
-        place,
+        hop,
         args: cmd.wire_args()?,
     })
 }
@@ -163,8 +157,8 @@ fn node_dispatches<L: ConnectionLike>(
     if cmd.is_no_response() {
         return Err(RedisError::from(Cause::NoResponse));
     }
-    let info = RoutingInfo::for_routable(alloc, cmd, read_only)?;
-    let Some(addresses) = nodes_named(alloc, slots, &info)? else {
+    let direction = Direction::for_routable(alloc, cmd, read_only)?;
+    let Some(addresses) = nodes_named(alloc, slots, &direction)? else {
         return Err(RedisError::from(Cause::NoRoute));
     };
     if addresses.is_empty() {
@@ -173,7 +167,7 @@ fn node_dispatches<L: ConnectionLike>(
     let list = dispatches_to(links, alloc, addresses, cmd)?;
     Ok(NodeDispatches {
         list,
-        policy: policy_in(info),
+        policy: policy_in(&direction),
     })
 }
 
@@ -182,7 +176,7 @@ fn node_dispatches<L: ConnectionLike>(
 struct Question {
     node: NodeAddress,
     request: Ready,
-    ghost same: { address node ≡ address request.dispatch.place.node },
+    ghost same: { address node ≡ address request.dispatch.hop.node },
 }
 
 /// The requests with the addresses of their nodes.
@@ -193,7 +187,7 @@ fn questions(alloc: Global, requests: Vec<Ready>) -> Result<Vec<Question>, Alloc
 {
     let mut all = Vec::new(alloc);
     'requests: for request in requests {
-        let node = request.dispatch.place.node.clone()?;
+        let node = request.dispatch.hop.node.clone()?;
         all.push(Question { node, request })?;
     }
     Ok(all)
@@ -324,7 +318,7 @@ impl<L: ConnectionLike + Drop> ClusterClient<L> {
     ) -> Result<Vec<(NodeAddress, Result<Value, RedisError>)>, RedisError>
         requires placed { AllByRecursion
             (IsPlaced (nodes L.seen self.old.links.nodes.items)) dispatches.items }
-        requires apart { IsDistinct same_address (map (λ d. address d.place.node) dispatches.items) }
+        requires apart { IsDistinct same_address (map (λ d. address d.hop.node) dispatches.items) }
         ensures { NodesAsked (whole L.seen self.old) (whole L.seen self.new)
             (map dispatch_of dispatches.items) (all_outcomes result) }
     {

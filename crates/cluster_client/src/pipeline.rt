@@ -11,6 +11,7 @@ ghost use Rattle.resp_args.specs.declared.cmd.Arg.TheVariants.{Simple};
 ghost use Rattle.cluster_calls.specs.Calls.Call.{Entry};
 ghost use Rattle.cluster_calls.specs.Links.Building.{ignoring, with_args, with_last};
 
+use cluster_routing::Direction;
 use resp_args::{Cmd, ToRedisArgs, command};
 use std::alloc::{AllocError, Global};
 use std::marker::Model;
@@ -22,6 +23,15 @@ pub struct PipelineCommand {
     pub command: Cmd,
     /// Whether its reply is left out of the pipeline's answer.
     pub ignored: bool,
+}
+
+/// A command that is lent, with where it goes by no names that only read (`Direction::for_routable`).
+#[derive(Clone, Copy)]
+pub struct Directed<'a> {
+    /// The command.
+    pub command: &'a Cmd,
+    /// Where it goes.
+    pub direction: &'a Direction,
 }
 
 impl Model for PipelineCommand {

@@ -1,8 +1,8 @@
 //! Runs of calls, one after another, each with what it answered and the requests that it made.
 mod streams;
 
-ghost use Rattle.std.specs.Prelude.{Option, is_ok, map, option_map};
-ghost use Rattle.cluster_routing.specs.Choice.{Strategy};
+ghost use Rattle.std.specs.Prelude.{Option, is_ok, map};
+ghost use Rattle.cluster_routing.specs.Choice.{Strategy, strategy_of};
 ghost use Rattle.cluster_routing.specs.Seen.{address};
 ghost use Rattle.cluster_calls.specs.Calls.Call.{At, Each, FanOut, Ordered, Pipeline, Query, Refresh, Transaction};
 ghost use Rattle.cluster_calls.specs.Links.Happened.{CallMade};
@@ -166,7 +166,7 @@ impl<L: PipelinedLink + Drop> ClusterClient<L> {
         call: &Call,
         strategy: Option<&dyn ReadRoutingStrategy>,
     ) -> Played
-        ensures { PlaysOne (option_map (λ s. admits s.now) strategy.entry) (whole L.seen self.old)
+        ensures { PlaysOne (strategy_of admits strategy.entry) (whole L.seen self.old)
             (whole L.seen self.new) (call_in call.now) (shown result) }
     {
         let answer = self.answer_to(alloc, call, strategy);
@@ -181,7 +181,7 @@ impl<L: PipelinedLink + Drop> ClusterClient<L> {
         call: &Call,
         strategy: Option<&dyn ReadRoutingStrategy>,
     ) -> Result<Answer, RedisError>
-        ensures { CallMade (option_map (λ s. admits s.now) strategy.entry) (whole L.seen self.old)
+        ensures { CallMade (strategy_of admits strategy.entry) (whole L.seen self.old)
             (whole L.seen self.new) (call_in call.now) (answer_result result) }
     {
         match call {
@@ -246,7 +246,7 @@ impl<L: PipelinedLink + Drop> ClusterClient<L> {
         number: u64,
         strategy: Option<&dyn ReadRoutingStrategy>,
     ) -> Result<Answer, RedisError>
-        ensures { CallMade (option_map (λ s. admits s.now) strategy.entry) (whole L.seen self.old)
+        ensures { CallMade (strategy_of admits strategy.entry) (whole L.seen self.old)
             (whole L.seen self.new) (Query cmd.now number) (answer_result result) }
     {
         let reply = self.reply_to(alloc, cmd, number, strategy)?;
@@ -261,7 +261,7 @@ impl<L: PipelinedLink + Drop> ClusterClient<L> {
         number: u64,
         strategy: Option<&dyn ReadRoutingStrategy>,
     ) -> Result<Answer, RedisError>
-        ensures { CallMade (option_map (λ s. admits s.now) strategy.entry) (whole L.seen self.old)
+        ensures { CallMade (strategy_of admits strategy.entry) (whole L.seen self.old)
             (whole L.seen self.new) (Ordered cmd.now order.now number) (answer_result result) }
     {
         let reply = self.reply_in_order(alloc, cmd, Some(order), number, strategy)?;
@@ -347,7 +347,7 @@ pub fn play<L: PipelinedLink + Drop>(
     strategy: Option<&dyn ReadRoutingStrategy>,
     played: &mut Vec<Played>,
 ) -> Result<(), AllocError>
-    ensures { Plays (option_map (λ s. admits s.now) strategy.entry) (whole L.seen client.old)
+    ensures { Plays (strategy_of admits strategy.entry) (whole L.seen client.old)
         (whole L.seen client.new) (map call_in calls.now)
         (map shown played.old.items) (map shown played.new.items) (is_ok result) }
 {

@@ -11,6 +11,7 @@
 //! Source: the documentation of the crate `redis`, stream commands; the Redis documentation of each
 //! command.
 ghost use Rattle.std.specs.Prelude.{◌≡◌, [], None, IfOk, map, option_map, string_bytes, pos};
+ghost use Rattle.cluster_routing.specs.Choice.{strategy_of};
 ghost use Rattle.stream_commands.specs.InfoViews.{consumer_view, group_view, pending_view, stream_info_view};
 ghost use Rattle.stream_commands.specs.RecordViews.{autoclaim_view, entries_view, rows_view};
 ghost use Rattle.cluster_calls.specs.Calls.Answer.{Answer, Added, Trimmed, Read, Range, Claim, AutoClaim, Pending, Stream, Groups, Consumers, Deleted};
@@ -52,7 +53,7 @@ impl<L: ConnectionLike + Drop> ClusterClient<L> {
         fields: &[(F, V)],
         strategy: Option<&dyn ReadRoutingStrategy>,
     ) -> Result<Option<String>, RedisError>
-        ensures { StreamCallMade (option_map (λ s. admits s.now) strategy.entry) (whole L.seen self.old)
+        ensures { StreamCallMade (strategy_of admits strategy.entry) (whole L.seen self.old)
             (whole L.seen self.new)
             (Xadd (K.arg key) options.now (I.arg id) (map (λ f. (F.arg f.0, V.arg f.1)) fields.now))
             (λ id. Added (option_map string_bytes id)) result }
@@ -69,7 +70,7 @@ impl<L: ConnectionLike + Drop> ClusterClient<L> {
         options: &StreamTrimOptions,
         strategy: Option<&dyn ReadRoutingStrategy>,
     ) -> Result<usize, RedisError>
-        ensures { StreamCallMade (option_map (λ s. admits s.now) strategy.entry) (whole L.seen self.old)
+        ensures { StreamCallMade (strategy_of admits strategy.entry) (whole L.seen self.old)
             (whole L.seen self.new) (Xtrim (K.arg key) options.now) (λ n. Trimmed (pos n)) result }
     {
         let cmd = commands::xtrim(alloc, &key, options);
@@ -101,7 +102,7 @@ impl<L: ConnectionLike + Drop> ClusterClient<L> {
         options: &StreamReadOptions,
         strategy: Option<&dyn ReadRoutingStrategy>,
     ) -> Result<StreamReadReply, RedisError>
-        ensures { StreamCallMade (option_map (λ s. admits s.now) strategy.entry) (whole L.seen self.old)
+        ensures { StreamCallMade (strategy_of admits strategy.entry) (whole L.seen self.old)
             (whole L.seen self.new) (Xread (streams_by K.arg I.arg streams.now) options.now)
             (λ reply. Read (rows_view reply.keys.items)) result }
     {
@@ -129,7 +130,7 @@ impl<L: ConnectionLike + Drop> ClusterClient<L> {
         end: E,
         strategy: Option<&dyn ReadRoutingStrategy>,
     ) -> Result<StreamRangeReply, RedisError>
-        ensures { StreamCallMade (option_map (λ s. admits s.now) strategy.entry) (whole L.seen self.old)
+        ensures { StreamCallMade (strategy_of admits strategy.entry) (whole L.seen self.old)
             (whole L.seen self.new) (Xrange (K.arg key) (S.arg start) (E.arg end))
             (λ reply. Range (entries_view reply.ids.items)) result }
     {
@@ -158,9 +159,8 @@ impl<L: ConnectionLike + Drop> ClusterClient<L> {
         options: &StreamClaimOptions,
         strategy: Option<&dyn ReadRoutingStrategy>,
     ) -> Result<StreamClaimReply, RedisError>
-        ensures { StreamCallMade (option_map (λ s. admits s.now) strategy.entry) (whole L.seen self.old)
-            (whole L.seen self.new)
-            (Xclaim (record
+        ensures { StreamCallMade (strategy_of admits strategy.entry) (whole L.seen self.old)
+            (whole L.seen self.new) (Xclaim (record
             { key = K.arg key; group = G.arg group; consumer = C.arg consumer; min_idle = min_idle })
             (map I.arg ids.now) options.now) (λ reply. Claim (entries_view reply.ids.items)) result }
     {
@@ -189,9 +189,8 @@ impl<L: ConnectionLike + Drop> ClusterClient<L> {
         options: &StreamAutoClaimOptions,
         strategy: Option<&dyn ReadRoutingStrategy>,
     ) -> Result<StreamAutoClaimReply, RedisError>
-        ensures { StreamCallMade (option_map (λ s. admits s.now) strategy.entry) (whole L.seen self.old)
-            (whole L.seen self.new)
-            (Xautoclaim
+        ensures { StreamCallMade (strategy_of admits strategy.entry) (whole L.seen self.old)
+            (whole L.seen self.new) (Xautoclaim
             (record { key = K.arg key; group = G.arg group; consumer = C.arg consumer; min_idle = min_idle })
             (S.arg start) options.now) (λ reply. AutoClaim (autoclaim_view reply)) result }
     {
@@ -207,7 +206,7 @@ impl<L: ConnectionLike + Drop> ClusterClient<L> {
         group: G,
         strategy: Option<&dyn ReadRoutingStrategy>,
     ) -> Result<StreamPendingReply, RedisError>
-        ensures { StreamCallMade (option_map (λ s. admits s.now) strategy.entry) (whole L.seen self.old)
+        ensures { StreamCallMade (strategy_of admits strategy.entry) (whole L.seen self.old)
             (whole L.seen self.new) (Xpending (K.arg key) (G.arg group))
             (λ reply. Pending (pending_view reply)) result }
     {
@@ -222,7 +221,7 @@ impl<L: ConnectionLike + Drop> ClusterClient<L> {
         key: K,
         strategy: Option<&dyn ReadRoutingStrategy>,
     ) -> Result<StreamInfoStreamReply, RedisError>
-        ensures { StreamCallMade (option_map (λ s. admits s.now) strategy.entry) (whole L.seen self.old)
+        ensures { StreamCallMade (strategy_of admits strategy.entry) (whole L.seen self.old)
             (whole L.seen self.new) (XinfoStream (K.arg key))
             (λ reply. Stream (stream_info_view reply)) result }
     {
@@ -237,7 +236,7 @@ impl<L: ConnectionLike + Drop> ClusterClient<L> {
         key: K,
         strategy: Option<&dyn ReadRoutingStrategy>,
     ) -> Result<StreamInfoGroupsReply, RedisError>
-        ensures { StreamCallMade (option_map (λ s. admits s.now) strategy.entry) (whole L.seen self.old)
+        ensures { StreamCallMade (strategy_of admits strategy.entry) (whole L.seen self.old)
             (whole L.seen self.new) (XinfoGroups (K.arg key))
             (λ reply. Groups (map group_view reply.groups.items)) result }
     {
@@ -253,7 +252,7 @@ impl<L: ConnectionLike + Drop> ClusterClient<L> {
         group: G,
         strategy: Option<&dyn ReadRoutingStrategy>,
     ) -> Result<StreamInfoConsumersReply, RedisError>
-        ensures { StreamCallMade (option_map (λ s. admits s.now) strategy.entry) (whole L.seen self.old)
+        ensures { StreamCallMade (strategy_of admits strategy.entry) (whole L.seen self.old)
             (whole L.seen self.new) (XinfoConsumers (K.arg key) (G.arg group))
             (λ reply. Consumers (map consumer_view reply.consumers.items)) result }
     {
@@ -270,7 +269,7 @@ impl<L: ConnectionLike + Drop> ClusterClient<L> {
         policy: StreamDeletionPolicy,
         strategy: Option<&dyn ReadRoutingStrategy>,
     ) -> Result<Vec<XDelExStatusCode>, RedisError>
-        ensures { StreamCallMade (option_map (λ s. admits s.now) strategy.entry) (whole L.seen self.old)
+        ensures { StreamCallMade (strategy_of admits strategy.entry) (whole L.seen self.old)
             (whole L.seen self.new) (XdelEx (K.arg key) (map I.arg ids.now) policy)
             (λ codes. Deleted (map deletion_of codes.items)) result }
     {
@@ -288,7 +287,7 @@ impl<L: ConnectionLike + Drop> ClusterClient<L> {
         ensures { (call : StreamCall) (shown : T.Meaning → Answer) → stream_refusal call ≡ None
             → stream_task call ≡ sentence_task call
             → IfOk cmd (λ c. c ≡ plain_command (sentence call)) → IsReadBy call T.convert shown
-            → StreamCallMade (option_map (λ s. admits s.now) strategy.entry) (whole L.seen self.old)
+            → StreamCallMade (strategy_of admits strategy.entry) (whole L.seen self.old)
             (whole L.seen self.new) call (λ value. shown (T.meaning value)) result }
     {
         match cmd {

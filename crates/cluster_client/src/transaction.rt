@@ -25,7 +25,7 @@ use crate::transaction::slot::common_slot;
 use cluster_routing::{Route, SlotAddr};
 use cluster_steps::attempt::{Attempt, exchange_attempt_over, make_attempt_ready};
 use cluster_steps::attempt_turn::attempt_turn_over;
-use cluster_steps::place::first_place_over;
+use cluster_steps::hop::first_hop_over;
 use cluster_steps::route::Target;
 use cluster_steps::turn::Turn;
 use resp_args::{Cmd, FromRedisValue, from_redis_value};
@@ -64,7 +64,7 @@ impl<L: ConnectionLike + Drop> ClusterClient<L> {
         };
         let target = Target::Slot(Route::new(slot, SlotAddr::Master));
         let mut picked = Vec::new(alloc);
-        let place = first_place_over(
+        let hop = first_hop_over(
             &self.links,
             alloc,
             self.slots.map(),
@@ -72,7 +72,7 @@ impl<L: ConnectionLike + Drop> ClusterClient<L> {
             None,
             &mut picked,
         )?;
-        let attempt = make_attempt_ready(alloc, &mut self.asked, place, commands)?;
+        let attempt = make_attempt_ready(alloc, &mut self.asked, hop, commands)?;
         Ok(Some(attempt))
     }
 
@@ -82,11 +82,11 @@ impl<L: ConnectionLike + Drop> ClusterClient<L> {
         alloc: Global,
         attempt: Attempt,
     ) -> Result<Vec<Value>, RedisError>
-        requires within { attempt.place.which < vec_len self.old.links.nodes }
+        requires within { attempt.hop.link < vec_len self.old.links.nodes }
         requires room { vec_len self.old.asked + vec_len attempt.requests ≤ vec_capacity self.old.asked }
         ensures len { vec_len self.new.links.nodes ≡ vec_len self.old.links.nodes }
         ensures exchanged { AttemptExchanged (whole L.seen self.old) (whole L.seen self.new)
-            attempt.place.which attempt.requests.items (skipped attempt.place.asking)
+            attempt.hop.link attempt.requests.items (skipped attempt.hop.asking)
             (tree_results view result) }
     {
         let replies = exchange_attempt_over(&mut self.links, alloc, &mut self.asked, attempt)?;
@@ -103,18 +103,18 @@ impl<L: ConnectionLike + Drop> ClusterClient<L> {
     ) -> Result<Value, RedisError>
         requires placed { IsPlacedAttempt (nodes L.seen self.old.links.nodes.items) commands.now first }
         requires room { vec_len self.old.asked + vec_len first.requests ≤ vec_capacity self.old.asked }
-        ensures { AttemptsMade (whole L.seen self.old) (whole L.seen self.new) (hop_to first.place)
+        ensures { AttemptsMade (whole L.seen self.old) (whole L.seen self.new) (hop_to first.hop)
             (args_of commands.now) (tree_result view result) }
     {
         let mut attempt = first;
-        let mut left = self.budget;
+        let mut redirects = self.budget;
         'attempts: loop {
             let replies = self.exchange_attempt(alloc, attempt)?;
-            match attempt_turn_over(alloc, &self.links, left, replies)? {
+            match attempt_turn_over(alloc, &self.links, redirects, replies)? {
                 Turn::Answered(value) => return Ok(value),
-                Turn::On(place) => {
-                    left -= 1;
-                    attempt = make_attempt_ready(alloc, &mut self.asked, place, commands)?;
+                Turn::On(hop) => {
+                    redirects -= 1;
+                    attempt = make_attempt_ready(alloc, &mut self.asked, hop, commands)?;
                 }
             }
         }

@@ -1,5 +1,5 @@
 //! Answers as other types, and what a client tells of its map and of its need for a refresh.
-use crate::clients::*;
+use clients_for_tests::*;
 use cluster_client::*;
 use std::alloc::{AllocError, Global};
 use std::test::Fail;
@@ -16,23 +16,10 @@ const TEXT_AND_NUMBER: &[u8] =
 const PUSH_AND_NUMBER: &[u8] =
     b"*1\r\n*3\r\n:0\r\n:16383\r\n*2\r\n$2\r\nn1\r\n:7001\r\n>2\r\n$10\r\ninvalidate\r\n_\r\n:1\r\n$3\r\nab";
 
-fn links(alloc: Global, n1: &[u8], n2: &[u8]) -> Result<Links, RedisError> {
-    let mut links = Vec::new(alloc);
-    add_link(alloc, &mut links, "n1:7001", n1)?;
-    add_link(alloc, &mut links, "n2:7002", n2)?;
-    Ok(links)
-}
-
-/// A client of n1:7001 and n2:7002 to which these bytes come.
-fn client(alloc: Global, n1: &[u8], n2: &[u8]) -> Result<Client, RedisError> {
-    let links = links(alloc, n1, n2)?;
-    ClusterClient::new(alloc, links, Vec::new(alloc), 1)
-}
-
 #[test]
 fn a_reply_of_another_type_leaves_the_link_in_step(rt: HostRuntime) -> Result<(), Fail> {
     let alloc = rt.alloc();
-    let mut client = client(alloc, TEXT_AND_NUMBER, b"")?;
+    let mut client = client_of_two(alloc, TEXT_AND_NUMBER, b"", 1)?;
     assert!(rt; is_refreshed(alloc, &mut client)?);
     let refused = kind_of(number_at_a(alloc, &mut client, None));
     assert_eq!(rt; refused, Some(ErrorKind::UnexpectedReturnType));
@@ -43,7 +30,7 @@ fn a_reply_of_another_type_leaves_the_link_in_step(rt: HostRuntime) -> Result<()
 #[test]
 fn moved_tells_that_a_refresh_is_needed(rt: HostRuntime) -> Result<(), Fail> {
     let alloc = rt.alloc();
-    let mut client = client(alloc, MOVED_TWICE, b":1\r\n")?;
+    let mut client = client_of_two(alloc, MOVED_TWICE, b":1\r\n", 1)?;
     assert!(rt; is_refreshed(alloc, &mut client)?);
     assert!(rt; !client.needs_refresh());
     assert_eq!(rt; number_at_a(alloc, &mut client, None)?, 1);
@@ -60,7 +47,7 @@ fn moved_tells_that_a_refresh_is_needed(rt: HostRuntime) -> Result<(), Fail> {
 #[test]
 fn moved_to_a_refresh_is_not_counted(rt: HostRuntime) -> Result<(), Fail> {
     let alloc = rt.alloc();
-    let mut client = client(alloc, b"-MOVED 1 n2:7002\r\n", b"")?;
+    let mut client = client_of_two(alloc, b"-MOVED 1 n2:7002\r\n", b"", 1)?;
     assert!(rt; !is_refreshed(alloc, &mut client)?);
     assert!(rt; !client.needs_refresh());
     Ok(())
@@ -83,7 +70,7 @@ fn is_all_at_n1(topology: &ClusterTopology) -> bool {
 #[test]
 fn a_refresh_shows_its_shards(rt: HostRuntime) -> Result<(), Fail> {
     let alloc = rt.alloc();
-    let mut client = client(alloc, TEXT_AND_NUMBER, b"")?;
+    let mut client = client_of_two(alloc, TEXT_AND_NUMBER, b"", 1)?;
     assert_eq!(rt; client.topology(alloc)?.shards().count(), 0);
     assert!(rt; is_refreshed(alloc, &mut client)?);
     assert!(rt; is_all_at_n1(&client.topology(alloc)?));
@@ -117,7 +104,7 @@ fn gapped_mget(alloc: Global) -> Result<Cmd, AllocError> {
 #[test]
 fn a_command_without_a_response_is_not_sent(rt: HostRuntime) -> Result<(), Fail> {
     let alloc = rt.alloc();
-    let mut client = client(alloc, TEXT_AND_NUMBER, b"")?;
+    let mut client = client_of_two(alloc, TEXT_AND_NUMBER, b"", 1)?;
     assert!(rt; is_refreshed(alloc, &mut client)?);
     assert_eq!(rt; refusal(alloc, &mut client, &silent_get(alloc)?), 2);
     assert_eq!(rt; client.asked().len(), 0);
@@ -127,7 +114,7 @@ fn a_command_without_a_response_is_not_sent(rt: HostRuntime) -> Result<(), Fail>
 #[test]
 fn a_split_command_with_a_gap_is_not_sent(rt: HostRuntime) -> Result<(), Fail> {
     let alloc = rt.alloc();
-    let mut client = client(alloc, TEXT_AND_NUMBER, b"")?;
+    let mut client = client_of_two(alloc, TEXT_AND_NUMBER, b"", 1)?;
     assert!(rt; is_refreshed(alloc, &mut client)?);
     assert_eq!(rt; refusal(alloc, &mut client, &gapped_mget(alloc)?), 4);
     assert_eq!(rt; client.asked().len(), 0);
@@ -149,7 +136,7 @@ fn link_state(alloc: Global, client: &Client, address: &str) -> Result<Option<bo
 #[test]
 fn a_node_keeps_its_pushes(rt: HostRuntime) -> Result<(), Fail> {
     let alloc = rt.alloc();
-    let mut client = client(alloc, PUSH_AND_NUMBER, b"")?;
+    let mut client = client_of_two(alloc, PUSH_AND_NUMBER, b"", 1)?;
     assert!(rt; is_refreshed(alloc, &mut client)?);
     assert_eq!(rt; push_count(alloc, &client, "n1:7001")?, Some(0));
     assert_eq!(rt; number_at_a(alloc, &mut client, None)?, 1);
@@ -162,7 +149,7 @@ fn a_node_keeps_its_pushes(rt: HostRuntime) -> Result<(), Fail> {
 #[test]
 fn an_early_end_closes_the_link_of_its_node(rt: HostRuntime) -> Result<(), Fail> {
     let alloc = rt.alloc();
-    let mut client = client(alloc, PUSH_AND_NUMBER, b"")?;
+    let mut client = client_of_two(alloc, PUSH_AND_NUMBER, b"", 1)?;
     assert!(rt; is_refreshed(alloc, &mut client)?);
     assert_eq!(rt; number_at_a(alloc, &mut client, None)?, 1);
     assert_eq!(rt; link_state(alloc, &client, "n1:7001")?, Some(true));
@@ -194,7 +181,7 @@ fn fan_out_kind(
 #[test]
 fn a_servers_refusal_is_told_as_the_servers(rt: HostRuntime) -> Result<(), Fail> {
     let alloc = rt.alloc();
-    let mut client = client(alloc, DOWN, b"")?;
+    let mut client = client_of_two(alloc, DOWN, b"", 1)?;
     assert!(rt; is_refreshed(alloc, &mut client)?);
     let down = Some(ErrorKind::Server(ServerErrorKind::ClusterDown));
     assert_eq!(rt; kind_of(number_at_a(alloc, &mut client, None)), down);
@@ -206,7 +193,7 @@ fn a_servers_refusal_is_told_as_the_servers(rt: HostRuntime) -> Result<(), Fail>
 #[test]
 fn a_refused_fan_out_tells_why(rt: HostRuntime) -> Result<(), Fail> {
     let alloc = rt.alloc();
-    let mut client = client(alloc, TEXT_AND_NUMBER, b"")?;
+    let mut client = client_of_two(alloc, TEXT_AND_NUMBER, b"", 1)?;
     let unknown = fan_out_kind(alloc, &mut client, "DBSIZE")?;
     assert_eq!(rt; unknown, Some(ErrorKind::ClusterConnectionNotFound));
     assert!(rt; is_refreshed(alloc, &mut client)?);
@@ -230,11 +217,8 @@ fn number_of_node(
 #[test]
 fn a_node_that_is_named_answers_itself(rt: HostRuntime) -> Result<(), Fail> {
     let alloc = rt.alloc();
-    let mut client = client(
-        alloc,
-        b":7\r\n$1\r\nx\r\n",
-        b"-MOVED 15495 n1:7001\r\n:3\r\n",
-    )?;
+    let moved = b"-MOVED 15495 n1:7001\r\n:3\r\n";
+    let mut client = client_of_two(alloc, b":7\r\n$1\r\nx\r\n", moved, 1)?;
     let get = get_a(alloc)?;
     assert_eq!(rt; number_of_node(alloc, &mut client, "n1:7001", &get)?, 7);
     let text = kind_of(number_of_node(alloc, &mut client, "n1:7001", &get));

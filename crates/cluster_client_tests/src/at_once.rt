@@ -1,6 +1,6 @@
 //! A pipeline over nodes whose devices write down who did what, in which order.
-use crate::clients::node;
 use crate::each_position::{THIRDS, outcomes_text, pipeline_of};
+use clients_for_tests::node;
 use cluster_client::*;
 use resp_link::{FromRead, FromWrite};
 use std::alloc::{AllocError, Global};

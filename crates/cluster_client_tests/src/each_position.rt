@@ -1,5 +1,5 @@
 //! Pipelines that tell of each position.
-use crate::clients::*;
+use clients_for_tests::*;
 use cluster_client::*;
 use std::alloc::{AllocError, Global};
 use std::process::Abort;
@@ -132,14 +132,6 @@ fn client(alloc: Global, row: &Row) -> Result<Client, RedisError> {
     let mut client = ClusterClient::new(alloc, links, Vec::new(alloc), 3)?;
     client.refresh(alloc, &node(alloc, "n1:7001")?)?;
     Ok(client)
-}
-
-fn command_of(alloc: Global, words: &str) -> Result<Cmd, AllocError> {
-    let mut command = Cmd::new(alloc);
-    for word in words.split(' ') {
-        command.arg(word)?;
-    }
-    Ok(command)
 }
 
 pub(crate) fn pipeline_of(alloc: Global, commands: &[&str]) -> Result<ClusterPipeline, AllocError> {

@@ -6,23 +6,15 @@ mod answers;
 #[cfg(test)]
 mod at_once;
 #[cfg(test)]
-mod clients;
-#[cfg(test)]
 mod each_position;
-#[cfg(test)]
-mod failing;
 #[cfg(test)]
 mod limits;
 #[cfg(test)]
 mod links;
 #[cfg(test)]
-mod memory;
-#[cfg(test)]
 mod pipelines;
 #[cfg(test)]
 mod reads;
-#[cfg(test)]
-mod rows;
 #[cfg(test)]
 mod streams;
 #[cfg(test)]

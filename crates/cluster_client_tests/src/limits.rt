@@ -1,5 +1,5 @@
 //! Two nodes of one client with different limits of levels.
-use crate::clients::*;
+use clients_for_tests::*;
 use cluster_client::*;
 use std::alloc::Global;
 use std::test::Fail;

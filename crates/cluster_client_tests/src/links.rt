@@ -1,21 +1,8 @@
 //! Links that are handed in, and handed back.
-use crate::clients::*;
+use clients_for_tests::*;
 use cluster_client::*;
 use std::alloc::Global;
 use std::test::Fail;
-
-/// The first half of the slots at n1:7001, and the other one, where `a` is, at n2:7002.
-const HALVES: &[u8] =
-    b"*2\r\n*3\r\n:0\r\n:8191\r\n*2\r\n$2\r\nn1\r\n:7001\r\n*3\r\n:8192\r\n:16383\r\n*2\r\n$2\r\nn2\r\n:7002\r\n";
-
-/// A client with a link to n1:7001 alone, and room for no other, which knows of both nodes.
-pub(crate) fn client(alloc: Global) -> Result<Client, RedisError> {
-    let mut links = Vec::with_capacity(alloc, 1)?;
-    add_link(alloc, &mut links, "n1:7001", HALVES)?;
-    let mut client = ClusterClient::new(alloc, links, Vec::new(alloc), 1)?;
-    client.refresh(alloc, &node(alloc, "n1:7001")?)?;
-    Ok(client)
-}
 
 /// Puts a link with these bytes to n2:7002, and tells whether the one before it was open.
 fn relink(alloc: Global, client: &mut Client, bytes: &[u8]) -> Result<Option<bool>, RedisError> {
@@ -38,7 +25,7 @@ fn lacks_n2(alloc: Global, client: &Client) -> Result<bool, RedisError> {
 #[test]
 fn a_link_in_the_place_of_a_failed_one(rt: HostRuntime) -> Result<(), Fail> {
     let alloc = rt.alloc();
-    let mut client = client(alloc)?;
+    let mut client = client_of_halves(alloc)?;
     assert!(rt; lacks_n2(alloc, &client)?);
     assert_eq!(rt; relink(alloc, &mut client, b"")?, None);
     assert!(rt; client.unlinked(alloc)?.is_empty());
@@ -55,7 +42,7 @@ fn a_link_in_the_place_of_a_failed_one(rt: HostRuntime) -> Result<(), Fail> {
 #[test]
 fn links_come_back_in_their_order(rt: HostRuntime) -> Result<(), Fail> {
     let alloc = rt.alloc();
-    let mut client = client(alloc)?;
+    let mut client = client_of_halves(alloc)?;
     relink(alloc, &mut client, b":5\r\n")?;
     let mut links = client.into_links();
     assert_eq!(rt; links.len(), 2);

@@ -1,25 +1,17 @@
 //! Pipelines over two nodes.
-use crate::clients::*;
+use clients_for_tests::*;
 use cluster_client::*;
 use std::alloc::{AllocError, Global};
 use std::test::Fail;
 
 /// The first half of the slots at n1:7001, where `b` is, and the other one at n2:7002, where `a` is;
 /// then the replies to `SET b 1` and `GET b`.
-const HALVES: &[u8] =
+const HALVES_AND_REPLIES: &[u8] =
     b"*2\r\n*3\r\n:0\r\n:8191\r\n*2\r\n$2\r\nn1\r\n:7001\r\n*3\r\n:8192\r\n:16383\r\n*2\r\n$2\r\nn2\r\n:7002\r\n+OK\r\n$1\r\n1\r\n";
 
 /// The same slots, then an error.
 const HALVES_AND_AN_ERROR: &[u8] =
     b"*2\r\n*3\r\n:0\r\n:8191\r\n*2\r\n$2\r\nn1\r\n:7001\r\n*3\r\n:8192\r\n:16383\r\n*2\r\n$2\r\nn2\r\n:7002\r\n-ERR x\r\n";
-
-/// A client of n1:7001 and n2:7002 to which these bytes come.
-fn client(alloc: Global, n1: &[u8], n2: &[u8]) -> Result<Client, RedisError> {
-    let mut links = Vec::new(alloc);
-    add_link(alloc, &mut links, "n1:7001", n1)?;
-    add_link(alloc, &mut links, "n2:7002", n2)?;
-    ClusterClient::new(alloc, links, Vec::new(alloc), 1)
-}
 
 /// `GET a`, `SET b 1` ignored, `GET b`.
 fn pipeline(alloc: Global) -> Result<ClusterPipeline, AllocError> {
@@ -37,7 +29,7 @@ fn pipeline(alloc: Global) -> Result<ClusterPipeline, AllocError> {
 #[test]
 fn a_pipeline_answers_in_its_order(rt: HostRuntime) -> Result<(), Fail> {
     let alloc = rt.alloc();
-    let mut client = client(alloc, HALVES, b"$1\r\n5\r\n")?;
+    let mut client = client_of_two(alloc, HALVES_AND_REPLIES, b"$1\r\n5\r\n", 1)?;
     assert!(rt; is_refreshed(alloc, &mut client)?);
     let pipeline = pipeline(alloc)?;
     assert_eq!(rt; pipeline.commands().len(), 3);
@@ -74,7 +66,7 @@ fn refused_position(
 #[test]
 fn a_refused_pipeline_tells_the_position(rt: HostRuntime) -> Result<(), Fail> {
     let alloc = rt.alloc();
-    let mut client = client(alloc, HALVES, b"$1\r\n5\r\n")?;
+    let mut client = client_of_two(alloc, HALVES_AND_REPLIES, b"$1\r\n5\r\n", 1)?;
     assert!(rt; is_refreshed(alloc, &mut client)?);
     let pipeline = refused_pipeline(alloc, "TIME")?;
     assert_eq!(rt; refused_position(alloc, &mut client, &pipeline), Some(1));
@@ -115,7 +107,7 @@ fn positions_of_errors(
 fn all_errors_of_a_pipeline_tell_their_positions(rt: HostRuntime) -> Result<(), Fail> {
     let alloc = rt.alloc();
     let replies = b"+OK\r\n-MOVED 15495 n1:7001\r\n";
-    let mut client = client(alloc, HALVES_AND_AN_ERROR, replies)?;
+    let mut client = client_of_two(alloc, HALVES_AND_AN_ERROR, replies, 1)?;
     assert!(rt; is_refreshed(alloc, &mut client)?);
     let positions = positions_of_errors(alloc, &mut client, &three_commands(alloc)?)?;
     assert_eq!(rt; positions.as_slice(), [1, 2].as_slice());
@@ -126,7 +118,7 @@ fn all_errors_of_a_pipeline_tell_their_positions(rt: HostRuntime) -> Result<(), 
 #[test]
 fn a_moved_before_an_early_end_raises_no_flag(rt: HostRuntime) -> Result<(), Fail> {
     let alloc = rt.alloc();
-    let mut client = client(alloc, HALVES, b"-MOVED 15495 n1:7001\r\n")?;
+    let mut client = client_of_two(alloc, HALVES_AND_REPLIES, b"-MOVED 15495 n1:7001\r\n", 1)?;
     assert!(rt; is_refreshed(alloc, &mut client)?);
     let mut pipeline = cluster_pipe(alloc);
     pipeline.add_command(get_a(alloc)?)?;

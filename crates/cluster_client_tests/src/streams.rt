@@ -1,8 +1,7 @@
 //! Calls on streams: each sends its command, and answers its record.
-use crate::clients::*;
+use clients_for_tests::*;
 use cluster_client::*;
 use std::alloc::Global;
-use std::fmt::Debug;
 use std::test::Fail;
 
 /// All slots at n1:7001, then a reply to each call of `answer` in turn.
@@ -39,32 +38,9 @@ const SENT: [&str; 11] = [
     "XDELEX a KEEPREF IDS 2 1-0 2-0",
 ];
 
-/// An answer as it is shown.
-pub(crate) fn shown<T: Debug + Drop>(
-    alloc: Global,
-    outcome: Result<T, RedisError>,
-) -> Result<String, RedisError> {
-    let value = outcome?;
-    Ok(format!(in alloc; "{value:?}")?)
-}
-
-pub(crate) fn xadd(alloc: Global, client: &mut Client) -> Result<String, RedisError> {
-    let trim = StreamTrimStrategy::maxlen(StreamTrimmingMode::Approx, 10);
-    let options = StreamAddOptions::empty().nomkstream().trim(trim);
-    shown(
-        alloc,
-        client.xadd(alloc, "a", &options, "*", &[("f", "v")], None),
-    )
-}
-
 fn xtrim(alloc: Global, client: &mut Client) -> Result<String, RedisError> {
     let options = StreamTrimOptions::maxlen(StreamTrimmingMode::Exact, 2);
     shown(alloc, client.xtrim(alloc, "a", &options, None))
-}
-
-pub(crate) fn xread(alloc: Global, client: &mut Client) -> Result<String, RedisError> {
-    let options = StreamReadOptions::empty().group(alloc, "g", "c")?;
-    shown(alloc, client.xread(alloc, &[("a", ">")], &options, None))
 }
 
 fn xclaim(alloc: Global, client: &mut Client) -> Result<String, RedisError> {

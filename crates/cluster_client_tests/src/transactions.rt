@@ -1,12 +1,9 @@
 //! Transactions over two nodes, by what real servers replied.
-use crate::clients::*;
+use clients_for_tests::*;
 use cluster_client::*;
 use std::alloc::{AllocError, Global};
 use std::process::Abort;
 use std::test::Fail;
-
-/// All slots at n1:7001.
-const ALL_AT_N1: &[u8] = b"*1\r\n*3\r\n:0\r\n:16383\r\n*2\r\n$2\r\nn1\r\n:7001\r\n";
 
 /// The commands, what each node replies to them, and what has to be told: the answer, whether a refresh is
 /// needed, and the requests.
@@ -185,15 +182,6 @@ const ROWS: [Row; 20] = [
     },
 ];
 
-/// A command of the words in a text.
-fn command_of(alloc: Global, text: &str) -> Result<Cmd, AllocError> {
-    let mut cmd = Cmd::new(alloc);
-    for word in text.split(' ') {
-        cmd.arg(word)?;
-    }
-    Ok(cmd)
-}
-
 fn commands_of(alloc: Global, texts: &[&str]) -> Result<Vec<Cmd>, AllocError> {
     let mut commands = Vec::new(alloc);
     for text in texts {
@@ -205,14 +193,11 @@ fn commands_of(alloc: Global, texts: &[&str]) -> Result<Vec<Cmd>, AllocError> {
 fn client_of(alloc: Global, row: &Row) -> Result<Client, RedisError> {
     let mut n1 = Vec::from_slice(alloc, ALL_AT_N1)?;
     n1.extend_from_slice(row.n1)?;
-    let mut links = Vec::new(alloc);
-    add_link(alloc, &mut links, "n1:7001", &n1)?;
-    add_link(alloc, &mut links, "n2:7002", row.n2)?;
-    ClusterClient::new(alloc, links, Vec::new(alloc), row.budget)
+    client_of_two(alloc, &n1, row.n2, row.budget)
 }
 
 /// An answer, or why there is none: a server's error, a position, or the number of the refusal.
-fn shown(alloc: Global, outcome: Result<Value, RedisError>) -> Result<String, RedisError> {
+fn told_of(alloc: Global, outcome: Result<Value, RedisError>) -> Result<String, RedisError> {
     let e = match outcome {
         Ok(value) => return Ok(format!(in alloc; "{value:?}")?),
         Err(e) => e,
@@ -243,7 +228,7 @@ fn push_request(text: &mut String, asked: &Asked) -> Result<(), AllocError> {
 
 fn told(alloc: Global, client: &mut Client, row: &Row) -> Result<String, RedisError> {
     let commands = commands_of(alloc, row.commands)?;
-    let mut text = shown(alloc, client.transaction(alloc, &commands))?;
+    let mut text = told_of(alloc, client.transaction(alloc, &commands))?;
     let flag = client.needs_refresh();
     text.push_str(format!(in alloc; ", {flag}")?.as_str())?;
     for asked in client.asked() {

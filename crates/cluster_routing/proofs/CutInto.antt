@@ -25,7 +25,7 @@ use Rattle.cluster_routing.proofs.Distinct.{nat_tells}
 use Rattle.cluster_routing.proofs.Gathered.{once}
 use Rattle.cluster_routing.proofs.SlotPlaces.{Covers, all_places, are_permuted, both, drawn_by_place, places_of, some_same}
 use Rattle.cluster_routing.proofs.ServingShards.{among-firsts}
-use Rattle.cluster_routing.proofs.Tuples.{count_fits}
+use Rattle.cluster_routing.proofs.TuplesInTurn.{count_fits}
 
 -- ---- each so-manieth place
 

@@ -6,8 +6,7 @@ pub mod Puts
 pub mod PutsByEnds
 pub mod Lends
 pub mod Distinct
-pub mod Tuples
-pub mod Tables
+pub mod TuplesInTurn
 pub mod Replies
 pub mod Choices
 pub mod AllNodes
@@ -41,3 +40,4 @@ pub mod SameRoutings
 pub mod Lengths
 pub mod Spaces
 mod DirectionRules
+pub mod DirectionViews

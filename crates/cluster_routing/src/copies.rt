@@ -1,12 +1,50 @@
 //! Copies of where a command goes.
 
 ghost use Rattle.std.specs.Prelude.{◌≡◌, map, IfOk, Option};
-ghost use Rattle.cluster_routing.specs.Info.{shown_info, shown_multiple, shown_part, shown_redirect, shown_single};
+ghost use Rattle.cluster_routing.specs.Directions.{shown_direction};
+ghost use Rattle.cluster_routing.specs.Info.{shown_info, shown_multiple, shown_part, shown_redirect, shown_single, shown_split};
 ghost use Rattle.cluster_routing.specs.declared.policy.ResponsePolicy.{ResponsePolicy};
 
+use crate::direction::Direction;
 use crate::route::Route;
 use crate::routing::{MultipleNodeRoutingInfo, Redirect, RoutingInfo, SingleNodeRoutingInfo};
+use crate::split::SplitParts;
 use std::alloc::{AllocError, Global};
+
+impl Direction {
+    /// An equal value.
+    ///
+    /// # Errors
+    /// `AllocError` where memory is refused, of which only one in parts takes any.
+    pub fn clone(&self) -> Result<Direction, AllocError>
+        ensures { IfOk result (λ copy. shown_direction copy ≡ shown_direction self.now) }
+    {
+        match self {
+            Direction::Slot(route) => Ok(Direction::Slot(*route)),
+            Direction::AnyNode => Ok(Direction::AnyNode),
+            Direction::AllNodes(policy) => Ok(Direction::AllNodes(*policy)),
+            Direction::AllPrimaries(policy) => Ok(Direction::AllPrimaries(*policy)),
+            Direction::Parts(parts) => Ok(Direction::Parts(parts.clone()?)),
+            Direction::Nowhere(cause) => Ok(Direction::Nowhere(*cause)),
+        }
+    }
+}
+
+impl SplitParts {
+    /// An equal value.
+    ///
+    /// # Errors
+    /// `AllocError` where memory is refused.
+    pub fn clone(&self) -> Result<SplitParts, AllocError>
+        ensures { IfOk result (λ copy. shown_split copy ≡ shown_split self.now) }
+    {
+        Ok(SplitParts {
+            routes: part_copies(*self.routes.allocator(), &self.routes)?,
+            pattern: self.pattern,
+            policy: self.policy,
+        })
+    }
+}
 
 impl RoutingInfo {
     /// An equal value.

@@ -5,9 +5,9 @@ ghost use Rattle.cluster_routing.specs.HashSlot.{hash_slot};
 ghost use Rattle.cluster_routing.specs.Info.{lent, shown_parts};
 ghost use Rattle.cluster_routing.specs.Split.{key_routes};
 
-use crate::parts::parts_of;
 use crate::route::{Route, SlotAddr};
 use crate::slot::Slot;
+use crate::tuples::parts_of;
 use std::alloc::{AllocError, Global};
 
 /// For each slot of the keys a route to it, asking for `addr`, with the positions of its keys.

@@ -11,7 +11,6 @@ mod direction;
 mod keys;
 pub mod laws;
 mod node_places;
-mod parts;
 mod policy;
 mod range;
 mod range_map;
@@ -26,6 +25,7 @@ mod split;
 mod strategy;
 mod table;
 mod topology;
+mod tuples;
 
 pub use address::NodeAddress;
 pub use candidates::{AnyNodeCandidates, ReadCandidates, Replicas, ReplicasOnlyCandidates};

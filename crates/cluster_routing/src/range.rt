@@ -2,7 +2,7 @@
 
 ghost use Rattle.std.specs.Prelude.{◌≡◌, ◌∷◌, option_map, slice_get, IfOk};
 ghost use Rattle.cluster_routing.specs.AllNodes.{node_list};
-ghost use Rattle.cluster_routing.specs.Choice.{IsChosen};
+ghost use Rattle.cluster_routing.specs.Choice.{IsChosen, strategy_of};
 ghost use Rattle.cluster_routing.specs.Seen.{address, addresses};
 
 use crate::address::{NodeAddress, copies_of};
@@ -98,7 +98,7 @@ impl SlotAddrs {
         pick: u64,
         strategy: Option<&dyn ReadRoutingStrategy>,
     ) -> &NodeAddress
-        ensures { IsChosen (option_map (λ s. admits s.now) strategy.entry) route.slot route.slot_addr pick
+        ensures { IsChosen (strategy_of admits strategy.entry) route.slot route.slot_addr pick
             self.now (address result.now) }
     {
         match Replicas::new(&self.replicas) {

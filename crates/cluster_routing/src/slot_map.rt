@@ -1,7 +1,7 @@
 //! The map of slots to nodes.
 
 ghost use Rattle.std.specs.Prelude.{◌≡◌, [], map, IfOk, MatchResult, option_map};
-ghost use Rattle.cluster_routing.specs.Choice.{EachLeadsTo, LeadsTo};
+ghost use Rattle.cluster_routing.specs.Choice.{EachLeadsTo, LeadsTo, strategy_of};
 ghost use Rattle.cluster_routing.specs.Seen.{address, addresses};
 ghost use Rattle.cluster_routing.specs.Ranges.{put};
 ghost use Rattle.cluster_routing.specs.SlotMap.{entry_of, put_all, replicas_at, PutsSome};
@@ -73,7 +73,7 @@ impl SlotMap {
         pick: u64,
         strategy: Option<&dyn ReadRoutingStrategy>,
     ) -> Option<&NodeAddress>
-        ensures { LeadsTo (option_map (λ s. admits s.now) strategy.entry) pick self.now route
+        ensures { LeadsTo (strategy_of admits strategy.entry) pick self.now route
             (option_map (λ a. address a.now) result) }
     {
         match self.slots.get(route.slot()) {
@@ -94,8 +94,7 @@ impl SlotMap {
         pick: u64,
         strategy: Option<&dyn ReadRoutingStrategy>,
     ) -> Result<Vec<Option<&NodeAddress>>, AllocError>
-        ensures { IfOk result
-            (λ v. EachLeadsTo (option_map (λ s. admits s.now) strategy.entry) pick self.now
+        ensures { IfOk result (λ v. EachLeadsTo (strategy_of admits strategy.entry) pick self.now
             (map (λ r. r.0) routes.now) (map (λ o. option_map (λ a. address a.now) o) v.items)) }
     {
         let mut answers = Vec::new(alloc);

@@ -2,17 +2,15 @@
 
 ghost use Rattle.std.specs.Prelude.{◌≡◌, ◌++◌, map, flat_map, option_map, option_and_then, IfOk, Some};
 ghost use Rattle.resp_args.specs.Command.{new_command};
-ghost use Rattle.cluster_routing.specs.Command.{all_bytes};
 ghost use Rattle.cluster_routing.specs.Info.{lent, lent_texts, shown_parts, shown_routed, shown_split, shown_splitting, texts};
-ghost use Rattle.cluster_routing.specs.Routing.{role_of};
-ghost use Rattle.cluster_routing.specs.Split.{text_list, parts_by_role, parts_by_place, shared_in, shared_text, parts_with_routes, splitting_of, sub_at, sub_of, text_at, with_texts};
+ghost use Rattle.cluster_routing.specs.Split.{IsOwnSplitting, text_list, parts_by_role, parts_by_place, shared_in, shared_text, shared_with, parts_with_routes, splitting_of, sub_at, sub_of, text_at, with_texts};
 
-use crate::parts::{len_in_tuples, routes_of};
+use crate::direction::Direction;
 use crate::policy::{MultiSlotArgPattern, ResponsePolicy};
 use crate::routable::Routable;
 use crate::route::{Route, SlotAddr};
-use crate::routing::role_of;
 use crate::table::{Rule, is_family, rule_for};
+use crate::tuples::{len_in_tuples, routes_of};
 use resp_args::Cmd;
 use std::alloc::{AllocError, Global};
 
@@ -47,9 +45,9 @@ impl SplitParts {
         ensures { IfOk result
             (λ o. option_map shown_split o ≡ parts_by_place (R.args r.now) (texts read_only.now)) }
     {
-        match r.arg_idx(0) {
-            None => Ok(None),
-            Some(word) => parts_by_word(alloc, r, word, read_only),
+        match Direction::for_routable(alloc, r, read_only)? {
+            Direction::Parts(parts) => Ok(Some(parts)),
+            _ => Ok(None),
         }
     }
 
@@ -82,26 +80,25 @@ impl SplitParts {
             (shown_parts self.now.routes.items)) }
     {
         let args = original.each_argument(alloc)?;
-        routed_args_at(alloc, &args, &self.routes)
+        routed_args_at(alloc, &args, shared_in(&args), &self.routes)
     }
-}
 
-fn parts_by_word<R: Routable>(
-    alloc: Global,
-    r: &R,
-    word: &[u8],
-    read_only: &[Vec<u8>],
-) -> Result<Option<SplitParts>, AllocError>
-    ensures { IfOk result
-        (λ o. option_map shown_split o
-        ≡ option_and_then (λ s. option_and_then (parts_by_role (role_of word.now (texts read_only.now)) s)
-        (all_bytes (R.args r.now))) (splitting_of word.now)) }
-{
-    match splitting_of(word) {
-        None => Ok(None),
-        Some((pattern, policy)) => {
-            parts_by_tuples(alloc, r, role_of(word, read_only), pattern, policy)
-        }
+    /// The same of the command that these are the parts of: its word is not looked up again.
+    ///
+    /// # Errors
+    /// `AllocError` where memory is refused.
+    pub fn own_routed_args<R: Routable>(
+        &self,
+        alloc: Global,
+        original: &R,
+    ) -> Result<Vec<(Route, Vec<Vec<u8>>)>, AllocError>
+        requires { IsOwnSplitting (R.args original.now) (shown_split self.now).splitting }
+        ensures { IfOk result
+            (λ v. shown_routed v.items ≡ map (λ p. (p.0, sub_at (R.args original.now) p.1))
+            (shown_parts self.now.routes.items)) }
+    {
+        let args = original.each_argument(alloc)?;
+        routed_args_at(alloc, &args, shared_by(&args, self.pattern), &self.routes)
     }
 }
 
@@ -115,24 +112,8 @@ fn splitting_of(word: &[u8]) -> Option<(MultiSlotArgPattern, ResponsePolicy)>
     }
 }
 
-fn parts_by_tuples<R: Routable>(
-    alloc: Global,
-    r: &R,
-    role: SlotAddr,
-    pattern: MultiSlotArgPattern,
-    policy: ResponsePolicy,
-) -> Result<Option<SplitParts>, AllocError>
-    ensures { IfOk result
-        (λ o. option_map shown_split o
-        ≡ option_and_then (parts_by_role role (shown_splitting (pattern, policy))) (all_bytes (R.args r.now))) }
-{
-    match r.arguments(alloc)? {
-        None => Ok(None),
-        Some(args) => parts_of_bytes(alloc, &args, role, pattern, policy),
-    }
-}
-
-fn parts_of_bytes(
+/// The parts of a split command whose arguments, with the word, are these bytes.
+pub(crate) fn parts_of_bytes(
     alloc: Global,
     args: &[&[u8]],
     role: SlotAddr,
@@ -274,18 +255,18 @@ fn splitting_in(word: Option<&[u8]>) -> Option<(MultiSlotArgPattern, ResponsePol
     }
 }
 
-/// The routes, each with what the command of its part is sent with. What the parts share is looked up once for all
-/// of them.
+/// The routes, each with what the command of its part is sent with, where the parts share this.
 fn routed_args_at(
     alloc: Global,
     args: &[Option<&[u8]>],
+    shared: Option<&[u8]>,
     routes: &[(Route, Vec<usize>)],
 ) -> Result<Vec<(Route, Vec<Vec<u8>>)>, AllocError>
+    requires { text_list (Some (option_map (λ a. a.now) shared)) ≡ shared_in (lent_texts args.now) }
     ensures { IfOk result
         (λ v. shown_routed v.items ≡ map (λ p. (p.0, sub_of (lent_texts args.now) p.1))
         (shown_parts routes.now)) }
 {
-    let shared = shared_in(args);
     let mut routed = Vec::with_capacity(alloc, routes.len())?;
     'routes: for part in routes {
         routed.push((part.0, args_at(alloc, args, shared, &part.1)?))?;
@@ -312,6 +293,16 @@ fn shared_behind<'a>(word: Option<&[u8]>, behind: &[Option<&'a [u8]>]) -> Option
         None => None,
         Some((pattern, _)) => arg_at(behind, len_in_tuples(pattern, behind.len())),
     }
+}
+
+/// The argument that the parts of a command share whose tuples have this pattern.
+fn shared_by<'a>(args: &[Option<&'a [u8]>], pattern: MultiSlotArgPattern) -> Option<&'a [u8]>
+    ensures { text_list (Some (option_map (λ a. a.now) result)) ≡ shared_with pattern (lent_texts args.now) }
+{
+    let [_, behind @ ..] = args else {
+        return None;
+    };
+    arg_at(behind, len_in_tuples(pattern, behind.len()))
 }
 
 /// The argument at a place, if it is there and no gap.

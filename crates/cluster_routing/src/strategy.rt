@@ -1,8 +1,8 @@
 //! Strategies that choose the node of a read.
 
-ghost use Rattle.std.specs.Prelude.{◌≡◌, option_map};
+ghost use Rattle.std.specs.Prelude.{◌≡◌};
 ghost use Rattle.cluster_routing.specs.Candidates.{candidate_slot};
-ghost use Rattle.cluster_routing.specs.Choice.{IsAdmitted, IsAnyBy, IsChosenAmong, IsReplicaBy};
+ghost use Rattle.cluster_routing.specs.Choice.{IsAdmitted, IsAnyBy, IsChosenAmong, IsReplicaBy, strategy_of};
 ghost use Rattle.cluster_routing.specs.Seen.{address};
 ghost use Rattle.cluster_routing.specs.Lent.{lent};
 
@@ -51,7 +51,7 @@ pub(crate) fn node_among<'a>(
     pick: u64,
     strategy: Option<&dyn ReadRoutingStrategy>,
 ) -> &'a NodeAddress
-    ensures { IsChosenAmong (option_map (λ s. admits s.now) strategy.entry) route.slot route.slot_addr pick
+    ensures { IsChosenAmong (strategy_of admits strategy.entry) route.slot route.slot_addr pick
         (address primary.now) replicas.entry (address result.now) }
 {
     let slot = route.slot();
@@ -70,8 +70,7 @@ fn any_node<'a>(
     any: AnyNodeCandidates<'a>,
     strategy: Option<&dyn ReadRoutingStrategy>,
 ) -> &'a NodeAddress
-    ensures { IsAnyBy (option_map (λ s. admits s.now) strategy.entry) any.entry.slot any.entry.nodes
-        (address result.now) }
+    ensures { IsAnyBy (strategy_of admits strategy.entry) any.entry.slot any.entry.nodes (address result.now) }
 {
     match strategy {
         None => any.primary(),
@@ -84,8 +83,7 @@ fn replica<'a>(
     pick: u64,
     strategy: Option<&dyn ReadRoutingStrategy>,
 ) -> &'a NodeAddress
-    ensures { IsReplicaBy
-        (option_map (λ s. admits s.now) strategy.entry) only.entry.slot pick only.entry.replicas
+    ensures { IsReplicaBy (strategy_of admits strategy.entry) only.entry.slot pick only.entry.replicas
         (address result.now) }
 {
     match strategy {

@@ -2,8 +2,8 @@
 
 use crate::texts::{is_text, shows, text};
 use cluster_routing::{
-    MultiSlotArgPattern, ResponsePolicy, Route, RoutingInfo, SingleNodeRoutingInfo, SlotAddr,
-    SplitParts, command_for_multi_slot_indices, role_of,
+    Direction, MultiSlotArgPattern, ResponsePolicy, Route, RoutingInfo, SingleNodeRoutingInfo,
+    SlotAddr, SplitParts, command_for_multi_slot_indices, role_of,
 };
 use resp_args::Cmd;
 use resp_core::parse_redis_value;
@@ -52,6 +52,45 @@ fn splits_by_slot(rt: HostRuntime) {
         "Some(MultiNode((MultiSlot(([(Route { slot: 15495, slot_addr: Master }, [0]), (Route { slot: 3300, slot_addr: Master }, [1])], KeysAndLastArg)), Some(CombineArrays))))";
     all_go(&rt, alloc, &[&["JSON.MGET", "a", "b", "$"]], before_a_path);
     all_go(&rt, alloc, &[&["MGET", "a", "{a}x"]], TO_A);
+}
+
+/// The text of the direction of a command.
+fn direction_text(alloc: Global, command: &Cmd) -> Result<String, AllocError> {
+    let direction = Direction::for_routable(alloc, command, &[])?;
+    format!(in alloc; "{direction:?}")
+}
+
+#[test]
+fn tells_directions(rt: HostRuntime) -> Result<(), Fail> {
+    let alloc = rt.alloc();
+    let rows: [(&[&str], &str); 10] = [
+        (
+            &["GET", "a"],
+            "Slot(Route { slot: 15495, slot_addr: Master })",
+        ),
+        (&["TIME"], "AnyNode"),
+        (&["CONFIG", "SET", "a", "1"], "AllNodes(AllSucceeded)"),
+        (&["DBSIZE"], "AllPrimaries(Aggregate(Sum))"),
+        (
+            &["MGET", "a", "{a}x"],
+            "Parts(SplitParts { routes: [(Route { slot: 15495, slot_addr: Master }, [0, 1])], pattern: KeysOnly, policy: CombineArrays })",
+        ),
+        (
+            &["MSET", "a", "1", "b", "2"],
+            "Parts(SplitParts { routes: [(Route { slot: 15495, slot_addr: Master }, [0, 1]), (Route { slot: 3300, slot_addr: Master }, [2, 3])], pattern: KeyValuePairs, policy: AllSucceeded })",
+        ),
+        (&["MSET", "a", "1", "b"], "Nowhere(BrokenTuples)"),
+        (&["MGET"], "Nowhere(BrokenTuples)"),
+        (&["GET"], "Nowhere(NoRoute)"),
+        (&[], "Nowhere(NoRoute)"),
+    ];
+    for (words, wanted) in rows {
+        is_text(&rt, direction_text(alloc, &cmd(alloc, words)?), wanted);
+    }
+    let mut gap = cmd(alloc, &["MGET", "a"])?;
+    gap.cursor_arg(7)?;
+    is_text(&rt, direction_text(alloc, &gap), "Nowhere(CursorInSplit)");
+    Ok(())
 }
 
 fn read_names(alloc: Global) -> Result<Vec<Vec<u8>>, AllocError> {

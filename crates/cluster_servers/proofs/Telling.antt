@@ -5,7 +5,7 @@ use Rattle.resp_core.specs.Trees.{Tree}
 use Rattle.resp_core.specs.Errors.{Refusal}
 use Rattle.cluster_calls.specs.Links.World.{World}
 use Rattle.proxy_core.specs.declared.outcome.Outcome.{Outcome}
-use Rattle.proxy_core.specs.declared.servers.Asked.{Asked}
+use Rattle.proxy_core.specs.declared.servers.Waiting.{Waiting}
 use Rattle.proxy_core.specs.Batch.{batch_of}
 use Rattle.cluster_servers.specs.declared.command.GuestCommand.{GuestCommand}
 use Rattle.cluster_servers.specs.declared.reply.Reply.{Reply}
@@ -16,12 +16,12 @@ abbrev Outcomes : Type 0
 Outcomes = List (Outcome Reply)
 
 -- nothing is left to be told
-pub told_end : (left : List (Asked GuestCommand)) (queue : List (Result Tree Refusal)) (outcomes : Outcomes) (P : Outcomes → Type 0) → length left ≡ 0 → length queue ≡ 0 → ((rest : Outcomes) → AreTold (batch_of left) queue rest → P (outcomes ++ rest)) → P outcomes
+pub told_end : (left : List (Waiting GuestCommand)) (queue : List (Result Tree Refusal)) (outcomes : Outcomes) (P : Outcomes → Type 0) → length left ≡ 0 → length queue ≡ 0 → ((rest : Outcomes) → AreTold (batch_of left) queue rest → P (outcomes ++ rest)) → P outcomes
 told_end [] [] outcomes P l q h = subst P (append-nil outcomes) (h [] tt)
 told_end [] (t ∷ ts) outcomes P l q h = cc
 told_end (a ∷ as') queue outcomes P l q h = cc
 
-pub alone_end : (patient : Bool) (now : World) (left : List (Asked GuestCommand)) (outcomes : Outcomes) (P : Outcomes → Type 0) → length left ≡ 0 → ((rest : Outcomes) → AreAskedAlone patient now now (batch_of left) rest → P (outcomes ++ rest)) → P outcomes
+pub alone_end : (patient : Bool) (now : World) (left : List (Waiting GuestCommand)) (outcomes : Outcomes) (P : Outcomes → Type 0) → length left ≡ 0 → ((rest : Outcomes) → AreAskedAlone patient now now (batch_of left) rest → P (outcomes ++ rest)) → P outcomes
 alone_end patient now [] outcomes P l h = subst P (append-nil outcomes) (h [] refl)
 alone_end patient now (a ∷ as') outcomes P l h = cc
 
@@ -40,8 +40,8 @@ alone_length patient old new [] (o ∷ os) h = absurd h
 alone_length patient old new (b ∷ bs) [] h = absurd h
 alone_length patient old new (b ∷ bs) (o ∷ os) h = ap (λ n. suc n) (alone_length patient h.0 new bs os h.2)
 
-pub batch_length : (batch : List (Asked GuestCommand)) → length (batch_of batch) ≡ length batch
-batch_length batch = length-map batch (λ (a : Asked GuestCommand). (a.guest, a.command.now))
+pub batch_length : (batch : List (Waiting GuestCommand)) → length (batch_of batch) ≡ length batch
+batch_length batch = length-map batch (λ (a : Waiting GuestCommand). (a.guest, a.command.now))
 
-pub entries_length : (batch : List (Asked GuestCommand)) → length (entries_of (batch_of batch)) ≡ length batch
+pub entries_length : (batch : List (Waiting GuestCommand)) → length (entries_of (batch_of batch)) ≡ length batch
 entries_length batch = length-map (batch_of batch) _ ∙ batch_length batch

@@ -11,8 +11,8 @@ ghost use Rattle.cluster_servers.specs.Fates.{fate_alone, refused_fate, sent_fat
 use crate::command::GuestCommand;
 use crate::reply::Reply;
 use cluster_client::ClusterClient;
-use cluster_steps::asked::Asked as Request;
-use proxy_core::{Asked, Fate, Outcome};
+use cluster_steps::asked::Asked;
+use proxy_core::{Fate, Outcome, Waiting};
 use resp_core::{Cause, RedisError, Value};
 use resp_link::ConnectionLike;
 use std::alloc::Global;
@@ -42,7 +42,7 @@ fn sent_fate(cause: Option<Cause>) -> Fate
 }
 
 /// The fate of a command that was asked by itself, by what the call made of it.
-fn fate_alone(patient: bool, log: &[Request], told: &Result<Value, RedisError>) -> Fate
+fn fate_alone(patient: bool, log: &[Asked], told: &Result<Value, RedisError>) -> Fate
     ensures { result ≡ fate_alone patient log.now (tree_result view told.now) }
 {
     match told {
@@ -80,7 +80,7 @@ pub(crate) fn ask_each<L: ConnectionLike + Drop>(
     alloc: Global,
     client: &mut ClusterClient<L>,
     patient: bool,
-    batch: &[Asked<'_, GuestCommand>],
+    batch: &[Waiting<'_, GuestCommand>],
     outcomes: &mut Vec<Outcome<Reply>>,
 )
     requires room { length batch.now ≤ vec_capacity outcomes.old }

@@ -2,26 +2,28 @@
 ghost use Rattle.std.proofs.Props.{props};
 ghost use Rattle.std.specs.Prelude.{◌≡◌, ◌∷◌, [], filter_map, length, map, nat_lt, IfOk};
 ghost use Rattle.resp_args.specs.Packed.{packed, sent};
+ghost use Rattle.cluster_routing.specs.Directions.{shown_direction};
+ghost use Rattle.cluster_routing.specs.Directions as directions;
 ghost use Rattle.cluster_routing.specs.Info.{shown_parts};
-ghost use Rattle.cluster_steps.specs.CodeParts.{route_target, targets_in};
-ghost use Rattle.cluster_steps.specs.FirstPlaces.{target_of};
+ghost use Rattle.cluster_steps.specs.CodeParts.{route_target};
 ghost use Rattle.cluster_servers.specs.Slots.{slot_at, slots_of};
 ghost use Rattle.proxy_core.specs.Slots.{overlap};
 
-use cluster_routing::Route;
-use cluster_steps::route::{Target, Targets, targets_of};
+use cluster_routing::{Direction, Route};
 use proxy_core::{Bytes, Command};
 use resp_args::Cmd;
-use resp_core::{ErrorKind, Protocol};
+use resp_core::Protocol;
 use std::alloc::{AllocError, Global};
 
-/// A command of a guest, and the protocol in which the guest reads its reply.
+/// A command of a guest, with where it goes, and the protocol in which the guest reads its reply.
 #[derive(Drop)]
 pub struct GuestCommand {
     pub(crate) command: Cmd,
     pub(crate) protocol: Protocol,
+    direction: Direction,
     slots: Vec<u16>,
     bytes: usize,
+    ghost directed: { shown_direction direction ≡ directions.direction command.args [] } by { Prim.hlevel props },
     ghost known: { slots.items ≡ slots_of command } by { Prim.hlevel props },
     ghost measured: { bytes ≡ length (packed (sent command)) } by { Prim.hlevel props },
 }
@@ -33,10 +35,12 @@ impl GuestCommand {
         ensures protocol { IfOk result (λ c. c.protocol ≡ protocol) }
     {
         let bytes = command.get_packed_command()?.len();
-        let slots = slots_of(alloc, &command)?;
+        let direction = Direction::for_routable(alloc, &command, &[])?;
+        let slots = slots_of(alloc, &command, &direction)?;
         Ok(GuestCommand {
             command,
             protocol,
+            direction,
             slots,
             bytes,
         })
@@ -49,6 +53,13 @@ impl GuestCommand {
         &self.command
     }
 
+    /// Where it goes, by no names that only read.
+    pub fn direction(&self) -> &Direction
+        ensures { shown_direction result.now ≡ directions.direction self.now.command.args [] }
+    {
+        &self.direction
+    }
+
     /// Whether it goes by its keys: to the node of their slot, or in parts to the nodes of several.
     pub fn has_slots(&self) -> bool
         ensures { result ≡ nat_lt 0 (length (slots_of self.now.command)) }
@@ -57,36 +68,18 @@ impl GuestCommand {
     }
 }
 
-/// The slots of a command's keys.
-fn slots_of(alloc: Global, command: &Cmd) -> Result<Vec<u16>, AllocError>
+/// The slots of a command's keys, by where it goes.
+fn slots_of(alloc: Global, command: &Cmd, direction: &Direction) -> Result<Vec<u16>, AllocError>
+    requires { shown_direction direction.now ≡ directions.direction command.now.args [] }
     ensures { IfOk result (λ slots. slots.items ≡ slots_of command.now) }
 {
-    match targets_of(alloc, command, &[], 0) {
-        Ok(targets) => slots_in(alloc, &targets),
-        Err(error) => match error.kind() {
-            ErrorKind::Memory => Err(AllocError),
-            _ => Ok(Vec::new(alloc)),
-        },
+    if command.is_no_response() {
+        return Ok(Vec::new(alloc));
     }
-}
-
-/// The slots that the parts of a command go to.
-fn slots_in(alloc: Global, targets: &Targets) -> Result<Vec<u16>, AllocError>
-    ensures { IfOk result (λ slots. slots.items ≡ filter_map slot_at (targets_in targets.now)) }
-{
-    match targets {
-        Targets::Whole(target) => slot_at(alloc, target),
-        Targets::Split(split) => slots_at(alloc, &split.routes),
-    }
-}
-
-/// The slot that a target is a node of, if it is one.
-fn slot_at(alloc: Global, target: &Target) -> Result<Vec<u16>, AllocError>
-    ensures { IfOk result (λ slots. slots.items ≡ filter_map slot_at (target_of target.now ∷ [])) }
-{
-    match target {
-        Target::Slot(route) => Vec::from_slice(alloc, &[route.slot()]),
-        Target::Number(_) => Ok(Vec::new(alloc)),
+    match direction {
+        Direction::Slot(route) => Vec::from_slice(alloc, &[route.slot()]),
+        Direction::Parts(split) => slots_at(alloc, &split.routes),
+        _ => Ok(Vec::new(alloc)),
     }
 }
 

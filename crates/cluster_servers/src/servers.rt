@@ -1,20 +1,17 @@
 //! A cluster as the servers of a proxy.
-ghost use Rattle.std.specs.Prelude.{◌≡◌, true, false, None, [], map, is_some, MatchOption, IfOk, OnErr, Ok};
-ghost use Rattle.resp_core.specs.View.{view};
-ghost use Rattle.cluster_calls.specs.Links.EachMade.{EachMade};
-ghost use Rattle.cluster_calls.specs.Links.World.{tree_result};
+ghost use Rattle.std.specs.Prelude.{◌≡◌, true, false, [], is_some, MatchOption, IfOk, OnErr};
 ghost use Rattle.cluster_client.specs.Whole.{whole};
 ghost use Rattle.proxy_core.specs.Batch.{batch_of};
 ghost use Rattle.cluster_servers.specs.Asked.{AsksCluster, GoesAlone};
 ghost use Rattle.cluster_servers.specs.Seen.{cluster};
-ghost use Rattle.cluster_servers.specs.Together.{entries_of};
+ghost use Rattle.cluster_servers.specs.Together.{GoesTogether, entries_of};
 
 use crate::alone::ask_each;
 use crate::command::GuestCommand;
 use crate::reply::Reply;
-use crate::together::{pipeline_of, some_redirected, tell_all};
+use crate::together::{directed_of, some_redirected, tell_all};
 use cluster_client::ClusterClient;
-use proxy_core::{Asked, Outcome, Servers};
+use proxy_core::{Outcome, Servers, Waiting};
 use resp_core::{Cause, RedisError, Value};
 use resp_link::{ConnectionLike, PipelinedLink};
 use std::alloc::{AllocError, Global};
@@ -49,13 +46,11 @@ impl<L: PipelinedLink + Drop> ClusterServers<L> {
     fn send_together(
         &mut self,
         alloc: Global,
-        batch: &[Asked<'_, GuestCommand>],
+        batch: &[Waiting<'_, GuestCommand>],
     ) -> Result<Option<Vec<Result<Value, RedisError>>>, AllocError>
         ensures told { IfOk result (λ sent. MatchOption sent
-            (GoesAlone (cluster L.seen self.old) (whole L.seen self.new.client)
-            (entries_of (batch_of batch.now)))
-            (λ told. EachMade None (whole L.seen self.old.client) (whole L.seen self.new.client)
-            (entries_of (batch_of batch.now)) (Ok (map (tree_result view) told.items)))) }
+            (GoesAlone (cluster L.seen self.old) (whole L.seen self.new.client) (entries_of (batch_of batch.now)))
+            (λ told. GoesTogether (whole L.seen self.old.client) (whole L.seen self.new.client) batch.now told.items)) }
         ensures together { IfOk result (λ sent. is_some sent ≡ true → self.old.alone ≡ false) }
         ensures refused { OnErr result
             (AsksCluster (cluster L.seen self.old) [] [] (cluster L.seen self.new)) }
@@ -65,8 +60,8 @@ impl<L: PipelinedLink + Drop> ClusterServers<L> {
         if self.alone {
             return Ok(None);
         }
-        let pipeline = pipeline_of(alloc, batch)?;
-        match pipeline.query_each(alloc, &mut self.client) {
+        let directed = directed_of(alloc, batch)?;
+        match self.client.query_each_directed(alloc, &directed) {
             Ok(told) => Ok(Some(told)),
             Err(error) => match error.cause() {
                 Some(Cause::Memory) => Err(AllocError),
@@ -85,7 +80,7 @@ impl<L: PipelinedLink + Drop> Servers<GuestCommand, Reply> for ClusterServers<L>
     fn ask(
         &mut self,
         alloc: Global,
-        batch: &[Asked<'_, GuestCommand>],
+        batch: &[Waiting<'_, GuestCommand>],
     ) -> Result<Vec<Outcome<Reply>>, AllocError> {
         let mut outcomes = Vec::with_capacity(alloc, batch.len())?;
         match self.send_together(alloc, batch)? {

@@ -4,6 +4,7 @@ ghost use Rattle.std.specs.List.{list_any, AllByRecursion};
 ghost use Rattle.resp_core.specs.View.{view};
 ghost use Rattle.cluster_calls.specs.Links.World.{tree_result};
 ghost use Rattle.cluster_steps.specs.Joins as joins;
+ghost use Rattle.cluster_client.specs.InParts.{IsDirected, entry_of};
 ghost use Rattle.proxy_core.specs.Batch.{batch_of};
 ghost use Rattle.cluster_servers.specs.Asked.{is_redirect, some_redirected};
 ghost use Rattle.cluster_servers.specs.Fates.{fate_by};
@@ -11,25 +12,29 @@ ghost use Rattle.cluster_servers.specs.Together.{AreTold, IsTold, entries_of};
 
 use crate::command::GuestCommand;
 use crate::reply::Reply;
-use cluster_client::ClusterPipeline;
+use cluster_client::Directed;
 use cluster_steps::join;
-use proxy_core::{Asked, Fate, Outcome};
+use proxy_core::{Fate, Outcome, Waiting};
 use resp_core::{Protocol, RedisError, Value};
 use std::alloc::{AllocError, Global};
 use std::collections::VecDeque;
 
-/// The commands of a batch as a pipeline.
-pub(crate) fn pipeline_of(
+/// The commands of a batch, lent with their directions.
+pub(crate) fn directed_of<'a>(
     alloc: Global,
-    batch: &[Asked<'_, GuestCommand>],
-) -> Result<ClusterPipeline, AllocError>
-    ensures { IfOk result (λ pipeline. pipeline ≡ entries_of (batch_of batch.now)) }
+    batch: &[Waiting<'a, GuestCommand>],
+) -> Result<Vec<Directed<'a>>, AllocError>
+    ensures entries { IfOk result (λ all. map entry_of all.items ≡ entries_of (batch_of batch.now)) }
+    ensures directed { IfOk result (λ all. AllByRecursion IsDirected all.items) }
 {
-    let mut pipeline = ClusterPipeline::with_capacity(alloc, batch.len())?;
+    let mut all = Vec::with_capacity(alloc, batch.len())?;
     'batch: for asked in batch {
-        pipeline.add_command(asked.command.command.clone()?)?;
+        all.push(Directed {
+            command: asked.command.command(),
+            direction: asked.command.direction(),
+        })?;
     }
-    Ok(pipeline)
+    Ok(all)
 }
 
 /// The fate of a position, as the proxy is told.
@@ -58,7 +63,7 @@ fn outcome_of(alloc: Global, told: Result<Value, RedisError>, protocol: Protocol
 /// for all.
 pub(crate) fn tell_all(
     alloc: Global,
-    batch: &[Asked<'_, GuestCommand>],
+    batch: &[Waiting<'_, GuestCommand>],
     told: Vec<Result<Value, RedisError>>,
     outcomes: &mut Vec<Outcome<Reply>>,
 )

@@ -12,7 +12,7 @@ use Rattle.resp_link.specs.declared.memory_writer.MemoryWriter.{MemoryWriter}
 abbrev pub link_seen : ByteLink MemoryReader MemoryWriter → Seen
 link_seen l = record {
   sent = Some l.writer.bytes.items;
-  left = Some (drop l.reader.at l.reader.bytes.items);
+  unread = Some (drop l.reader.at l.reader.bytes.items);
   held = waiting l.parser;
   pushes = map push_view l.pushes.items;
   counts = record { promise = refuses_at l.reader.refused_at; refused = l.reader.refused; empty = l.reader.empty; reads = l.reader.reads };

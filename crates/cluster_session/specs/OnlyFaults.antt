@@ -16,7 +16,7 @@ pub data ReadsRefused (number : ℕ) (link : Seen) : Type 0 where
       → ReadsRefused number link
   that_read : link.counts.refused ≡ 1 → MayRefuse (refuses_at number) link.counts.reads
       → ReadsRefused number link
-  ended : IsAtEnd link.left → RefusesNone (refuses_at number) 0 link.counts.reads → ReadsRefused number link
+  ended : IsAtEnd link.unread → RefusesNone (refuses_at number) 0 link.counts.reads → ReadsRefused number link
 
 -- The writes, likewise; one that found no room in memory was the last one, and the only one refused.
 pub data WritesRefused (number : ℕ) (link : Seen) : Type 0 where

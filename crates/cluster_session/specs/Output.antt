@@ -16,11 +16,11 @@ abbrev pub GoesWith : Result Session ℕ → ℕ → List ℕ → Type 0
 GoesWith (Ok session) status output = (status ≡ 0) × PrintsRun session output
 GoesWith (Err number) status output = (status ≡ 2) × (output ≡ fault_line number)
 
--- A text was read from a reader that had `left` to come, and the writer got the output that goes with it and
+-- A text was read from a reader that had `unread` to come, and the writer got the output that goes with it and
 -- the status.
-pub record Prints (status : ℕ) (left rest before after : Option (List ℕ)) : Type 0 where
+pub record Prints (status : ℕ) (unread rest before after : Option (List ℕ)) : Type 0 where
   pub text : List ℕ
-  pub reads : Consumes left rest text
+  pub reads : Consumes unread rest text
   pub output : List ℕ
   pub writes : Appends before after output
   pub goes : GoesWith (session_in_text text) status output

@@ -33,7 +33,7 @@ pub record Session : Type 0 where
 abbrev pub link_at_start : ℕ → Setup → Seen
 link_at_start levels setup = record {
   sent = Some [];
-  left = Some setup.bytes;
+  unread = Some setup.bytes;
   held = [];
   pushes = [];
   counts = no_reads (refuses_at setup.failing_read);

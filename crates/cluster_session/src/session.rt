@@ -36,9 +36,9 @@ pub fn run_session<R: LinkRead, W: LinkWrite>(
     reader: &mut R,
     writer: &mut W,
 ) -> Result<u8, RedisError>
-    ensures reads_all { OnOk result (IsAtEnd (R.left reader.new)) }
+    ensures reads_all { OnOk result (IsAtEnd (R.unread reader.new)) }
     ensures writes { IfOk result
-        (λ status. Prints status (R.left reader.old) (R.left reader.new) (W.written writer.old)
+        (λ status. Prints status (R.unread reader.old) (R.unread reader.new) (W.written writer.old)
         (W.written writer.new)) }
     ensures flushes { OnOk result (W.flushed writer.new ≡ true) }
     ensures causes { IfErr result (λ e. (e ≡ by_cause Io) ⊎ (e ≡ by_cause Memory)) }

@@ -14,9 +14,9 @@ use Rattle.resp_link.specs.TwoCalls.{ComesToOwe, SendRefused, TakesOwed, Receive
 use Rattle.resp_link.proofs.TwoCalls.{answers_in_two, fails_in_two, refused_sends_are_refused_calls}
 use Rattle.cluster_routing.specs.Lists.{among}
 use Rattle.cluster_calls.specs.Links.Request.{bytes_of}
-use Rattle.cluster_calls.specs.Links.World.{Node, Called, Calls}
+use Rattle.cluster_calls.specs.Links.World.{Node, Called, CallsLink}
 use Rattle.cluster_steps.specs.AtOnce.{GoesOut, ComesIn, IsSent, IsReceived, AreSent}
-use Rattle.cluster_steps.specs.Groups.{Group}
+use Rattle.cluster_steps.specs.Groups.{NodeRequests}
 use Rattle.cluster_steps.specs.declared.at_once.Sent.{Sent}
 use Rattle.cluster_calls.proofs.LinkLaws.LinkRuns.{or_parts}
 
@@ -36,7 +36,7 @@ get_same (x ∷ xs) (suc i) v w e = get_same xs i v w e
 
 -- ---- calls of links at two places, in either order
 
-pub calls_swapped : {P Q : Seen → Seen → Type 0} (old mid new : List Node) (j k : ℕ) → j ≢ k → Calls old mid j P → Calls mid new k Q → (first : List Node) × Calls old first k Q × Calls first new j P
+pub calls_swapped : {P Q : Seen → Seen → Type 0} (old mid new : List Node) (j k : ℕ) → j ≢ k → CallsLink old mid j P → CallsLink mid new k Q → (first : List Node) × CallsLink old first k Q × CallsLink first new j P
 calls_swapped old mid new j k apart p q =
     let there : slice_get old k ≡ Some q.before = sym (get_other old j k p.after (λ e. apart (sym e))) ∙ ap (λ ns. slice_get ns k) (sym p.others) ∙ q.found in (
       slice_set old k q.after,
@@ -52,7 +52,7 @@ calls_swapped old mid new j k apart p q =
     )
 
 -- two calls at one place are one that does both
-pub calls_joined : {P R : Seen → Seen → Type 0} (Q : Seen → Seen → Type 0) → ((a b c : Seen) → P a b → Q b c → R a c) → (old mid new : List Node) (k : ℕ) → Calls old mid k P → Calls mid new k Q → Calls old new k R
+pub calls_joined : {P R : Seen → Seen → Type 0} (Q : Seen → Seen → Type 0) → ((a b c : Seen) → P a b → Q b c → R a c) → (old mid new : List Node) (k : ℕ) → CallsLink old mid k P → CallsLink mid new k Q → CallsLink old new k R
 calls_joined Q does old mid new k p q =
     let here : Some p.after ≡ Some q.before = sym (get_same old k p.before p.after p.found) ∙ ap (λ ns. slice_get ns k) (sym p.others) ∙ q.found in
     let same : p.after ≡ q.before = cc in
@@ -66,7 +66,7 @@ calls_joined Q does old mid new k p q =
     }
 
 -- what a link did is the same in other words
-pub calls_as : {P Q : Seen → Seen → Type 0} → ((a b : Seen) → P a b → Q a b) → (old new : List Node) (k : ℕ) → Calls old new k P → Calls old new k Q
+pub calls_as : {P Q : Seen → Seen → Type 0} → ((a b : Seen) → P a b → Q a b) → (old new : List Node) (k : ℕ) → CallsLink old new k P → CallsLink old new k Q
 calls_as does old new k p = record { before = p.before; after = p.after; found = p.found; others = p.others; address = p.address; call = does p.before.link p.after.link p.call }
 
 -- ---- causes of refusals
@@ -90,22 +90,22 @@ comes_in old new count e cause is refused = subst (ReceiveRefused old new count)
 
 -- ---- what went out stays so, whatever is done at another place
 
-abbrev pub are_elsewhere : ℕ → List Group → Bool
-are_elsewhere k gs = among nat_eq k (map (λ (g : Group). g.which) gs)
+abbrev pub are_elsewhere : ℕ → List NodeRequests → Bool
+are_elsewhere k gs = among nat_eq k (map (λ (g : NodeRequests). g.link) gs)
 
-pub sent_stays : (Q : Seen → Seen → Type 0) (k : ℕ) (old mid new : List Node) (gs : List Group) (ss : List Sent) → are_elsewhere k gs ≡ false → AreSent old mid gs ss → Calls mid new k Q
-    → (first : List Node) × Calls old first k Q × AreSent first new gs ss
-sent_stays Q k old mid new [] [] apart sent call = (new, subst (λ ns. Calls ns new k Q) sent call, refl)
+pub sent_stays : (Q : Seen → Seen → Type 0) (k : ℕ) (old mid new : List Node) (gs : List NodeRequests) (ss : List Sent) → are_elsewhere k gs ≡ false → AreSent old mid gs ss → CallsLink mid new k Q
+    → (first : List Node) × CallsLink old first k Q × AreSent first new gs ss
+sent_stays Q k old mid new [] [] apart sent call = (new, subst (λ ns. CallsLink ns new k Q) sent call, refl)
 sent_stays Q k old mid new [] (s ∷ ss) apart sent call = absurd sent
 sent_stays Q k old mid new (g ∷ gs) [] apart sent call = absurd sent
 sent_stays Q k old mid new (g ∷ gs) (s ∷ ss) apart sent call =
-    let parts = or_parts (nat_eq k g.which) (are_elsewhere k gs) apart in
+    let parts = or_parts (nat_eq k g.link) (are_elsewhere k gs) apart in
     let later = sent_stays Q k sent.0 mid new gs ss parts.1 sent.2 call in
-    let other : g.which ≢ k = λ e. false≢true (sym parts.0 ∙ eq-eqb k g.which (sym e)) in
-    let swapped = calls_swapped old sent.0 later.0 g.which k other sent.1.call later.1 in (
+    let other : g.link ≢ k = λ e. false≢true (sym parts.0 ∙ eq-eqb k g.link (sym e)) in
+    let swapped = calls_swapped old sent.0 later.0 g.link k other sent.1.call later.1 in (
       swapped.0,
       swapped.1,
-      (later.0, record { which = sent.1.which; count = sent.1.count; call = swapped.2 }, later.2),
+      (later.0, record { link = sent.1.link; count = sent.1.count; call = swapped.2 }, later.2),
     )
 
 -- ---- one group
@@ -123,36 +123,36 @@ did_not_go : (bytes : List ℕ) (count : ℕ) (cause : Cause) (a b : Seen) → S
 did_not_go bytes count cause a b refused = refused_sends_are_refused_calls a b bytes (0 + count) (by_cause cause) refused
 
 -- the first of the groups that went out is taken: it is as if it alone had been called, and the others had gone out behind it
-pub received_first : (old now new : List Node) (g : Group) (gs : List Group) (s : Sent) (ss : List Sent) (came : Result (List Tree) Cause) → are_elsewhere g.which gs ≡ false → AreSent old now (g ∷ gs) (s ∷ ss) → IsReceived now new s came
-    → (mid : List Node) × Calls old mid g.which (λ before after. Called before after (bytes_of g.requests) 0 (length g.requests) (as_result came)) × AreSent mid new gs ss
+pub received_first : (old now new : List Node) (g : NodeRequests) (gs : List NodeRequests) (s : Sent) (ss : List Sent) (came : Result (List Tree) Cause) → are_elsewhere g.link gs ≡ false → AreSent old now (g ∷ gs) (s ∷ ss) → IsReceived now new s came
+    → (mid : List Node) × CallsLink old mid g.link (λ before after. Called before after (bytes_of g.requests) 0 (length g.requests) (as_result came)) × AreSent mid new gs ss
 received_first old now new g gs s ss came apart sent received = by s.refusal refl received
   where
     Does : Seen → Seen → Type 0
     Does before after = Called before after (bytes_of g.requests) 0 (length g.requests) (as_result came)
 
-    out : (o : Option Cause) → s.refusal ≡ o → Calls old sent.0 g.which (λ before after. GoesOut before after (bytes_of g.requests) o)
-    out o is = subst (λ r. Calls old sent.0 g.which (λ before after. GoesOut before after (bytes_of g.requests) r)) is sent.1.call
+    out : (o : Option Cause) → s.refusal ≡ o → CallsLink old sent.0 g.link (λ before after. GoesOut before after (bytes_of g.requests) o)
+    out o is = subst (λ r. CallsLink old sent.0 g.link (λ before after. GoesOut before after (bytes_of g.requests) r)) is sent.1.call
 
-    by : (o : Option Cause) → s.refusal ≡ o → MatchOption o (Calls now new s.which (λ before after. ComesIn before after s.count came)) (λ cause. (new ≡ now) × (came ≡ Err cause))
-        → (mid : List Node) × Calls old mid g.which Does × AreSent mid new gs ss
+    by : (o : Option Cause) → s.refusal ≡ o → MatchOption o (CallsLink now new s.link (λ before after. ComesIn before after s.count came)) (λ cause. (new ≡ now) × (came ≡ Err cause))
+        → (mid : List Node) × CallsLink old mid g.link Does × AreSent mid new gs ss
     by None is calls =
-        let here : Calls now new g.which (λ before after. ComesIn before after (length g.requests) came) =
-        subst (λ n. Calls now new g.which (λ before after. ComesIn before after n came)) sent.1.count (subst (λ k. Calls now new k (λ before after. ComesIn before after s.count came)) sent.1.which calls) in
-        let first = sent_stays (λ before after. ComesIn before after (length g.requests) came) g.which sent.0 now new gs ss apart sent.2 here in (
+        let here : CallsLink now new g.link (λ before after. ComesIn before after (length g.requests) came) =
+        subst (λ n. CallsLink now new g.link (λ before after. ComesIn before after n came)) sent.1.count (subst (λ k. CallsLink now new k (λ before after. ComesIn before after s.count came)) sent.1.link calls) in
+        let first = sent_stays (λ before after. ComesIn before after (length g.requests) came) g.link sent.0 now new gs ss apart sent.2 here in (
           first.0,
-          calls_joined (λ before after. ComesIn before after (length g.requests) came) (λ a b c goes comes. went_and_came (bytes_of g.requests) (length g.requests) came a b c goes comes) old sent.0 first.0 g.which (out None is) first.1,
+          calls_joined (λ before after. ComesIn before after (length g.requests) came) (λ a b c goes comes. went_and_came (bytes_of g.requests) (length g.requests) came a b c goes comes) old sent.0 first.0 g.link (out None is) first.1,
           first.2,
         )
     by (Some cause) is (same, told) = (
       sent.0,
-      subst (λ (r : Result (List Tree) Cause). Calls old sent.0 g.which (λ before after. Called before after (bytes_of g.requests) 0 (length g.requests) (as_result r))) (sym told)
-          (calls_as (λ a b refused. did_not_go (bytes_of g.requests) (length g.requests) cause a b refused) old sent.0 g.which (out (Some cause) is)),
+      subst (λ (r : Result (List Tree) Cause). CallsLink old sent.0 g.link (λ before after. Called before after (bytes_of g.requests) 0 (length g.requests) (as_result r))) (sym told)
+          (calls_as (λ a b refused. did_not_go (bytes_of g.requests) (length g.requests) cause a b refused) old sent.0 g.link (out (Some cause) is)),
       subst (λ ns. AreSent sent.0 ns gs ss) (sym same) sent.2,
     )
 
 -- ---- one more goes out
 
-pub sent_more : (old mid new : List Node) (gs : List Group) (ss : List Sent) (g : Group) (s : Sent) → AreSent old mid gs ss → IsSent mid new g s → AreSent old new (gs ++ g ∷ []) (ss ++ s ∷ [])
+pub sent_more : (old mid new : List Node) (gs : List NodeRequests) (ss : List Sent) (g : NodeRequests) (s : Sent) → AreSent old mid gs ss → IsSent mid new g s → AreSent old new (gs ++ g ∷ []) (ss ++ s ∷ [])
 sent_more old mid new [] [] g s sent is = (new, subst (λ ns. IsSent ns new g s) sent is, refl)
 sent_more old mid new [] (r ∷ ss) g s sent is = absurd sent
 sent_more old mid new (h ∷ gs) [] g s sent is = absurd sent

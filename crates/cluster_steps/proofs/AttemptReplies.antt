@@ -72,8 +72,8 @@ done_so not_done n e = cc
 done_so may_be_done n e = refl
 
 -- without a redirect it leads nowhere
-pub none_stays : (links : List Address) (left : ℕ) (reply : Option Tree) → reply ≡ None → Stays ≡ next_of links left reply
-none_stays links left reply e = sym (ap (next_of links left) e ∙ next_none links left)
+pub none_stays : (links : List Address) (redirects : ℕ) (reply : Option Tree) → reply ≡ None → Stays ≡ next_of links redirects reply
+none_stays links redirects reply e = sym (ap (next_of links redirects) e ∙ next_none links redirects)
 
 -- ---- the answer
 

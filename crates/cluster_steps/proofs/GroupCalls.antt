@@ -11,11 +11,11 @@ use Rattle.resp_link.specs.Replies.{replies_of}
 use Rattle.cluster_routing.specs.Address.{Address}
 use Rattle.cluster_calls.specs.Links.Request.{Request, bytes_of, skipped}
 use Rattle.cluster_calls.specs.Links.Log.{Exchange, requests, is_unanswered, is_moved}
-use Rattle.cluster_calls.specs.Links.World.{Node, Called, Calls, link_at, is_usable, open_links}
+use Rattle.cluster_calls.specs.Links.World.{Node, Called, CallsLink, link_at, is_usable, open_links}
 use Rattle.cluster_calls.specs.Links.Exchanges.{Exchanges, not_begun, made}
 use Rattle.cluster_calls.specs.Links.Faults.{LinkFault, refusal_by_fault}
 use Rattle.cluster_calls.specs.Links.Events.{Event, Ending, answers, fails, EndsBy, reply_count, AllTo, LinkCalled, AgreesAt, is_memory_ending, is_answer_ending, exchanges_at, pair_up}
-use Rattle.cluster_steps.specs.Groups.{Group}
+use Rattle.cluster_steps.specs.Groups.{NodeRequests}
 use Rattle.cluster_steps.specs.GroupRuns.{is_moved_tree, group_node, IsGroupPlaced, GroupByGroup}
 use Rattle.cluster_calls.specs.Calls.Refusals.{pipeline_refusal}
 use Rattle.cluster_calls.proofs.LinkLaws.Pairing.{some_lost}
@@ -131,46 +131,46 @@ group_extends qs qss es is = by (list_any is_unanswered es) refl
 
 -- ---- the link call
 
-abbrev pub group_event : Group → List Tree → Result (List Tree) Refusal → Event
+abbrev pub group_event : NodeRequests → List Tree → Result (List Tree) Refusal → Event
 group_event g taken result = record { node = group_node g.requests; requests = g.requests; taken = taken; ending = ending_of result }
 
 -- an answer has one reply for each request, and a refusal is the one that its ending tells
-abbrev pub IsTold : Group → List Tree → Result (List Tree) Refusal → Type 0
+abbrev pub IsTold : NodeRequests → List Tree → Result (List Tree) Refusal → Type 0
 IsTold g taken (Ok trees) = (replies_of taken ≡ trees) × (length trees ≡ length g.requests)
 IsTold g taken (Err refusal) = ending_refusal (ending_of (Err refusal)) ≡ Some refusal
 
-pub record GroupMade (old new : List Node) (g : Group) (result : Result (List Tree) Refusal) : Type 0 where
+pub record GroupMade (old new : List Node) (g : NodeRequests) (result : Result (List Tree) Refusal) : Type 0 where
   pub taken : List Tree
   pub called : LinkCalled old new (group_event g taken result)
   pub told : IsTold g taken result
 
-told_by : (old new before after : Seen) (g : Group) (taken : List Tree) (result : Result (List Tree) Refusal) → AreDirect g.requests → old.usable ≡ true → Called old new (bytes_of g.requests) 0 (length g.requests) result
+told_by : (old new before after : Seen) (g : NodeRequests) (taken : List Tree) (result : Result (List Tree) Refusal) → AreDirect g.requests → old.usable ≡ true → Called old new (bytes_of g.requests) 0 (length g.requests) result
     → EndsBy before after g.requests taken (ending_of result) → IsTold g taken result
 told_by old new before after g taken (Ok trees) d open' called ends =
     let count : length trees ≡ length g.requests = called.takes.taken_count in
     (whole_answered before after g.requests taken trees ends (count ∙ sym (direct_count g.requests d)), count)
 told_by old new before after g taken (Err e) d open' called ends = ended_refusal old new g.requests 0 (length g.requests) e (direct_whole g.requests d) open' called
 
-pub group_made : (old new : List Node) (g : Group) (result : Result (List Tree) Refusal) → IsGroupPlaced old g
-    → Calls old new g.which (λ before after. Called before after (bytes_of g.requests) 0 (length g.requests) result) → GroupMade old new g result
+pub group_made : (old new : List Node) (g : NodeRequests) (result : Result (List Tree) Refusal) → IsGroupPlaced old g
+    → CallsLink old new g.link (λ before after. Called before after (bytes_of g.requests) 0 (length g.requests) result) → GroupMade old new g result
 group_made old new g result p calls =
     let node = group_node g.requests in
-    let s = link_called_at old new node g.which g.requests 0 (length g.requests) result p.place p.some p.to_node (direct_whole g.requests p.direct) calls in
-    let f = found old node g.which p.place.place in
+    let s = link_called_at old new node g.link g.requests 0 (length g.requests) result p.place p.some p.to_node (direct_whole g.requests p.direct) calls in
+    let f = found old node g.link p.place.place in
     let same : f.node ≡ calls.before = let a = f.at in let b = calls.found in cc in
     let there : link_at old node ≡ Some calls.before.link = f.link ∙ ap (λ (n : Node). Some n.link) same in
     let open' : calls.before.link.usable ≡ true = sym (ap is_usable there) ∙ sym (linked old node) ∙ p.place.linked in
     record { taken = s.0; called = s.1; told = told_by calls.before.link calls.after.link s.1.before s.1.after g s.0 result p.direct open' calls.call s.1.ends }
 
 -- nothing was done for want of memory, or the requests stand in the log and their link call was made
-pub exchanged_group : (old new : List Node) (before after : List Request) (g : Group) (result : Result (List Tree) Refusal) → IsGroupPlaced old g → Exchanges old new g.which before after g.requests 0 (length g.requests) result
+pub exchanged_group : (old new : List Node) (before after : List Request) (g : NodeRequests) (result : Result (List Tree) Refusal) → IsGroupPlaced old g → Exchanges old new g.link before after g.requests 0 (length g.requests) result
     → ((new ≡ old) × (after ≡ before) × (result ≡ Err (by_cause Memory))) ⊎ ((after ≡ before ++ g.requests) × GroupMade old new g result)
 exchanged_group old new before after g result p (not_begun same log is) = inl (same, log, is)
 exchanged_group old new before after g result p (made log calls) = inr (log, group_made old new g result p calls)
 
 -- ---- what follows from it
 
-module _ (old new : List Node) (g : Group) (trees : List Tree) (p : IsGroupPlaced old g) (m : GroupMade old new g (Ok trees)) where
+module _ (old new : List Node) (g : NodeRequests) (trees : List Tree) (p : IsGroupPlaced old g) (m : GroupMade old new g (Ok trees)) where
   abbrev here : ℕ → List Exchange
   here place = exchanges_at place (group_event g m.taken (Ok trees))
 
@@ -200,7 +200,7 @@ not_answered : (e : Ending) (refusal : Refusal) → ending_refusal e ≡ Some re
 not_answered (answers replies) refusal is = cc
 not_answered (fails fault) refusal is = refl
 
-module _ (old new : List Node) (g : Group) (e : Refusal) (p : IsGroupPlaced old g) (m : GroupMade old new g (Err e)) where
+module _ (old new : List Node) (g : NodeRequests) (e : Refusal) (p : IsGroupPlaced old g) (m : GroupMade old new g (Err e)) where
   abbrev failed : Event
   failed = group_event g m.taken (Err e)
 

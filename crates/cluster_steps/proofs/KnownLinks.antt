@@ -14,7 +14,7 @@ use Rattle.cluster_routing.specs.Address.{Address, same_address}
 use Rattle.cluster_routing.specs.Lists.{among}
 use Rattle.cluster_routing.specs.Seen.{address, addresses}
 use Rattle.cluster_routing.specs.declared.address.NodeAddress.{NodeAddress}
-use Rattle.cluster_calls.specs.Links.World.{Calls, Node, addresses_of, has_repeats, nodes, place_at}
+use Rattle.cluster_calls.specs.Links.World.{CallsLink, Node, addresses_of, has_repeats, nodes, place_at}
 use Rattle.cluster_calls.proofs.LinkLaws.Addresses.{same_true, same_refl}
 use Rattle.cluster_steps.specs.LinkTable.{knows_all, knows_links}
 use Rattle.cluster_steps.proofs.DistinctKeys.{any_of}
@@ -33,31 +33,31 @@ of_nodes seen links = map_twice (λ pair. record { address = address pair.0; lin
 
 -- ---- a link call leaves the addresses
 
-addresses_set : (ns : List Node) (which : ℕ) (before after : Node) → slice_get ns which ≡ Some before → after.address ≡ before.address → addresses_of (slice_set ns which after) ≡ addresses_of ns
-addresses_set [] which before after found same = refl
+addresses_set : (ns : List Node) (link : ℕ) (before after : Node) → slice_get ns link ≡ Some before → after.address ≡ before.address → addresses_of (slice_set ns link after) ≡ addresses_of ns
+addresses_set [] link before after found same = refl
 addresses_set (n ∷ ns) zero before after found same =
     let is : n ≡ before = cc in
     ap (λ a. a ∷ addresses_of ns) (same ∙ ap (λ (m : Node). m.address) (sym is))
-addresses_set (n ∷ ns) (suc which) before after found same = ap (λ as'. n.address ∷ as') (addresses_set ns which before after found same)
+addresses_set (n ∷ ns) (suc link) before after found same = ap (λ as'. n.address ∷ as') (addresses_set ns link before after found same)
 
-addresses_stay : {old new : List Node} {which : ℕ} {Call : Seen → Seen → Type 0} → Calls old new which Call → addresses_of new ≡ addresses_of old
-addresses_stay {old = old} {which = which} c = ap addresses_of c.others ∙ addresses_set old which c.before c.after c.found c.address
+addresses_stay : {old new : List Node} {link : ℕ} {Call : Seen → Seen → Type 0} → CallsLink old new link Call → addresses_of new ≡ addresses_of old
+addresses_stay {old = old} {link = link} c = ap addresses_of c.others ∙ addresses_set old link c.before c.after c.found c.address
 
-as_many : {old new : List Node} {which : ℕ} {Call : Seen → Seen → Type 0} → Calls old new which Call → length new ≡ length old
+as_many : {old new : List Node} {link : ℕ} {Call : Seen → Seen → Type 0} → CallsLink old new link Call → length new ≡ length old
 as_many c = sym (length-map _ _) ∙ ap length (addresses_stay c) ∙ length-map _ _
 
 -- the list with what a call made of its links, which were lent for it
-links_stay : {L : Type 0} (seen : L → Seen) (list : Vec (NodeAddress × L) Global) (old new : List (NodeAddress × L)) {which : ℕ} {Call : Seen → Seen → Type 0} → old ≡ list.items → Calls (nodes seen old) (nodes seen new) which Call
+links_stay : {L : Type 0} (seen : L → Seen) (list : Vec (NodeAddress × L) Global) (old new : List (NodeAddress × L)) {link : ℕ} {Call : Seen → Seen → Type 0} → old ≡ list.items → CallsLink (nodes seen old) (nodes seen new) link Call
     → of_links (with_items list new).items ≡ of_links list.items
 links_stay seen list old new lent c =
     ap of_links (with_items_is list new (sym (length-map new _) ∙ as_many c ∙ length-map old _ ∙ ap length lent ∙ sym list.ok.0)) ∙ sym (of_nodes seen new) ∙ addresses_stay c ∙ of_nodes seen old ∙ ap of_links lent
 
-pub distinct_stay : {L : Type 0} (seen : L → Seen) (list : Vec (NodeAddress × L) Global) (old new : List (NodeAddress × L)) {which : ℕ} {Call : Seen → Seen → Type 0} → are_repeated list.items ≡ false → old ≡ list.items
-    → Calls (nodes seen old) (nodes seen new) which Call → are_repeated (with_items list new).items ≡ false
+pub distinct_stay : {L : Type 0} (seen : L → Seen) (list : Vec (NodeAddress × L) Global) (old new : List (NodeAddress × L)) {link : ℕ} {Call : Seen → Seen → Type 0} → are_repeated list.items ≡ false → old ≡ list.items
+    → CallsLink (nodes seen old) (nodes seen new) link Call → are_repeated (with_items list new).items ≡ false
 distinct_stay seen list old new distinct lent c = ap has_repeats (links_stay seen list old new lent c) ∙ distinct
 
-pub known_stay : {L S : Type 0} (seen : L → Seen) (places : Option (IndexSet NodeAddress S)) (list : Vec (NodeAddress × L) Global) (old new : List (NodeAddress × L)) {which : ℕ} {Call : Seen → Seen → Type 0} → knows_links places list.items ≡ true → old ≡ list.items
-    → Calls (nodes seen old) (nodes seen new) which Call → knows_links places (with_items list new).items ≡ true
+pub known_stay : {L S : Type 0} (seen : L → Seen) (places : Option (IndexSet NodeAddress S)) (list : Vec (NodeAddress × L) Global) (old new : List (NodeAddress × L)) {link : ℕ} {Call : Seen → Seen → Type 0} → knows_links places list.items ≡ true → old ≡ list.items
+    → CallsLink (nodes seen old) (nodes seen new) link Call → knows_links places (with_items list new).items ≡ true
 known_stay seen places list old new known lent c = ap (knows_all places) (links_stay seen list old new lent c) ∙ known
 
 -- ---- a node that the table lacks has no place

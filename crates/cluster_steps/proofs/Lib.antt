@@ -9,7 +9,7 @@ pub mod RequestCounts
 pub mod Dispatching
 pub mod Dispatched
 pub mod SplitCommands
-mod Directions
+pub mod Directions
 pub mod PartTargets
 pub mod PartReplies
 pub mod Joining

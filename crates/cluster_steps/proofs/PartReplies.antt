@@ -34,7 +34,8 @@ use Rattle.cluster_calls.specs.Links.Orders.{command_call, routes_in_order}
 use Rattle.cluster_calls.specs.Links.PartRuns.{replies_with_slots}
 use Rattle.cluster_steps.proofs.Dispatched.{command_task}
 use Rattle.cluster_calls.proofs.LinkLaws.Ordering.{made_in_order, one_in_order}
-use Rattle.cluster_steps.proofs.SplitCommands.{unsplit, cut_bytes}
+use Rattle.cluster_routing.proofs.DirectionViews.{unsplit}
+use Rattle.cluster_steps.proofs.SplitCommands.{cut_bytes}
 use Rattle.cluster_calls.proofs.LogLaws.Planned.{Planned, planned}
 use Rattle.cluster_calls.proofs.LogLaws.Plans.{IsFor, dispatches_for, firsts_among, not_split, part_slots_are, role, split_parts_are, whole_part_is}
 use Rattle.cluster_calls.proofs.LogLaws.SentOnce.{pair_length}

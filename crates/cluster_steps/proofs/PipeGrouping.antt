@@ -10,7 +10,7 @@ use Rattle.cluster_routing.specs.Lists.{among, firsts, IsDistinct}
 use Rattle.cluster_steps.specs.declared.dispatch.Dispatch.{Dispatch as CodeDispatch}
 use Rattle.cluster_steps.specs.declared.grouped.Gathered.{Gathered}
 use Rattle.cluster_calls.specs.Links.Request.{Request}
-use Rattle.cluster_steps.specs.Groups.{Group, AreNumbered, Puts, empty_group, group_at, gathered_of, place_in, places_in_use, request_in, with_place, with_request}
+use Rattle.cluster_steps.specs.Groups.{NodeRequests, AreNumbered, Puts, empty_group, group_at, gathered_of, place_in, places_in_use, request_in, with_place, with_request}
 use Rattle.cluster_calls.proofs.ServerLaws.Distinct.{firsts_distinct}
 use Rattle.cluster_steps.proofs.PipeGroups.{all-firsts}
 use Rattle.cluster_steps.proofs.PipeOrder.{eq_swap, none_kept}
@@ -122,58 +122,58 @@ pub places_of_groups : (ds : List CodeDispatch) (ks : List ℕ) → places_in_us
 places_of_groups ds [] = refl
 places_of_groups ds (k ∷ ks) = ap (λ r. k ∷ r) (places_of_groups ds ks)
 
-place_more : (ds : List CodeDispatch) (which : ℕ) → with_place (map (group_at ds) (firsts nat_eq (map place_in ds))) which ≡ map (group_at ds) (firsts nat_eq (map place_in ds ++ which ∷ []))
-place_more ds which =
-    ap (λ b. cond b (map (group_at ds) used) (map (group_at ds) used ++ empty_group which ∷ [])) (ap (among nat_eq which) (places_of_groups ds used) ∙ among_firsts which (map place_in ds))
-    ∙ by (among nat_eq which (map place_in ds)) refl ∙ ap (map (group_at ds)) (sym (firsts_last (map place_in ds) which))
+place_more : (ds : List CodeDispatch) (link : ℕ) → with_place (map (group_at ds) (firsts nat_eq (map place_in ds))) link ≡ map (group_at ds) (firsts nat_eq (map place_in ds ++ link ∷ []))
+place_more ds link =
+    ap (λ b. cond b (map (group_at ds) used) (map (group_at ds) used ++ empty_group link ∷ [])) (ap (among nat_eq link) (places_of_groups ds used) ∙ among_firsts link (map place_in ds))
+    ∙ by (among nat_eq link (map place_in ds)) refl ∙ ap (map (group_at ds)) (sym (firsts_last (map place_in ds) link))
   where
     used : List ℕ
     used = firsts nat_eq (map place_in ds)
 
-    by : (b : Bool) → among nat_eq which (map place_in ds) ≡ b
-        → cond b (map (group_at ds) (firsts nat_eq (map place_in ds))) (map (group_at ds) (firsts nat_eq (map place_in ds)) ++ empty_group which ∷ [])
-        ≡ map (group_at ds) (cond b (firsts nat_eq (map place_in ds)) (firsts nat_eq (map place_in ds) ++ which ∷ []))
+    by : (b : Bool) → among nat_eq link (map place_in ds) ≡ b
+        → cond b (map (group_at ds) (firsts nat_eq (map place_in ds))) (map (group_at ds) (firsts nat_eq (map place_in ds)) ++ empty_group link ∷ [])
+        ≡ map (group_at ds) (cond b (firsts nat_eq (map place_in ds)) (firsts nat_eq (map place_in ds) ++ link ∷ []))
     by true e = refl
     by false e =
-        ap (λ (found : List CodeDispatch). map (group_at ds) (firsts nat_eq (map place_in ds)) ++ record { which = which; requests = map request_in found } ∷ []) (sym (none_kept place_in which ds e))
-        ∙ sym (map-append (group_at ds) (firsts nat_eq (map place_in ds)) (which ∷ []))
+        ap (λ (found : List CodeDispatch). map (group_at ds) (firsts nat_eq (map place_in ds)) ++ record { link = link; requests = map request_in found } ∷ []) (sym (none_kept place_in link ds e))
+        ∙ sym (map-append (group_at ds) (firsts nat_eq (map place_in ds)) (link ∷ []))
 
 -- a place that has no number is new, and one that has one is there
-pub place_new : (told : ℕ → Option ℕ) (groups : List Group) (which : ℕ) → AreNumbered told groups → told which ≡ None → groups ++ empty_group which ∷ [] ≡ with_place groups which
-place_new told groups which numbered none =
-    let new : among nat_eq which (places_in_use groups) ≡ false = subst (λ o. MatchOption o (among nat_eq which (places_in_use groups) ≡ false) (λ n. slice_get (places_in_use groups) n ≡ Some which)) none (numbered which) in
-    ap (λ b. cond b groups (groups ++ empty_group which ∷ [])) (sym new)
+pub place_new : (told : ℕ → Option ℕ) (groups : List NodeRequests) (link : ℕ) → AreNumbered told groups → told link ≡ None → groups ++ empty_group link ∷ [] ≡ with_place groups link
+place_new told groups link numbered none =
+    let new : among nat_eq link (places_in_use groups) ≡ false = subst (λ o. MatchOption o (among nat_eq link (places_in_use groups) ≡ false) (λ n. slice_get (places_in_use groups) n ≡ Some link)) none (numbered link) in
+    ap (λ b. cond b groups (groups ++ empty_group link ∷ [])) (sym new)
 
-pub place_numbered : (told : ℕ → Option ℕ) (groups : List Group) (which number : ℕ) → AreNumbered told groups → told which ≡ Some number → slice_get (places_in_use groups) number ≡ Some which
-place_numbered told groups which number numbered some =
-    subst (λ o. MatchOption o (among nat_eq which (places_in_use groups) ≡ false) (λ n. slice_get (places_in_use groups) n ≡ Some which)) some (numbered which)
+pub place_numbered : (told : ℕ → Option ℕ) (groups : List NodeRequests) (link number : ℕ) → AreNumbered told groups → told link ≡ Some number → slice_get (places_in_use groups) number ≡ Some link
+place_numbered told groups link number numbered some =
+    subst (λ o. MatchOption o (among nat_eq link (places_in_use groups) ≡ false) (λ n. slice_get (places_in_use groups) n ≡ Some link)) some (numbered link)
 
-pub place_there : (told : ℕ → Option ℕ) (groups : List Group) (which number : ℕ) → AreNumbered told groups → told which ≡ Some number → groups ≡ with_place groups which
-place_there told groups which number numbered some =
-    ap (λ b. cond b groups (groups ++ empty_group which ∷ [])) (sym (among_at which (places_in_use groups) number (place_numbered told groups which number numbered some)))
+pub place_there : (told : ℕ → Option ℕ) (groups : List NodeRequests) (link number : ℕ) → AreNumbered told groups → told link ≡ Some number → groups ≡ with_place groups link
+place_there told groups link number numbered some =
+    ap (λ b. cond b groups (groups ++ empty_group link ∷ [])) (sym (among_at link (places_in_use groups) number (place_numbered told groups link number numbered some)))
 
-pub place_last : (groups : List Group) (which : ℕ) → slice_get (places_in_use (groups ++ empty_group which ∷ [])) (length groups) ≡ Some which
-place_last groups which =
-    slice_get-map (λ (g : Group). g.which) (groups ++ empty_group which ∷ []) (length groups) ∙ ap (option_map (λ (g : Group). g.which)) (at_end groups (empty_group which))
+pub place_last : (groups : List NodeRequests) (link : ℕ) → slice_get (places_in_use (groups ++ empty_group link ∷ [])) (length groups) ≡ Some link
+place_last groups link =
+    slice_get-map (λ (g : NodeRequests). g.link) (groups ++ empty_group link ∷ []) (length groups) ∙ ap (option_map (λ (g : NodeRequests). g.link)) (at_end groups (empty_group link))
 
-pub numbered_more : (told told' : ℕ → Option ℕ) (groups : List Group) (which : ℕ) → AreNumbered told groups → ((k : ℕ) → told' k ≡ cond (k == which) (Some (length groups)) (told k))
-    → AreNumbered told' (groups ++ empty_group which ∷ [])
-numbered_more told told' groups which numbered given = λ k. subst (λ o. Told k o) (sym (given k)) (by k (k == which) refl)
+pub numbered_more : (told told' : ℕ → Option ℕ) (groups : List NodeRequests) (link : ℕ) → AreNumbered told groups → ((k : ℕ) → told' k ≡ cond (k == link) (Some (length groups)) (told k))
+    → AreNumbered told' (groups ++ empty_group link ∷ [])
+numbered_more told told' groups link numbered given = λ k. subst (λ o. Told k o) (sym (given k)) (by k (k == link) refl)
   where
     Told : ℕ → Option ℕ → Type 0
-    Told k o = MatchOption o (among nat_eq k (places_in_use (groups ++ empty_group which ∷ [])) ≡ false) (λ n. slice_get (places_in_use (groups ++ empty_group which ∷ [])) n ≡ Some k)
+    Told k o = MatchOption o (among nat_eq k (places_in_use (groups ++ empty_group link ∷ [])) ≡ false) (λ n. slice_get (places_in_use (groups ++ empty_group link ∷ [])) n ≡ Some k)
 
-    places : places_in_use (groups ++ empty_group which ∷ []) ≡ places_in_use groups ++ which ∷ []
-    places = map-append (λ (g : Group). g.which) groups (empty_group which ∷ [])
+    places : places_in_use (groups ++ empty_group link ∷ []) ≡ places_in_use groups ++ link ∷ []
+    places = map-append (λ (g : NodeRequests). g.link) groups (empty_group link ∷ [])
 
-    before : (k : ℕ) → nat_eq k which ≡ false → (o : Option ℕ) → told k ≡ o → MatchOption o (among nat_eq k (places_in_use groups) ≡ false) (λ n. slice_get (places_in_use groups) n ≡ Some k)
-        → MatchOption o (among nat_eq k (places_in_use (groups ++ empty_group which ∷ [])) ≡ false) (λ n. slice_get (places_in_use (groups ++ empty_group which ∷ [])) n ≡ Some k)
-    before k other None e h = ap (among nat_eq k) places ∙ among_last k which (places_in_use groups) other h
-    before k other (Some n) e h = ap (λ ks. slice_get ks n) places ∙ at_front (places_in_use groups) (which ∷ []) n k h
+    before : (k : ℕ) → nat_eq k link ≡ false → (o : Option ℕ) → told k ≡ o → MatchOption o (among nat_eq k (places_in_use groups) ≡ false) (λ n. slice_get (places_in_use groups) n ≡ Some k)
+        → MatchOption o (among nat_eq k (places_in_use (groups ++ empty_group link ∷ [])) ≡ false) (λ n. slice_get (places_in_use (groups ++ empty_group link ∷ [])) n ≡ Some k)
+    before k other None e h = ap (among nat_eq k) places ∙ among_last k link (places_in_use groups) other h
+    before k other (Some n) e h = ap (λ ks. slice_get ks n) places ∙ at_front (places_in_use groups) (link ∷ []) n k h
 
-    by : (k : ℕ) (b : Bool) → (k == which) ≡ b
-        → MatchOption (cond b (Some (length groups)) (told k)) (among nat_eq k (places_in_use (groups ++ empty_group which ∷ [])) ≡ false) (λ n. slice_get (places_in_use (groups ++ empty_group which ∷ [])) n ≡ Some k)
-    by k true e = place_last groups which ∙ ap (λ j. Some j) (sym (eqb-true k which e))
+    by : (k : ℕ) (b : Bool) → (k == link) ≡ b
+        → MatchOption (cond b (Some (length groups)) (told k)) (among nat_eq k (places_in_use (groups ++ empty_group link ∷ [])) ≡ false) (λ n. slice_get (places_in_use (groups ++ empty_group link ∷ [])) n ≡ Some k)
+    by k true e = place_last groups link ∙ ap (λ j. Some j) (sym (eqb-true k link e))
     by k false e = before k e (told k) refl (numbered k)
 
 -- ---- one more request
@@ -188,19 +188,19 @@ one_more ds d k = by (k == place_in d) refl
 
     by : (b : Bool) → (k == place_in d) ≡ b → cond b (with_request (group_at ds (place_in d)) (request_in d)) (group_at ds k) ≡ group_at (ds ++ d ∷ []) k
     by true e =
-        ap (λ n. with_request (group_at ds n) (request_in d)) (sym (eqb-true k (place_in d) e)) ∙ ap (λ qs. record { which = k; requests = qs }) (sym (whole true e))
-    by false e = ap (λ qs. record { which = k; requests = qs }) (sym (whole false e ∙ append-nil _))
+        ap (λ n. with_request (group_at ds n) (request_in d)) (sym (eqb-true k (place_in d) e)) ∙ ap (λ qs. record { link = k; requests = qs }) (sym (whole true e))
+    by false e = ap (λ qs. record { link = k; requests = qs }) (sym (whole false e ∙ append-nil _))
 
 -- what the loop over dispatches keeps of the groups and of the numbers of their requests
-pub record Grouping (ds : List CodeDispatch) (groups : List Group) (numbers : List ℕ) : Type 0 where
+pub record Grouping (ds : List CodeDispatch) (groups : List NodeRequests) (numbers : List ℕ) : Type 0 where
   pub are : groups ≡ map (group_at ds) (firsts nat_eq (map place_in ds))
   pub numbered : map (slice_get (firsts nat_eq (map place_in ds))) numbers ≡ map (λ d. Some (place_in d)) ds
 
-pub grouping_start : (groups : List Group) (numbers : List ℕ) → groups ≡ [] → numbers ≡ [] → Grouping [] groups numbers
+pub grouping_start : (groups : List NodeRequests) (numbers : List ℕ) → groups ≡ [] → numbers ≡ [] → Grouping [] groups numbers
 grouping_start groups numbers e f = record { are = e; numbered = ap (map (slice_get [])) f }
 
 -- a request to a place leads on from what is kept so far: first the place has a group, and then the group has the request
-pub grouping_more : (ds : List CodeDispatch) (d : CodeDispatch) (groups placed put : List Group) (numbers : List ℕ) (number : ℕ) → Grouping ds groups numbers → placed ≡ with_place groups (place_in d)
+pub grouping_more : (ds : List CodeDispatch) (d : CodeDispatch) (groups placed put : List NodeRequests) (numbers : List ℕ) (number : ℕ) → Grouping ds groups numbers → placed ≡ with_place groups (place_in d)
     → slice_get (places_in_use placed) number ≡ Some (place_in d) → Puts placed put number (request_in d) → Grouping (ds ++ d ∷ []) put (numbers ++ number ∷ [])
 grouping_more ds d groups placed put numbers number g made at puts = record {
   are = puts (group_at ds (place_in d)) found ∙ ap (λ gs. slice_set gs number more) are
@@ -214,7 +214,7 @@ grouping_more ds d groups placed put numbers number g made at puts = record {
     used : List ℕ
     used = firsts nat_eq (map place_in ds ++ place_in d ∷ [])
 
-    more : Group
+    more : NodeRequests
     more = with_request (group_at ds (place_in d)) (request_in d)
 
     together : firsts nat_eq (map place_in ds ++ place_in d ∷ []) ≡ firsts nat_eq (map place_in (ds ++ d ∷ []))
@@ -236,12 +236,12 @@ grouping_more ds d groups placed put numbers number g made at puts = record {
 
 -- ---- one group
 
-pub put_is : (items : List Gathered) (which : ℕ) (old : Gathered) (group : Group) (requests : List Request) (q : Request) → slice_get items which ≡ Some old → slice_get (map gathered_of items) which ≡ Some group → requests ≡ old.requests.items ++ q ∷ []
-    → record { which = old.which; requests = requests } ≡ with_request group q
-put_is items which old group requests q at found is =
-    let there : slice_get (map gathered_of items) which ≡ Some (gathered_of old) = slice_get-map gathered_of items which ∙ ap (option_map gathered_of) at in
+pub put_is : (items : List Gathered) (number : ℕ) (old : Gathered) (group : NodeRequests) (requests : List Request) (q : Request) → slice_get items number ≡ Some old → slice_get (map gathered_of items) number ≡ Some group → requests ≡ old.requests.items ++ q ∷ []
+    → record { link = old.link; requests = requests } ≡ with_request group q
+put_is items number old group requests q at found is =
+    let there : slice_get (map gathered_of items) number ≡ Some (gathered_of old) = slice_get-map gathered_of items number ∙ ap (option_map gathered_of) at in
     let same : gathered_of old ≡ group = cc in
-    ap (λ qs. record { which = old.which; requests = qs }) is ∙ ap (λ g. with_request g q) same
+    ap (λ qs. record { link = old.link; requests = qs }) is ∙ ap (λ g. with_request g q) same
 
 -- a request to a group leaves the places, so their numbers too
 set_same : {A B : Type 0} (f : A → B) (xs : List A) (i : ℕ) (x y : A) → slice_get xs i ≡ Some x → f y ≡ f x → map f (slice_set xs i y) ≡ map f xs
@@ -249,13 +249,13 @@ set_same f [] i x y at e = refl
 set_same f (z ∷ zs) zero x y at e = let same : z ≡ x = cc in ap (λ b. b ∷ map f zs) (e ∙ ap f (sym same))
 set_same f (z ∷ zs) (suc i) x y at e = ap (λ r. f z ∷ r) (set_same f zs i x y at e)
 
-pub still_numbered : (told : ℕ → Option ℕ) (old new : List Group) (number which : ℕ) (q : Request) → slice_get (places_in_use old) number ≡ Some which → Puts old new number q → AreNumbered told old → AreNumbered told new
-still_numbered told old new number which q at puts numbered = by (slice_get old number) refl
+pub still_numbered : (told : ℕ → Option ℕ) (old new : List NodeRequests) (number link : ℕ) (q : Request) → slice_get (places_in_use old) number ≡ Some link → Puts old new number q → AreNumbered told old → AreNumbered told new
+still_numbered told old new number link q at puts numbered = by (slice_get old number) refl
   where
-    by : (o : Option Group) → slice_get old number ≡ o → AreNumbered told new
-    by None e = let none : None ≡ Some which = sym (slice_get-map (λ (g : Group). g.which) old number ∙ ap (option_map (λ (g : Group). g.which)) e) ∙ at in cc
+    by : (o : Option NodeRequests) → slice_get old number ≡ o → AreNumbered told new
+    by None e = let none : None ≡ Some link = sym (slice_get-map (λ (g : NodeRequests). g.link) old number ∙ ap (option_map (λ (g : NodeRequests). g.link)) e) ∙ at in cc
     by (Some group) e =
-        let same : places_in_use new ≡ places_in_use old = ap places_in_use (puts group e) ∙ set_same (λ (g : Group). g.which) old number group (with_request group q) e refl in
+        let same : places_in_use new ≡ places_in_use old = ap places_in_use (puts group e) ∙ set_same (λ (g : NodeRequests). g.link) old number group (with_request group q) e refl in
         λ k. subst (λ ks. MatchOption (told k) (among nat_eq k ks ≡ false) (λ n. slice_get ks n ≡ Some k)) (sym same) (numbered k)
 
 -- ---- places within the links

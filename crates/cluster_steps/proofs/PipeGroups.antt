@@ -14,7 +14,7 @@ use Rattle.cluster_calls.specs.Links.World.{Node, addresses_of, place_at}
 use Rattle.cluster_calls.specs.Links.Events.{AllTo}
 use Rattle.cluster_calls.specs.Links.Places.{IsOpenAt}
 use Rattle.cluster_steps.specs.Dispatches.{IsPlaced, dispatch_of}
-use Rattle.cluster_steps.specs.Groups.{Group, group_at, place_in, request_in}
+use Rattle.cluster_steps.specs.Groups.{NodeRequests, group_at, place_in, request_in}
 use Rattle.cluster_steps.specs.GroupRuns.{GroupByGroup, IsGroupPlaced, group_node, group_nodes, request_lists}
 use Rattle.cluster_calls.specs.Calls.Plan.{Dispatch}
 use Rattle.cluster_calls.specs.Calls.Legal.{NodeByNode, direct, node_groups, nodes_in_use}
@@ -135,7 +135,7 @@ by_node (g ∷ gs) xs h = at (length (map direct g)) (length g) (length-map g di
 -- ---- the dispatches of a pipeline, each with the place of its open link
 
 abbrev pub node_of : CodeDispatch → Address
-node_of d = address d.place.node
+node_of d = address d.hop.node
 
 -- the requests to the place of a dispatch
 abbrev pub alike : List CodeDispatch → CodeDispatch → List CodeDispatch
@@ -185,7 +185,7 @@ module _ (ns : List Node) (cds : List CodeDispatch) (placed : AllByRecursion (Is
   each_group (c ∷ es) h =
       ap (λ qs. qs ∷ map (λ c. map direct (filter (λ (d : Dispatch). same_address d.node (node_of c)) (map dispatch_of cds))) es) (one_group c h.0 cds placed) ∙ ap (λ r. map request_in (alike cds c) ∷ r) (each_group es h.1)
 
-  abbrev pub place_groups : List Group
+  abbrev pub place_groups : List NodeRequests
   place_groups = map (group_at cds) (firsts nat_eq (map place_in cds))
 
   groups_first : place_groups ≡ map (λ c. group_at cds (place_in c)) first_ones
@@ -199,7 +199,7 @@ module _ (ns : List Node) (cds : List CodeDispatch) (placed : AllByRecursion (Is
       ap (λ nodes. map (λ (g : List Dispatch). map direct g) (map to_node nodes)) (sym first_nodes)
       ∙ map_twice to_node (λ (g : List Dispatch). map direct g) (map node_of first_ones) ∙ map_twice node_of (λ node. map direct (to_node node)) first_ones
       ∙ each_group first_ones first_placed
-      ∙ sym (ap request_lists groups_first ∙ map_twice (λ c. group_at cds (place_in c)) (λ (g : Group). g.requests) first_ones)
+      ∙ sym (ap request_lists groups_first ∙ map_twice (λ c. group_at cds (place_in c)) (λ (g : NodeRequests). g.requests) first_ones)
 
   -- ---- each group goes to its one node
 
@@ -258,5 +258,5 @@ module _ (ns : List Node) (cds : List CodeDispatch) (placed : AllByRecursion (Is
   pub groups_distinct : IsDistinct same_address (group_nodes place_groups)
   groups_distinct =
       subst (IsDistinct same_address)
-      (sym (ap group_nodes groups_first ∙ map_twice (λ c. group_at cds (place_in c)) (λ (g : Group). group_node g.requests) first_ones ∙ nodes_of_groups first_ones first_placed some_first ∙ first_nodes))
+      (sym (ap group_nodes groups_first ∙ map_twice (λ c. group_at cds (place_in c)) (λ (g : NodeRequests). group_node g.requests) first_ones ∙ nodes_of_groups first_ones first_placed some_first ∙ first_nodes))
       (firsts_distinct same_address (map (λ (d : Dispatch). d.node) (map dispatch_of cds)))

@@ -91,7 +91,7 @@ queued_view : {V : Type 0} (view : V → Tree) (queues : ℕ → List V) (trees 
     → (k : ℕ) → map view (queued queues (map items_at answers) k) ≡ queued trees (map (answered_at view) answers) k
 queued_view view queues trees [] h k = h k
 queued_view {V} view queues trees (a ∷ answers) h k =
-    queued_view view (λ n. cond (n == a.which) a.items.items (queues n)) (λ n. cond (n == a.which) (map view a.items.items) (trees n)) answers (λ n. by n (n == a.which) (h n)) k
+    queued_view view (λ n. cond (n == a.link) a.items.items (queues n)) (λ n. cond (n == a.link) (map view a.items.items) (trees n)) answers (λ n. by n (n == a.link) (h n)) k
   where
     by : (n : ℕ) (b : Bool) → map view (queues n) ≡ trees n → map view (cond b a.items.items (queues n)) ≡ cond b (map view a.items.items) (trees n)
     by n true e = refl

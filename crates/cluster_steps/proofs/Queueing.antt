@@ -5,6 +5,7 @@ use Rattle.std.proofs.lemmas.Bool.{false≢true}
 use Rattle.std.proofs.lemmas.List.{nil_from_length}
 use Rattle.cluster_routing.specs.Lists.{draw, front, rest, without_front_of}
 use Rattle.cluster_steps.specs.Queues.{list_or_none, queue_in, queued}
+use Rattle.cluster_calls.proofs.Lists.{set_other}
 use Rattle.cluster_calls.proofs.ServerLaws.Draw.{drawn_same}
 
 -- one more empty queue
@@ -19,20 +20,13 @@ set_here [] n a h = absurd (let f : ⊥ = omega (arith, h) in f)
 set_here (x ∷ xs) zero a h = refl
 set_here (x ∷ xs) (suc n) a h = set_here xs n a (omega (arith, h))
 
-set_other : {X : Type 0} (xs : List X) (n m : ℕ) (a : X) → (n ≡ m → ⊥) → slice_get (slice_set xs n a) m ≡ slice_get xs m
-set_other [] n m a ne = refl
-set_other (x ∷ xs) zero zero a ne = absurd (ne refl)
-set_other (x ∷ xs) zero (suc m) a ne = refl
-set_other (x ∷ xs) (suc n) zero a ne = refl
-set_other (x ∷ xs) (suc n) (suc m) a ne = set_other xs n m a (λ e. ne (ap suc e))
-
 -- another queue at one place
-pub queue_set : {T : Type 0} (queues : List (List T)) (which : ℕ) (queue : List T) → which < length queues → (k : ℕ) → queue_in (slice_set queues which queue) k ≡ cond (k == which) queue (queue_in queues k)
-queue_set queues which queue within k = by (k == which) refl
+pub queue_set : {T : Type 0} (queues : List (List T)) (link : ℕ) (queue : List T) → link < length queues → (k : ℕ) → queue_in (slice_set queues link queue) k ≡ cond (k == link) queue (queue_in queues k)
+queue_set queues link queue within k = by (k == link) refl
   where
-    by : (b : Bool) → (k == which) ≡ b → queue_in (slice_set queues which queue) k ≡ cond b queue (queue_in queues k)
-    by true e = ap list_or_none (subst (λ n. slice_get (slice_set queues which queue) n ≡ Some queue) (sym (eqb-true k which e)) (set_here queues which queue within))
-    by false e = ap list_or_none (set_other queues which k queue (λ f. false≢true (sym e ∙ eq-eqb k which (sym f))))
+    by : (b : Bool) → (k == link) ≡ b → queue_in (slice_set queues link queue) k ≡ cond b queue (queue_in queues k)
+    by true e = ap list_or_none (subst (λ n. slice_get (slice_set queues link queue) n ≡ Some queue) (sym (eqb-true k link e)) (set_here queues link queue within))
+    by false e = ap list_or_none (set_other queues link k queue (λ f. false≢true (sym e ∙ eq-eqb k link (sym f))))
 
 -- queues that are alike stay so
 pub queued_same : {T : Type 0} (f g : ℕ → List T) (answers : List (ℕ × List T)) → ((k : ℕ) → f k ≡ g k) → (k : ℕ) → queued f answers k ≡ queued g answers k

@@ -24,18 +24,11 @@ use Rattle.cluster_calls.specs.Calls.Parts.{at_slot, part_to, read_part}
 use Rattle.cluster_calls.specs.Calls.Reads.{key_places, stream_slots, streams_at}
 use Rattle.cluster_calls.specs.Calls.Task.{stream_ids, stream_keys}
 use Rattle.cluster_calls.proofs.ServerLaws.Distinct.{among-firsts, firsts_distinct}
+use Rattle.cluster_calls.proofs.ServerLaws.ReadJoin.{one_on}
 use Rattle.cluster_steps.specs.declared.read_parts.Stream.{Stream as CodeStream}
 use Rattle.cluster_steps.specs.Reads.{found_at, lent_streams, part_at, read_places, stream_of, streams_in}
 
 -- ---- the streams at a part's places
-
-one_on : (slot n : ℕ) (ss : List ℕ) → places_from slot (suc n) ss ≡ map suc (places_from slot n ss)
-one_on slot n [] = refl
-one_on slot n (s ∷ ss) = by (slot == s) (one_on slot (suc n) ss)
-  where
-    by : (b : Bool) → places_from slot (suc (suc n)) ss ≡ map suc (places_from slot (suc n) ss) → cond b (suc n ∷ places_from slot (suc (suc n)) ss) (places_from slot (suc (suc n)) ss) ≡ map suc (cond b (n ∷ places_from slot (suc n) ss) (places_from slot (suc n) ss))
-    by true h = ap (λ q. suc n ∷ q) h
-    by false h = h
 
 behind_first : (s : Stream) (streams : List Stream) (places : List ℕ) → found_at (map suc places) (s ∷ streams) ≡ found_at places streams
 behind_first s streams [] = refl

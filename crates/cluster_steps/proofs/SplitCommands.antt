@@ -15,7 +15,7 @@ use Rattle.cluster_routing.specs.declared.route.SlotAddr.{SlotAddr}
 use Rattle.cluster_routing.proofs.SplitWords.{split_words_are_names}
 use Rattle.cluster_routing.proofs.PartPlaces.{subs_are_at_their_places}
 use Rattle.cluster_calls.specs.Calls.Parts.{Part, at_slot, is_gap, role_by, slot_part, split_parts, parts_of}
-use Rattle.cluster_steps.specs.CodeParts.{part_targets, route_target, routed_part}
+use Rattle.cluster_steps.specs.CodeParts.{part_targets, route_target, routed_at, routed_part}
 
 -- ---- arguments without a gap
 
@@ -23,26 +23,6 @@ pub all_of : (cursor : ℕ) (args : Args) → list_any is_gap args ≡ false →
 all_of cursor [] e = refl
 all_of cursor (Simple bytes ∷ args) e = ap (option_map (λ rest. bytes ∷ rest)) (all_of cursor args e)
 all_of cursor (Cursor ∷ args) e = cc
-
--- ---- a command of another word
-
-pub unsplit : (read_only : List (List ℕ)) (args : Args) → has_split_word args ≡ false → None ≡ parts_by_place args read_only
-unsplit read_only [] e = refl
-unsplit read_only (Cursor ∷ args) e = refl
-unsplit read_only (Simple word ∷ args) e = by (all_bytes args)
-  where
-    at : (rest : List (List ℕ)) (o : Option Splitting) → is_some o ≡ false → None ≡ option_map (split_by_place read_only) (option_and_then (λ (p : Splitting). with_tuples word p (shared_by p.pattern rest) (cut p.pattern rest)) o)
-    at rest None k = refl
-    at rest (Some p) k = cc
-
-    by : (o : Option (List (List ℕ))) → None ≡ option_map (split_by_place read_only) (option_and_then split_of (option_map (λ rest. word ∷ rest) o))
-    by None = refl
-    by (Some rest) = at rest (splitting_of word) e
-
--- ---- the arguments at a route's places
-
-abbrev pub routed_at : Args → Route × List ℕ → Route × List (List ℕ)
-routed_at args p = (p.0, sub_at args p.1)
 
 -- ---- a command that is cut
 

@@ -10,9 +10,9 @@ use Rattle.resp_link.specs.Call.{Seen}
 use Rattle.resp_link.specs.TwoCalls.{ComesToOwe, SendRefused, TakesOwed, ReceiveRefused}
 use Rattle.cluster_routing.specs.Lists.{concat, IsDistinct}
 use Rattle.cluster_calls.specs.Links.Request.{Request, bytes_of}
-use Rattle.cluster_calls.specs.Links.World.{Node, World, Calls}
+use Rattle.cluster_calls.specs.Links.World.{Node, World, CallsLink}
 use Rattle.cluster_steps.specs.GroupRuns.{IsGroupPlaced, request_lists}
-use Rattle.cluster_steps.specs.Groups.{Group}
+use Rattle.cluster_steps.specs.Groups.{NodeRequests}
 use Rattle.cluster_steps.specs.declared.at_once.Sent.{Sent}
 
 -- ---- one node
@@ -28,29 +28,29 @@ ComesIn old new count result = MatchResult result (λ replies. TakesOwed old new
     (λ cause. ReceiveRefused old new count (by_cause cause))
 
 -- a group's requests went out over the link at its place, as it is kept
-pub record IsSent (old new : List Node) (g : Group) (s : Sent) : Type 0 where
-  pub which : s.which ≡ g.which
+pub record IsSent (old new : List Node) (g : NodeRequests) (s : Sent) : Type 0 where
+  pub link : s.link ≡ g.link
   pub count : s.count ≡ length g.requests
-  pub call : Calls old new g.which (λ before after. GoesOut before after (bytes_of g.requests) s.refusal)
+  pub call : CallsLink old new g.link (λ before after. GoesOut before after (bytes_of g.requests) s.refusal)
 
 -- what was taken of a group that went out: nothing where its sending was refused
 abbrev pub IsReceived : List Node → List Node → Sent → Result (List Tree) Cause → Type 0
 IsReceived old new s result = MatchOption s.refusal
-    (Calls old new s.which (λ before after. ComesIn before after s.count result))
+    (CallsLink old new s.link (λ before after. ComesIn before after s.count result))
     (λ cause. (new ≡ old) × (result ≡ Err cause))
 
 -- ---- all nodes
 
 -- the groups went out, one after another
-abbrev pub AreSent : List Node → List Node → List Group → List Sent → Type 0
+abbrev pub AreSent : List Node → List Node → List NodeRequests → List Sent → Type 0
 AreSent old new [] [] = new ≡ old
 AreSent old new (g ∷ gs) (s ∷ ss) = (mid : List Node) × IsSent old mid g s × AreSent mid new gs ss
 AreSent old new _ _ = ⊥
 
 -- all groups went out: the log has their requests, and no reply was taken yet
-pub record AllSent (old new : World) (gs : List Group) (ss : List Sent) : Type 0 where
+pub record AllSent (old new : World) (gs : List NodeRequests) (ss : List Sent) : Type 0 where
   pub placed : AllByRecursion (IsGroupPlaced old.nodes) gs
-  pub apart : IsDistinct nat_eq (map (λ (g : Group). g.which) gs)
+  pub apart : IsDistinct nat_eq (map (λ (g : NodeRequests). g.link) gs)
   pub sent : AreSent old.nodes new.nodes gs ss
   pub log : new.log ≡ old.log ++ concat (request_lists gs)
   pub flag : new.needs_refresh ≡ old.needs_refresh

@@ -39,7 +39,7 @@ is_not_done _ = false
 abbrev pub AttemptTurnsBy : Next → List (Option Tree) → Result Turn Refusal → Type 0
 AttemptTurnsBy next replies (Ok (turns.Answered value)) = (is_going next ≡ false)
     × (unless_lost next (attempt_answer replies) ≡ Ok (view value))
-AttemptTurnsBy next replies (Ok (turns.On place)) = next ≡ Goes (hop_to place)
+AttemptTurnsBy next replies (Ok (turns.On hop)) = next ≡ Goes (hop_to hop)
 AttemptTurnsBy next replies (Err refusal) = (is_going next ≡ false)
     × (unless_lost next (attempt_answer replies) ≡ Err refusal)
 
@@ -47,20 +47,20 @@ AttemptTurnsBy next replies (Err refusal) = (is_going next ≡ false)
 
 -- it has the requests of the commands, and goes over the open link of its node
 pub record IsPlacedAttempt (all : List Node) (commands : List Command) (a : Attempt) : Type 0 where
-  pub place : IsOpenAt all (address a.place.node) a.place.which
-  pub within : a.place.which < length all
-  pub requests : a.requests.items ≡ attempt (hop_to a.place) (args_of commands)
+  pub place : IsOpenAt all (address a.hop.node) a.hop.link
+  pub within : a.hop.link < length all
+  pub requests : a.requests.items ≡ attempt (hop_to a.hop) (args_of commands)
 
 -- the first one goes without ASKING; where there are no commands there is none
 abbrev pub IsFirstAttempt : List Node → List Command → Option Attempt → Type 0
 IsFirstAttempt all commands None = ⊤
 IsFirstAttempt all commands (Some a) = IsPlacedAttempt all commands a
-    × (hop_to a.place ≡ first_to (address a.place.node))
+    × (hop_to a.hop ≡ first_to (address a.hop.node))
 
 -- what it sends, or nothing where there is none
 abbrev pub found_dispatches : List Command → Option Attempt → List Dispatch
 found_dispatches commands None = []
-found_dispatches commands (Some a) = dispatches_to (address a.place.node) (args_of commands)
+found_dispatches commands (Some a) = dispatches_to (address a.hop.node) (args_of commands)
 
 abbrev pub attempt_plan : List Command → Result (Option Attempt) Refusal → Result (List Dispatch) Refusal
 attempt_plan commands (Ok found) = Ok (found_dispatches commands found)
@@ -69,9 +69,9 @@ attempt_plan commands (Err refusal) = Err refusal
 -- ---- its exchange
 
 -- the requests were exchanged, and a refresh is needed where one of their replies is MOVED
-pub record AttemptExchanged (old new : World) (which : ℕ) (qs : List Request) (offset : ℕ)
+pub record AttemptExchanged (old new : World) (link : ℕ) (qs : List Request) (offset : ℕ)
     (result : Result (List Tree) Refusal) : Type 0 where
-  pub exchange : Exchanges old.nodes new.nodes which old.log new.log qs offset (length qs) result
+  pub exchange : Exchanges old.nodes new.nodes link old.log new.log qs offset (length qs) result
   pub flag : new.needs_refresh ≡ (old.needs_refresh || moved_by result)
   pub entries : new.entries ≡ old.entries
   pub settings : new.settings ≡ old.settings

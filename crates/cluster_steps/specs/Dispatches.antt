@@ -25,7 +25,7 @@ client_with settings entries all = record { settings = settings; entries = entri
 
 -- what the code's dispatches are
 abbrev pub dispatch_of : CodeDispatch → Dispatch
-dispatch_of d = record { node = address d.place.node; args = texts d.args.items }
+dispatch_of d = record { node = address d.hop.node; args = texts d.args.items }
 
 -- the code's dispatches, or why there are none
 abbrev pub dispatches_of : Result (Vec CodeDispatch Global) Refusal → Result (List Dispatch) Refusal
@@ -50,9 +50,9 @@ pub record AreDispatched (strategy : Option Strategy) (client : Client) (parts :
 
 -- a dispatch goes over the open link of its node, without ASKING
 pub record IsPlaced (all : List Node) (d : CodeDispatch) : Type 0 where
-  pub place : IsOpenAt all (address d.place.node) d.place.which
-  pub within : d.place.which < length all
-  pub direct : d.place.asking ≡ false
+  pub place : IsOpenAt all (address d.hop.node) d.hop.link
+  pub within : d.hop.link < length all
+  pub direct : d.hop.asking ≡ false
 
 -- ---- a call before its first byte
 

@@ -1,19 +1,17 @@
 -- Where one part goes first, as the code finds it.
 use Rattle.std.specs.Prelude.{◌≡◌, ℕ, Bool, true, false, if◌then◌else◌, List, [], ◌∷◌, ◌++◌, Option, Some, None, Result, Ok, Err, MatchOption}
 use Rattle.resp_core.specs.Errors.{Refusal, by_cause}
-use Rattle.resp_core.specs.declared.errors.redis_error.Cause.TheVariants.{NoNode, NoLink, NoRoute}
+use Rattle.resp_core.specs.declared.errors.redis_error.Cause.TheVariants.{NoNode, NoLink}
 use Rattle.cluster_routing.specs.Address.{Address}
 use Rattle.cluster_routing.specs.Info.{texts}
 use Rattle.cluster_routing.specs.Candidates.{Candidates}
 use Rattle.cluster_routing.specs.Choice.{Strategy, IsAdmitted}
-use Rattle.cluster_routing.specs.declared.direction.Direction.{Direction}
-use Rattle.cluster_routing.specs.declared.direction.Direction.TheVariants.{SplitByKeys, Slot, AnyNode}
 use Rattle.cluster_routing.specs.SlotMap.{SlotEntries}
 use Rattle.cluster_steps.specs.declared.route.Target.{Target as CodeTarget}
 use Rattle.cluster_steps.specs.declared.route.Target.TheVariants as targets
 use Rattle.cluster_steps.specs.declared.route.Part.{Part as CodePart}
 use Rattle.cluster_calls.specs.Links.World.{is_linked}
-use Rattle.cluster_calls.specs.Calls.Parts.{Target, at_slot, at_number, Part, part_to}
+use Rattle.cluster_calls.specs.Calls.Parts.{Target, at_slot, at_number, Part}
 use Rattle.cluster_calls.specs.Calls.Plan.{First, first_of, target_candidates}
 use Rattle.cluster_calls.specs.Calls.Picks.{IsPick}
 
@@ -22,28 +20,9 @@ abbrev pub target_of : CodeTarget → Target
 target_of (targets.Slot route) = at_slot route
 target_of (targets.Number number) = at_number number
 
-abbrev pub is_split : Direction → Bool
-is_split SplitByKeys = true
-is_split _ = false
-
--- the target of a command that goes to one node
-abbrev pub target_by : ℕ → Direction → Option Target
-target_by number (Slot route) = Some (at_slot route)
-target_by number AnyNode = Some (at_number number)
-target_by number _ = None
-
--- the command whole, at its target
-abbrev pub part_by : List (List ℕ) → Option Target → Result (List Part) Refusal
-part_by args None = Err (by_cause NoRoute)
-part_by args (Some target) = Ok (part_to args target ∷ [])
-
 -- what a part of the code stands for
 abbrev pub part_of : CodePart → Part
 part_of part = record { target = target_of part.target; args = texts part.args.items }
-
-abbrev pub one_part : Result CodePart Refusal → Result (List Part) Refusal
-one_part (Ok part) = Ok (part_of part ∷ [])
-one_part (Err refusal) = Err refusal
 
 -- the node that a target leads to, by these picks; none where no node serves it
 abbrev pub node_in : Option First → Result Address Refusal

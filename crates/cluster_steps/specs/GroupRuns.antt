@@ -17,7 +17,7 @@ use Rattle.cluster_calls.specs.Links.Exchanges.{Exchanges}
 use Rattle.cluster_calls.specs.Links.Faults.{LinkFault}
 use Rattle.cluster_calls.specs.Links.Lacking.{ends_lacking}
 use Rattle.cluster_calls.specs.Links.Events.{Event, AllTo, Runs, log_of, exchanges_of, Agrees, lack_memory, StopsAtMemory, answered_moved}
-use Rattle.cluster_steps.specs.Groups.{Group}
+use Rattle.cluster_steps.specs.Groups.{NodeRequests}
 use Rattle.cluster_calls.specs.Calls.Refusals.{pipeline_refusal}
 
 -- ---- one group
@@ -31,9 +31,9 @@ moved_by (Ok trees) = list_any is_moved_tree trees
 moved_by (Err refusal) = false
 
 -- a group was exchanged, and a refresh is needed where one of its replies is MOVED
-pub record GroupExchanged (old new : World) (which : ℕ) (qs : List Request)
+pub record GroupExchanged (old new : World) (link : ℕ) (qs : List Request)
     (result : Result (List Tree) Refusal) : Type 0 where
-  pub exchange : Exchanges old.nodes new.nodes which old.log new.log qs 0 (length qs) result
+  pub exchange : Exchanges old.nodes new.nodes link old.log new.log qs 0 (length qs) result
   pub flag : new.needs_refresh ≡ (old.needs_refresh || moved_by result)
   pub entries : new.entries ≡ old.entries
   pub settings : new.settings ≡ old.settings
@@ -45,20 +45,20 @@ group_node [] = record { host = []; port = 0 }
 group_node (q ∷ qs) = q.node
 
 -- a group has requests, all of them go to one node without ASKING, and its link is open
-pub record IsGroupPlaced (all : List Node) (g : Group) : Type 0 where
-  pub place : IsOpenAt all (group_node g.requests) g.which
-  pub within : g.which < length all
+pub record IsGroupPlaced (all : List Node) (g : NodeRequests) : Type 0 where
+  pub place : IsOpenAt all (group_node g.requests) g.link
+  pub within : g.link < length all
   pub some : g.requests ≢ []
   pub to_node : AllTo (group_node g.requests) g.requests
   pub direct : AllByRecursion (λ (q : Request). q.asking ≡ false) g.requests
 
 -- ---- all groups
 
-abbrev pub request_lists : List Group → List (List Request)
-request_lists gs = map (λ (g : Group). g.requests) gs
+abbrev pub request_lists : List NodeRequests → List (List Request)
+request_lists gs = map (λ (g : NodeRequests). g.requests) gs
 
-abbrev pub group_nodes : List Group → List Address
-group_nodes gs = map (λ (g : Group). group_node g.requests) gs
+abbrev pub group_nodes : List NodeRequests → List Address
+group_nodes gs = map (λ (g : NodeRequests). group_node g.requests) gs
 
 -- each group's requests in one go; nothing after one with an unanswered request
 abbrev pub GroupByGroup : List (List Request) → List Exchange → Type 0
@@ -70,7 +70,7 @@ GroupByGroup (qs ∷ qss) xs =
 
 -- what came from each place, as the code has it
 abbrev pub answered_at : {V : Type 0} → (V → Tree) → CodeAnswered V → ℕ × List Tree
-answered_at view a = (a.which, map view a.items.items)
+answered_at view a = (a.link, map view a.items.items)
 
 abbrev pub answers_of : {V : Type 0} → (V → Tree) → Result (Vec (CodeAnswered V) Global) Refusal
     → Result (List (ℕ × List Tree)) Refusal
@@ -79,18 +79,18 @@ answers_of view (Err refusal) = Err refusal
 
 -- All requests have a reply, and these are they, group by group; or the refusal is by the first unanswered
 -- request, whatever errors there are.
-abbrev pub AreGroupResults : (Address → LinkFault) → List Group → List Exchange
+abbrev pub AreGroupResults : (Address → LinkFault) → List NodeRequests → List Exchange
     → Result (List (ℕ × List Tree)) Refusal → Type 0
 AreGroupResults faults gs xs (Ok answers) =
-    (map (λ (a : ℕ × List Tree). a.0) answers ≡ map (λ (g : Group). g.which) gs)
-    × (map (λ (a : ℕ × List Tree). length a.1) answers ≡ map (λ (g : Group). length g.requests) gs)
+    (map (λ (a : ℕ × List Tree). a.0) answers ≡ map (λ (g : NodeRequests). g.link) gs)
+    × (map (λ (a : ℕ × List Tree). length a.1) answers ≡ map (λ (g : NodeRequests). length g.requests) gs)
     × (requests xs ≡ concat (request_lists gs))
     × (map (λ (x : Exchange). x.reply) xs
     ≡ map (λ tree. Some tree) (concat (map (λ (a : ℕ × List Tree). a.1) answers)))
 AreGroupResults faults gs xs (Err refusal) = (errors : List (ℕ × ErrorText))
     → pipeline_refusal faults xs errors ≡ Some refusal
 
-pub record GroupsAnswered (gs : List Group) (events : List Event)
+pub record GroupsAnswered (gs : List NodeRequests) (events : List Event)
     (result : Result (List (ℕ × List Tree)) Refusal) : Type 0 where
   pub memory : lack_memory events ≡ false
   pub whole : (place : ℕ) → GroupByGroup (request_lists gs) (exchanges_of place events)
@@ -98,7 +98,7 @@ pub record GroupsAnswered (gs : List Group) (events : List Event)
       → AreGroupResults faults gs (exchanges_of place events) result
 
 -- What the link calls of all groups did, also where memory was refused: then they begin such a run.
-pub record GroupsMade (old new : World) (gs : List Group)
+pub record GroupsMade (old new : World) (gs : List NodeRequests)
     (result : Result (List (ℕ × List Tree)) Refusal) : Type 0 where
   pub events : List Event
   pub runs : Runs old.nodes new.nodes events

@@ -4,7 +4,7 @@ use Rattle.cluster_steps.specs.declared.drawn.Answered.{Answered as CodeAnswered
 
 -- what came from a place
 abbrev pub items_at : {T : Type 0} → CodeAnswered T → ℕ × List T
-items_at a = (a.which, a.items.items)
+items_at a = (a.link, a.items.items)
 
 -- the queue of a place
 abbrev pub list_or_none : {T : Type 0} → Option (List T) → List T

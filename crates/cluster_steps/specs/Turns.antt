@@ -1,10 +1,10 @@
--- What the code's places and turns are.
+-- What the code's hops and turns are.
 use Rattle.std.specs.Prelude.{◌≡◌, ◌<◌, Bool, true, false, List, length, Result, Ok, Err, Some, ⊤}
 use Rattle.resp_core.specs.Errors.{Refusal}
 use Rattle.resp_core.specs.Trees.{Tree}
 use Rattle.resp_core.specs.View.{view}
 use Rattle.cluster_routing.specs.Seen.{address}
-use Rattle.cluster_steps.specs.declared.place.Place.{Place}
+use Rattle.cluster_steps.specs.declared.hop.Hop.{Hop as CodeHop}
 use Rattle.cluster_steps.specs.declared.turn.Onward.{Onward}
 use Rattle.cluster_steps.specs.declared.turn.Onward.TheVariants as onward
 use Rattle.cluster_steps.specs.declared.turn.Turn.{Turn}
@@ -16,8 +16,8 @@ use Rattle.cluster_calls.specs.Links.Reply.{sort_of}
 use Rattle.cluster_calls.specs.Calls.Redirects.{Hop, Next, Stays, Lost, Goes, is_going}
 use Rattle.cluster_calls.specs.Calls.Refusals.{stop_refusal}
 
--- the hop to a place, and where a reply leads
-abbrev pub hop_to : Place → Hop
+-- what a hop of the code is, and where a reply leads
+abbrev pub hop_to : CodeHop → Hop
 hop_to p = record { node = address p.node; asking = p.asking }
 
 abbrev pub next_by : Onward → Next
@@ -29,23 +29,23 @@ abbrev pub goes_on : Onward → Bool
 goes_on (onward.Go p) = true
 goes_on _ = false
 
--- the place that a reply leads to is that of an open link
+-- the hop that a reply leads to goes over an open link
 abbrev pub LeadsOn : List Node → Onward → Type 0
-LeadsOn nodes (onward.Go p) = IsOpenAt nodes (address p.node) p.which × (p.which < length nodes)
+LeadsOn nodes (onward.Go p) = IsOpenAt nodes (address p.node) p.link × (p.link < length nodes)
 LeadsOn nodes _ = ⊤
 
 -- What becomes of a reply: it is data and the answer, it refuses its part, or its request goes on.
 abbrev pub TurnsBy : Next → Tree → Result Turn Refusal → Type 0
 TurnsBy next tree (Ok (turns.Answered value)) = (next ≡ Stays) × (view value ≡ tree)
     × (is_data (sort_of tree) ≡ true)
-TurnsBy next tree (Ok (turns.On place)) = next ≡ Goes (hop_to place)
+TurnsBy next tree (Ok (turns.On hop)) = next ≡ Goes (hop_to hop)
 TurnsBy next tree (Err refusal) = (is_going next ≡ false) × (is_data (sort_of tree) ≡ false)
     × (stop_refusal next tree ≡ Some refusal)
 
 abbrev pub turns_on : Turn → Bool
-turns_on (turns.On place) = true
+turns_on (turns.On hop) = true
 turns_on _ = false
 
 abbrev pub TurnsOn : List Node → Turn → Type 0
-TurnsOn nodes (turns.On p) = IsOpenAt nodes (address p.node) p.which × (p.which < length nodes)
+TurnsOn nodes (turns.On p) = IsOpenAt nodes (address p.node) p.link × (p.link < length nodes)
 TurnsOn nodes _ = ⊤

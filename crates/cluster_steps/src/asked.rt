@@ -5,7 +5,7 @@ ghost use Rattle.cluster_calls.specs.Links.Log.{last_of};
 ghost use Rattle.cluster_calls.specs.Links.Request.{Request};
 
 use crate::dispatch::Dispatch;
-use crate::place::Place;
+use crate::hop::Hop;
 use cluster_routing::NodeAddress;
 use std::alloc::{AllocError, Global};
 use std::marker::Model;
@@ -32,15 +32,15 @@ impl Model for Asked {
         { node = address a.node; args = map (λ arg. arg.items) a.args.items; asking = a.asking } };
 }
 
-/// The last request of the log once more, to this place; its arguments are copied.
-pub fn sent_again(alloc: Global, log: &[Asked], place: Place) -> Result<Dispatch, AllocError>
+/// The last request of the log once more, by this hop; its arguments are copied.
+pub fn sent_again(alloc: Global, log: &[Asked], hop: Hop) -> Result<Dispatch, AllocError>
     requires { 0 < length log.now }
-    ensures place { IfOk result (λ d. d.place ≡ place) }
+    ensures hop { IfOk result (λ d. d.hop ≡ hop) }
     ensures args { IfOk result (λ d. (q : Request) → last_of log.now ≡ Some q → texts d.args.items ≡ q.args) }
 {
     let last = &log[log.len() - 1];
     Ok(Dispatch {
-        place,
+        hop,
         args: copied(alloc, &last.args)?,
     })
 }

@@ -2,7 +2,7 @@
 ghost use Rattle.std.specs.Prelude.{ℕ, ◌≡◌, ◌<◌, ◌≤◌, ◌+◌, ◌++◌, List, length, vec_capacity, vec_len};
 ghost use Rattle.resp_link.specs.Call.{Seen};
 ghost use Rattle.resp_link.specs.TwoCalls.{Receives, Sends};
-ghost use Rattle.cluster_calls.specs.Links.World.{Calls, nodes};
+ghost use Rattle.cluster_calls.specs.Links.World.{CallsLink, nodes};
 ghost use Rattle.cluster_steps.specs.AtOnce.{ComesIn, GoesOut, IsReceived, IsSent};
 ghost use Rattle.cluster_steps.specs.Each.{replies_or_cause};
 ghost use Rattle.cluster_steps.specs.Groups.{group_of};
@@ -10,7 +10,7 @@ ghost use Rattle.cluster_steps.specs.Groups.{group_of};
 use crate::asked::Asked;
 use crate::each::link_cause;
 use crate::known_links::KnownLinks;
-use crate::ready::Group;
+use crate::ready::NodeRequests;
 use cluster_routing::NodeAddress;
 use resp_core::{Cause, RedisError, Value};
 use resp_link::PipelinedLink;
@@ -19,7 +19,7 @@ use std::alloc::Global;
 /// What went out over the link at one place: so many requests, or why they did not go out.
 #[derive(Clone, Copy)]
 pub struct Sent {
-    pub which: usize,
+    pub link: usize,
     pub count: usize,
     pub refusal: Option<Cause>,
 }
@@ -27,14 +27,14 @@ pub struct Sent {
 /// Sends the bytes over the link at this place.
 pub(crate) fn sent_over<L: PipelinedLink>(
     links: &mut [(NodeAddress, L)],
-    which: usize,
+    index: usize,
     bytes: &[u8],
 ) -> Result<(), RedisError>
-    requires { which < length links.old }
-    ensures { Calls (nodes L.seen links.old) (nodes L.seen links.new) which
+    requires { index < length links.old }
+    ensures { CallsLink (nodes L.seen links.old) (nodes L.seen links.new) index
         (λ before after. Sends before after bytes.now result) }
 {
-    let link = &mut links[which].1;
+    let link = &mut links[index].1;
     link.send_packed_commands(bytes)
 }
 
@@ -42,14 +42,14 @@ pub(crate) fn sent_over<L: PipelinedLink>(
 pub(crate) fn received_over<L: PipelinedLink>(
     links: &mut [(NodeAddress, L)],
     alloc: Global,
-    which: usize,
+    index: usize,
     count: usize,
 ) -> Result<Vec<Value>, RedisError>
-    requires { which < length links.old }
-    ensures { Calls (nodes L.seen links.old) (nodes L.seen links.new) which
+    requires { index < length links.old }
+    ensures { CallsLink (nodes L.seen links.old) (nodes L.seen links.new) index
         (λ before after. Receives before after count result) }
 {
-    let link = &mut links[which].1;
+    let link = &mut links[index].1;
     link.recv_responses(alloc, count)
 }
 
@@ -78,9 +78,9 @@ fn replies_or_cause(taken: Result<Vec<Value>, RedisError>) -> Result<Vec<Value>,
 pub fn send_group<L: PipelinedLink + Drop>(
     links: &mut KnownLinks<L>,
     log: &mut Vec<Asked>,
-    group: Group,
+    group: NodeRequests,
 ) -> Sent
-    requires within { group.which < vec_len links.old.nodes }
+    requires within { group.link < vec_len links.old.nodes }
     requires room { vec_len log.old + vec_len group.requests ≤ vec_capacity log.old }
     ensures sent { IsSent (nodes L.seen links.old.nodes.items) (nodes L.seen links.new.nodes.items)
         (group_of group) result }
@@ -88,16 +88,16 @@ pub fn send_group<L: PipelinedLink + Drop>(
     ensures log { log.new.items ≡ log.old.items ++ group.requests.items }
     ensures log_capacity { vec_capacity log.old ≤ vec_capacity log.new }
 {
-    let Group {
-        which,
+    let NodeRequests {
+        link,
         mut requests,
         bytes,
     } = group;
     let count = requests.len();
     log.append(&mut requests).unwrap();
-    let refusal = refusal_of(links.send(which, &bytes));
+    let refusal = refusal_of(links.send(link, &bytes));
     Sent {
-        which,
+        link,
         count,
         refusal,
     }
@@ -109,7 +109,7 @@ pub fn receive_group<L: PipelinedLink + Drop>(
     alloc: Global,
     sent: Sent,
 ) -> Result<Vec<Value>, Cause>
-    requires within { sent.which < vec_len links.old.nodes }
+    requires within { sent.link < vec_len links.old.nodes }
     ensures received { IsReceived (nodes L.seen links.old.nodes.items) (nodes L.seen links.new.nodes.items)
         sent (replies_or_cause result) }
     ensures len { vec_len links.new.nodes ≡ vec_len links.old.nodes }
@@ -117,5 +117,5 @@ pub fn receive_group<L: PipelinedLink + Drop>(
     if let Some(cause) = sent.refusal {
         return Err(cause);
     }
-    replies_or_cause(links.receive(alloc, sent.which, sent.count))
+    replies_or_cause(links.receive(alloc, sent.link, sent.count))
 }

@@ -12,9 +12,9 @@ ghost use Rattle.cluster_calls.specs.Links.World.{nodes, tree_results};
 ghost use Rattle.cluster_steps.specs.Turns.{hop_to};
 
 use crate::asked::Asked;
+use crate::hop::Hop;
 use crate::links::Links;
 use crate::node_links::NodeLinks;
-use crate::place::Place;
 use crate::ready::bytes_of;
 use cluster_routing::NodeAddress;
 use resp_args::Cmd;
@@ -22,10 +22,10 @@ use resp_core::{RedisError, Value};
 use resp_link::ConnectionLike;
 use std::alloc::{AllocError, Global};
 
-/// The requests of an attempt, the place that they go to, and their bytes.
+/// The requests of an attempt, the hop that they go by, and their bytes.
 #[derive(Drop)]
 pub struct Attempt {
-    pub place: Place,
+    pub hop: Hop,
     pub requests: Vec<Asked>,
     pub bytes: Vec<u8>,
     ghost packed: { bytes.items ≡ bytes_of requests.items },
@@ -53,12 +53,12 @@ fn request_to(node: &NodeAddress, args: Vec<Vec<u8>>, asking: bool) -> Result<As
 }
 
 /// The requests of an attempt: MULTI, behind ASKING where that is wanted, the commands, and EXEC.
-fn requests_of(alloc: Global, place: &Place, commands: &[Cmd]) -> Result<Vec<Asked>, AllocError>
-    ensures { IfOk result (λ v. v.items ≡ attempt (hop_to place.now) (args_of commands.now)) }
+fn requests_of(alloc: Global, hop: &Hop, commands: &[Cmd]) -> Result<Vec<Asked>, AllocError>
+    ensures { IfOk result (λ v. v.items ≡ attempt (hop_to hop.now) (args_of commands.now)) }
 {
-    let node = &place.node;
+    let node = &hop.node;
     let mut requests = Vec::new(alloc);
-    requests.push(request_to(node, one_word(alloc, b"MULTI")?, place.asking)?)?;
+    requests.push(request_to(node, one_word(alloc, b"MULTI")?, hop.asking)?)?;
     'commands: for command in commands {
         requests.push(request_to(node, command.wire_args()?, false)?)?;
     }
@@ -66,27 +66,27 @@ fn requests_of(alloc: Global, place: &Place, commands: &[Cmd]) -> Result<Vec<Ask
     Ok(requests)
 }
 
-/// An attempt at a place, packed, with room in the log for its requests.
+/// An attempt by a hop, packed, with room in the log for its requests.
 ///
 /// # Errors
 /// `AllocError` where memory is refused; the log has the same requests as before.
 pub fn make_attempt_ready(
     alloc: Global,
     log: &mut Vec<Asked>,
-    place: Place,
+    hop: Hop,
     commands: &[Cmd],
 ) -> Result<Attempt, AllocError>
     ensures log { log.new.items ≡ log.old.items }
     ensures room { IfOk result (λ a. vec_len log.new + vec_len a.requests ≤ vec_capacity log.new) }
-    ensures place { IfOk result (λ a. a.place ≡ place) }
+    ensures hop { IfOk result (λ a. a.hop ≡ hop) }
     ensures requests { IfOk result
-        (λ a. a.requests.items ≡ attempt (hop_to place) (args_of commands.now)) }
+        (λ a. a.requests.items ≡ attempt (hop_to hop) (args_of commands.now)) }
 {
-    let requests = requests_of(alloc, &place, commands)?;
+    let requests = requests_of(alloc, &hop, commands)?;
     let bytes = bytes_of(alloc, &requests)?;
     log.reserve(requests.len())?;
     Ok(Attempt {
-        place,
+        hop,
         requests,
         bytes,
     })
@@ -100,12 +100,12 @@ pub fn exchange_attempt<L: ConnectionLike>(
     log: &mut Vec<Asked>,
     attempt: Attempt,
 ) -> Result<Vec<Value>, RedisError>
-    requires within { attempt.place.which < vec_len links.old.nodes }
+    requires within { attempt.hop.link < vec_len links.old.nodes }
     requires room { vec_len log.old + vec_len attempt.requests ≤ vec_capacity log.old }
     ensures len { vec_len links.new.nodes ≡ vec_len links.old.nodes }
     ensures exchange { Exchanges (nodes L.seen links.old.nodes.items)
-        (nodes L.seen links.new.nodes.items) attempt.place.which log.old.items log.new.items
-        attempt.requests.items (skipped attempt.place.asking) (vec_len attempt.requests)
+        (nodes L.seen links.new.nodes.items) attempt.hop.link log.old.items log.new.items
+        attempt.requests.items (skipped attempt.hop.asking) (vec_len attempt.requests)
         (tree_results view result) }
 {
     exchange_attempt_over(links, alloc, log, attempt)
@@ -118,21 +118,21 @@ pub fn exchange_attempt_over<K: NodeLinks>(
     log: &mut Vec<Asked>,
     attempt: Attempt,
 ) -> Result<Vec<Value>, RedisError>
-    requires within { attempt.place.which < length (K.nodes links.old) }
+    requires within { attempt.hop.link < length (K.nodes links.old) }
     requires room { vec_len log.old + vec_len attempt.requests ≤ vec_capacity log.old }
     ensures len { length (K.nodes links.new) ≡ length (K.nodes links.old) }
     ensures exchange { Exchanges (K.nodes links.old)
-        (K.nodes links.new) attempt.place.which log.old.items log.new.items
-        attempt.requests.items (skipped attempt.place.asking) (vec_len attempt.requests)
+        (K.nodes links.new) attempt.hop.link log.old.items log.new.items
+        attempt.requests.items (skipped attempt.hop.asking) (vec_len attempt.requests)
         (tree_results view result) }
 {
     let Attempt {
-        place,
+        hop,
         mut requests,
         bytes,
     } = attempt;
-    let offset = if place.asking { 1 } else { 0 };
+    let offset = if hop.asking { 1 } else { 0 };
     let count = requests.len();
     log.append(&mut requests).unwrap();
-    links.call(alloc, place.which, &bytes, offset, count)
+    links.call(alloc, hop.link, &bytes, offset, count)
 }

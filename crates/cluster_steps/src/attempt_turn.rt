@@ -129,21 +129,21 @@ fn redirect_in(replies: &[Value]) -> Option<&Value>
 fn redirected<K: NodeLinks>(
     alloc: Global,
     links: &K,
-    left: u16,
+    redirects: u16,
     replies: &[Value],
 ) -> Result<Onward, RedisError>
     ensures next { IfOk result
-        (λ o. next_by o ≡ next_of (open_links (K.nodes links.now)) left
+        (λ o. next_by o ≡ next_of (open_links (K.nodes links.now)) redirects
         (redirect_in (heard (map view replies.now)))) }
     ensures on { IfOk result (λ o. LeadsOn (K.nodes links.now) o) }
-    ensures some { IfOk result (λ o. goes_on o ≡ true → left ≢ 0) }
+    ensures some { IfOk result (λ o. goes_on o ≡ true → redirects ≢ 0) }
     ensures only { IfErr result (λ e. e ≡ by_cause Memory) }
     ensures redirect { IfErr result
         (λ e. is_none (redirect_in (heard (map view replies.now))) ≡ false) }
 {
     match redirect_in(replies) {
         None => Ok(Onward::Stay),
-        Some(reply) => next_place(alloc, links, left, reply),
+        Some(reply) => next_place(alloc, links, redirects, reply),
     }
 }
 
@@ -151,19 +151,19 @@ fn redirected<K: NodeLinks>(
 fn next_attempt<K: NodeLinks>(
     alloc: Global,
     links: &K,
-    left: u16,
+    redirects: u16,
     replies: &[Value],
 ) -> Result<Onward, RedisError>
     ensures next { IfOk result
-        (λ o. next_by o ≡ next_attempt (open_links (K.nodes links.now)) left
+        (λ o. next_by o ≡ next_attempt (open_links (K.nodes links.now)) redirects
         (heard (map view replies.now))) }
     ensures on { IfOk result (λ o. LeadsOn (K.nodes links.now) o) }
-    ensures some { IfOk result (λ o. goes_on o ≡ true → left ≢ 0) }
+    ensures some { IfOk result (λ o. goes_on o ≡ true → redirects ≢ 0) }
     ensures only { IfErr result (λ e. e ≡ by_cause Memory) }
     ensures unanswered { IfErr result (λ e. exec_answers (heard (map view replies.now)) ≡ false) }
 {
     if is_not_done(replies) {
-        redirected(alloc, links, left, replies)
+        redirected(alloc, links, redirects, replies)
     } else {
         Ok(Onward::Stay)
     }
@@ -250,40 +250,40 @@ fn answered(replies: Vec<Value>) -> Result<Turn, RedisError>
 pub fn attempt_turn<L: ConnectionLike>(
     alloc: Global,
     links: &Links<L>,
-    left: u16,
+    redirects: u16,
     replies: Vec<Value>,
 ) -> Result<Turn, RedisError>
     ensures turns { result ≢ Err (by_cause Memory)
-        → AttemptTurnsBy (next_attempt (open_links (nodes L.seen links.now.nodes.items)) left
+        → AttemptTurnsBy (next_attempt (open_links (nodes L.seen links.now.nodes.items)) redirects
         (heard (map view replies.items))) (heard (map view replies.items)) result }
     ensures on { IfOk result (λ turn. TurnsOn (nodes L.seen links.now.nodes.items) turn) }
-    ensures some { IfOk result (λ turn. turns_on turn ≡ true → left ≢ 0) }
+    ensures some { IfOk result (λ turn. turns_on turn ≡ true → redirects ≢ 0) }
     // Memory is taken for a redirect alone.
     ensures unanswered { result ≡ Err (by_cause Memory)
         → exec_answers (heard (map view replies.items)) ≡ false }
 {
-    attempt_turn_over(alloc, links, left, replies)
+    attempt_turn_over(alloc, links, redirects, replies)
 }
 
 /// The same for any links.
 pub fn attempt_turn_over<K: NodeLinks>(
     alloc: Global,
     links: &K,
-    left: u16,
+    redirects: u16,
     replies: Vec<Value>,
 ) -> Result<Turn, RedisError>
     ensures turns { result ≢ Err (by_cause Memory)
-        → AttemptTurnsBy (next_attempt (open_links (K.nodes links.now)) left
+        → AttemptTurnsBy (next_attempt (open_links (K.nodes links.now)) redirects
         (heard (map view replies.items))) (heard (map view replies.items)) result }
     ensures on { IfOk result (λ turn. TurnsOn (K.nodes links.now) turn) }
-    ensures some { IfOk result (λ turn. turns_on turn ≡ true → left ≢ 0) }
+    ensures some { IfOk result (λ turn. turns_on turn ≡ true → redirects ≢ 0) }
     // Memory is taken for a redirect alone.
     ensures unanswered { result ≡ Err (by_cause Memory)
         → exec_answers (heard (map view replies.items)) ≡ false }
 {
-    match next_attempt(alloc, links, left, &replies)? {
+    match next_attempt(alloc, links, redirects, &replies)? {
         Onward::Stay => answered(replies),
         Onward::Lost => Err(RedisError::from(Cause::NoLink)),
-        Onward::Go(place) => Ok(Turn::On(place)),
+        Onward::Go(hop) => Ok(Turn::On(hop)),
     }
 }

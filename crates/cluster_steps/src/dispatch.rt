@@ -1,8 +1,9 @@
 //! Where all parts of a call go first, found before the first byte is sent.
-ghost use Rattle.std.specs.Prelude.{◌≡◌, ◌≢◌, [], ◌∷◌, map, IfOk, Err, option_map};
+ghost use Rattle.std.specs.Prelude.{◌≡◌, ◌≢◌, [], ◌∷◌, map, IfOk, Err};
 ghost use Rattle.std.specs.List.{AllByRecursion};
 ghost use Rattle.resp_core.specs.Errors.{by_cause};
 ghost use Rattle.resp_core.specs.declared.errors.redis_error.Cause.TheVariants.{Memory};
+ghost use Rattle.cluster_routing.specs.Choice.{strategy_of};
 ghost use Rattle.cluster_routing.specs.Seen.{addresses};
 ghost use Rattle.cluster_calls.specs.Links.World.{Settings, nodes};
 ghost use Rattle.cluster_steps.specs.Dispatches.{AreDispatched, IsPlaced, client_with, dispatches_of, one_dispatch};
@@ -10,20 +11,20 @@ ghost use Rattle.cluster_steps.specs.FirstPlaces.{part_of};
 ghost use Rattle.cluster_steps.specs.Groups.{request_in};
 
 use crate::asked::Asked;
+use crate::hop::{Hop, first_hop, first_hop_in, first_hop_over};
 use crate::links::Links;
 use crate::node_links::NodeLinks;
 use crate::numbered_map::NumberedMap;
-use crate::place::{Place, first_place, first_place_in, first_place_over};
 use crate::route::Part;
 use cluster_routing::{NodeAddress, ReadRoutingStrategy, SlotMap, SplitParts};
 use resp_core::RedisError;
 use resp_link::ConnectionLike;
 use std::alloc::Global;
 
-/// A part's arguments, and the place that they go to first.
+/// A part's arguments, and the hop that they go by first.
 #[derive(Drop)]
 pub struct Dispatch {
-    pub place: Place,
+    pub hop: Hop,
     pub args: Vec<Vec<u8>>,
 }
 
@@ -31,11 +32,11 @@ pub struct Dispatch {
 pub(crate) fn request_of(dispatch: Dispatch) -> Asked
     ensures { result ≡ request_in dispatch }
 {
-    let Dispatch { place, args } = dispatch;
+    let Dispatch { hop, args } = dispatch;
     Asked {
-        node: place.node,
+        node: hop.node,
         args,
-        asking: place.asking,
+        asking: hop.asking,
     }
 }
 
@@ -55,7 +56,7 @@ pub enum Outset {
     InParts(Prepared),
 }
 
-/// A part with the place that it goes to first. `picked` then has what the strategy answered.
+/// A part with the hop that it goes by first. `picked` then has what the strategy answered.
 ///
 /// # Errors
 /// `NoNode` and `NoLink` where no node serves it, or no usable link leads to its node; `Memory`.
@@ -69,14 +70,14 @@ pub fn one_dispatch<L: ConnectionLike>(
 ) -> Result<Dispatch, RedisError>
     requires { picked.old.items ≡ [] }
     ensures dispatched { result ≢ Err (by_cause Memory) → (settings : Settings)
-        → AreDispatched (option_map (λ s. admits s.now) strategy.entry)
+        → AreDispatched (strategy_of admits strategy.entry)
         (client_with settings slots.now (nodes L.seen links.now.nodes.items)) (part_of part ∷ [])
         (addresses picked.new.items) (one_dispatch result) }
     ensures placed { IfOk result (λ d. IsPlaced (nodes L.seen links.now.nodes.items) d) }
 {
-    let place = first_place(links, alloc, slots, &part.target, strategy, picked)?;
+    let hop = first_hop(links, alloc, slots, &part.target, strategy, picked)?;
     Ok(Dispatch {
-        place,
+        hop,
         args: part.args,
     })
 }
@@ -96,19 +97,19 @@ pub fn one_dispatch_in<K: NodeLinks>(
     requires { picked.old.items ≡ [] }
     ensures stays { slots.new ≡ slots.old }
     ensures dispatched { result ≢ Err (by_cause Memory) → (settings : Settings)
-        → AreDispatched (option_map (λ s. admits s.now) strategy.entry)
+        → AreDispatched (strategy_of admits strategy.entry)
         (client_with settings slots.old (K.nodes links.now)) (part_of part ∷ [])
         (addresses picked.new.items) (one_dispatch result) }
     ensures placed { IfOk result (λ d. IsPlaced (K.nodes links.now) d) }
 {
-    let place = first_place_in(links, alloc, slots, &part.target, strategy, picked)?;
+    let hop = first_hop_in(links, alloc, slots, &part.target, strategy, picked)?;
     Ok(Dispatch {
-        place,
+        hop,
         args: part.args,
     })
 }
 
-/// The parts with the places that they go to first, in the order given. `picked` then has what the
+/// The parts with the hops that they go by first, in the order given. `picked` then has what the
 /// strategy answered.
 ///
 /// # Errors
@@ -124,7 +125,7 @@ pub fn dispatches<L: ConnectionLike>(
 ) -> Result<Vec<Dispatch>, RedisError>
     requires { picked.old.items ≡ [] }
     ensures dispatched { result ≢ Err (by_cause Memory) → (settings : Settings)
-        → AreDispatched (option_map (λ s. admits s.now) strategy.entry)
+        → AreDispatched (strategy_of admits strategy.entry)
         (client_with settings slots.now (nodes L.seen links.now.nodes.items)) (map part_of parts.items)
         (addresses picked.new.items) (dispatches_of result) }
     ensures placed { IfOk result
@@ -147,7 +148,7 @@ pub fn dispatches_over<K: NodeLinks>(
 ) -> Result<Vec<Dispatch>, RedisError>
     requires { picked.old.items ≡ [] }
     ensures dispatched { result ≢ Err (by_cause Memory) → (settings : Settings)
-        → AreDispatched (option_map (λ s. admits s.now) strategy.entry)
+        → AreDispatched (strategy_of admits strategy.entry)
         (client_with settings slots.now (K.nodes links.now)) (map part_of parts.items)
         (addresses picked.new.items) (dispatches_of result) }
     ensures placed { IfOk result
@@ -155,9 +156,9 @@ pub fn dispatches_over<K: NodeLinks>(
 {
     let mut all = Vec::with_capacity(alloc, parts.len())?;
     'parts: for part in parts {
-        let place = first_place_over(links, alloc, slots, &part.target, strategy, picked)?;
+        let hop = first_hop_over(links, alloc, slots, &part.target, strategy, picked)?;
         all.push(Dispatch {
-            place,
+            hop,
             args: part.args,
         })?;
     }

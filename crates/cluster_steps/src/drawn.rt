@@ -10,7 +10,7 @@ use std::collections::VecDeque;
 /// What came from one place.
 #[derive(Drop)]
 pub struct Answered<T> {
-    pub which: usize,
+    pub link: usize,
     pub items: Vec<T>,
 }
 
@@ -27,14 +27,14 @@ pub fn empty_queues<T: Drop>(alloc: Global, count: usize) -> Result<Vec<VecDeque
 }
 
 /// Puts a queue at its place. It takes no memory.
-pub fn put<T: Drop>(queues: &mut Vec<VecDeque<T>>, which: usize, items: Vec<T>)
-    requires { which < vec_len queues.old }
+pub fn put<T: Drop>(queues: &mut Vec<VecDeque<T>>, link: usize, items: Vec<T>)
+    requires { link < vec_len queues.old }
     ensures len { vec_len queues.new ≡ vec_len queues.old }
     ensures put { (k : ℕ)
         → queue_in (map (λ q. q.items) queues.new.items) k
-        ≡ (if k == which then items.items else queue_in (map (λ q. q.items) queues.old.items) k) }
+        ≡ (if k == link then items.items else queue_in (map (λ q. q.items) queues.old.items) k) }
 {
-    queues[which] = VecDeque::from(items);
+    queues[link] = VecDeque::from(items);
 }
 
 /// What came from each of so many places, as queues.
@@ -43,7 +43,7 @@ fn queues_of<T: Drop>(
     count: usize,
     answered: Vec<Answered<T>>,
 ) -> Result<Vec<VecDeque<T>>, AllocError>
-    requires { AllByRecursion (λ a. a.which < count) answered.items }
+    requires { AllByRecursion (λ a. a.link < count) answered.items }
     ensures len { IfOk result (λ v. vec_len v ≡ count) }
     ensures queued { IfOk result
         (λ v. (k : ℕ) → queue_in (map (λ q. q.items) v.items) k
@@ -51,7 +51,7 @@ fn queues_of<T: Drop>(
 {
     let mut queues = empty_queues(alloc, count)?;
     'answered: for answer in answered {
-        put(&mut queues, answer.which, answer.items);
+        put(&mut queues, answer.link, answer.items);
     }
     Ok(queues)
 }
@@ -85,7 +85,7 @@ pub fn drawn<T: Drop>(
     answered: Vec<Answered<T>>,
 ) -> Result<Vec<T>, AllocError>
     requires places { AllByRecursion (λ place. place < count) places.now }
-    requires answered { AllByRecursion (λ a. a.which < count) answered.items }
+    requires answered { AllByRecursion (λ a. a.link < count) answered.items }
     ensures { IfOk result (λ v. v.items ≡ draw places.now (queued no_queues (map items_at answered.items))) }
 {
     let mut queues = queues_of(alloc, count, answered)?;

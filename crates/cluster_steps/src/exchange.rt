@@ -3,7 +3,7 @@
 ghost use Rattle.std.specs.Prelude.{◌≡◌, ◌<◌, ◌≤◌, ◌+◌, ◌∷◌, [], length, vec_capacity, vec_len};
 ghost use Rattle.resp_core.specs.View.{view};
 ghost use Rattle.cluster_calls.specs.Links.Request.{skipped};
-ghost use Rattle.cluster_calls.specs.Links.World.{Called, Calls, nodes, one_reply, tree_result, tree_results};
+ghost use Rattle.cluster_calls.specs.Links.World.{Called, CallsLink, nodes, one_reply, tree_result, tree_results};
 ghost use Rattle.cluster_calls.specs.Links.Exchanges.{Exchanges};
 ghost use Rattle.cluster_steps.specs.Groups.{request_in};
 
@@ -11,7 +11,7 @@ use crate::asked::Asked;
 use crate::dispatch::request_of;
 use crate::links::Links;
 use crate::node_links::NodeLinks;
-use crate::ready::{Group, Ready};
+use crate::ready::{NodeRequests, Ready};
 use resp_core::{RedisError, Value};
 use resp_link::ConnectionLike;
 use std::alloc::Global;
@@ -24,15 +24,15 @@ pub fn exchange<L: ConnectionLike>(
     links: &mut Links<L>,
     alloc: Global,
     log: &mut Vec<Asked>,
-    group: Group,
+    group: NodeRequests,
 ) -> Result<Vec<Value>, RedisError>
-    requires within { group.which < vec_len links.old.nodes }
+    requires within { group.link < vec_len links.old.nodes }
     requires room { vec_len log.old + vec_len group.requests ≤ vec_capacity log.old }
     ensures len { vec_len links.new.nodes ≡ vec_len links.old.nodes }
     ensures log_len { vec_len log.new ≡ vec_len log.old + vec_len group.requests }
     ensures log_capacity { vec_capacity log.old ≤ vec_capacity log.new }
     ensures exchange { Exchanges (nodes L.seen links.old.nodes.items)
-        (nodes L.seen links.new.nodes.items) group.which log.old.items log.new.items
+        (nodes L.seen links.new.nodes.items) group.link log.old.items log.new.items
         group.requests.items 0 (vec_len group.requests) (tree_results view result) }
 {
     exchange_over(links, alloc, log, group)
@@ -43,25 +43,25 @@ pub fn exchange_over<K: NodeLinks>(
     links: &mut K,
     alloc: Global,
     log: &mut Vec<Asked>,
-    group: Group,
+    group: NodeRequests,
 ) -> Result<Vec<Value>, RedisError>
-    requires within { group.which < length (K.nodes links.old) }
+    requires within { group.link < length (K.nodes links.old) }
     requires room { vec_len log.old + vec_len group.requests ≤ vec_capacity log.old }
     ensures len { length (K.nodes links.new) ≡ length (K.nodes links.old) }
     ensures log_len { vec_len log.new ≡ vec_len log.old + vec_len group.requests }
     ensures log_capacity { vec_capacity log.old ≤ vec_capacity log.new }
     ensures exchange { Exchanges (K.nodes links.old)
-        (K.nodes links.new) group.which log.old.items log.new.items
+        (K.nodes links.new) group.link log.old.items log.new.items
         group.requests.items 0 (vec_len group.requests) (tree_results view result) }
 {
-    let Group {
-        which,
+    let NodeRequests {
+        link,
         mut requests,
         bytes,
     } = group;
     let count = requests.len();
     log.append(&mut requests).unwrap();
-    links.call(alloc, which, &bytes, 0, count)
+    links.call(alloc, link, &bytes, 0, count)
 }
 
 /// The exchange of one request, for which the log has room: its reply is the one behind that to ASKING.
@@ -71,14 +71,14 @@ pub fn exchange_one<L: ConnectionLike>(
     log: &mut Vec<Asked>,
     ready: Ready,
 ) -> Result<Value, RedisError>
-    requires within { ready.dispatch.place.which < vec_len links.old.nodes }
+    requires within { ready.dispatch.hop.link < vec_len links.old.nodes }
     requires room { vec_len log.old < vec_capacity log.old }
     ensures len { vec_len links.new.nodes ≡ vec_len links.old.nodes }
     ensures log_len { vec_len log.new ≡ vec_len log.old + 1 }
     ensures log_capacity { vec_capacity log.old ≤ vec_capacity log.new }
     ensures exchange { Exchanges (nodes L.seen links.old.nodes.items)
-        (nodes L.seen links.new.nodes.items) ready.dispatch.place.which log.old.items log.new.items
-        (request_in ready.dispatch ∷ []) (skipped ready.dispatch.place.asking) 1
+        (nodes L.seen links.new.nodes.items) ready.dispatch.hop.link log.old.items log.new.items
+        (request_in ready.dispatch ∷ []) (skipped ready.dispatch.hop.asking) 1
         (one_reply (tree_result view result)) }
 {
     exchange_one_over(links, alloc, log, ready)
@@ -91,39 +91,39 @@ pub fn exchange_one_over<K: NodeLinks>(
     log: &mut Vec<Asked>,
     ready: Ready,
 ) -> Result<Value, RedisError>
-    requires within { ready.dispatch.place.which < length (K.nodes links.old) }
+    requires within { ready.dispatch.hop.link < length (K.nodes links.old) }
     requires room { vec_len log.old < vec_capacity log.old }
     ensures len { length (K.nodes links.new) ≡ length (K.nodes links.old) }
     ensures log_len { vec_len log.new ≡ vec_len log.old + 1 }
     ensures log_capacity { vec_capacity log.old ≤ vec_capacity log.new }
     ensures exchange { Exchanges (K.nodes links.old)
-        (K.nodes links.new) ready.dispatch.place.which log.old.items log.new.items
-        (request_in ready.dispatch ∷ []) (skipped ready.dispatch.place.asking) 1
+        (K.nodes links.new) ready.dispatch.hop.link log.old.items log.new.items
+        (request_in ready.dispatch ∷ []) (skipped ready.dispatch.hop.asking) 1
         (one_reply (tree_result view result)) }
 {
     let Ready { dispatch, bytes } = ready;
-    let which = dispatch.place.which;
-    let asking = dispatch.place.asking;
+    let link = dispatch.hop.link;
+    let asking = dispatch.hop.asking;
     log.push(request_of(dispatch)).unwrap();
-    reply_to_one(links, alloc, which, &bytes, asking)
+    reply_to_one(links, alloc, link, &bytes, asking)
 }
 
 /// The reply to one request, which is the one behind that to ASKING where that was sent before it.
 fn reply_to_one<K: NodeLinks>(
     links: &mut K,
     alloc: Global,
-    which: usize,
+    link: usize,
     bytes: &[u8],
     asking: bool,
 ) -> Result<Value, RedisError>
-    requires { which < length (K.nodes links.old) }
-    ensures call { Calls (K.nodes links.old) (K.nodes links.new) which
+    requires { link < length (K.nodes links.old) }
+    ensures call { CallsLink (K.nodes links.old) (K.nodes links.new) link
         (λ before after. Called before after bytes.now (skipped asking) 1 (one_reply (tree_result view result))) }
     ensures len { length (K.nodes links.new) ≡ length (K.nodes links.old) }
 {
     if !asking {
-        return links.call_one(alloc, which, bytes);
+        return links.call_one(alloc, link, bytes);
     }
-    let mut replies = links.call(alloc, which, bytes, 1, 1)?;
+    let mut replies = links.call(alloc, link, bytes, 1, 1)?;
     Ok(replies.remove(0))
 }

@@ -8,13 +8,13 @@ ghost use Rattle.cluster_steps.specs.Numbers.{HasPlace, found};
 use crate::asked::Asked;
 use crate::dispatch::{Dispatch, request_of};
 use crate::numbers::Numbers;
-use crate::ready::{Group, bytes_of};
+use crate::ready::{NodeRequests, bytes_of};
 use std::alloc::{AllocError, Global};
 
 /// The requests to one place, before they are packed.
 #[derive(Drop)]
 struct Gathered {
-    which: usize,
+    link: usize,
     requests: Vec<Asked>,
 }
 
@@ -22,7 +22,7 @@ struct Gathered {
 #[derive(Drop)]
 pub struct NumberedGroups {
     /// One group for each place in use, packed, in the order in which the places are first used.
-    pub groups: Vec<Group>,
+    pub groups: Vec<NodeRequests>,
     /// For each request, in order, the number of its group.
     pub numbers: Vec<usize>,
 }
@@ -33,7 +33,7 @@ pub fn places_of(alloc: Global, dispatches: &[Dispatch]) -> Result<Vec<usize>, A
 {
     let mut places = Vec::with_capacity(alloc, dispatches.len())?;
     'dispatches: for dispatch in dispatches {
-        places.push(dispatch.place.which)?;
+        places.push(dispatch.hop.link)?;
     }
     Ok(places)
 }
@@ -43,24 +43,24 @@ fn number_of(
     alloc: Global,
     table: &mut Numbers,
     groups: &mut Vec<Gathered>,
-    which: usize,
+    link: usize,
 ) -> Result<usize, AllocError>
-    requires place { HasPlace table.old which }
+    requires place { HasPlace table.old link }
     requires numbered { AreNumbered (found table.old) (map gathered_of groups.old.items) }
     ensures number { IfOk result (λ number.
-        slice_get (places_in_use (map gathered_of groups.new.items)) number ≡ Some which) }
+        slice_get (places_in_use (map gathered_of groups.new.items)) number ≡ Some link) }
     ensures groups { OnOk result
-        (map gathered_of groups.new.items ≡ with_place (map gathered_of groups.old.items) which) }
+        (map gathered_of groups.new.items ≡ with_place (map gathered_of groups.old.items) link) }
     ensures numbered { OnOk result (AreNumbered (found table.new) (map gathered_of groups.new.items)) }
     ensures places { OnOk result ((k : ℕ) → HasPlace table.old k → HasPlace table.new k) }
 {
-    match table.get(which) {
+    match table.get(link) {
         Some(number) => Ok(number),
         None => {
             let number = groups.len();
-            table.insert(which, number)?;
+            table.insert(link, number)?;
             groups.push(Gathered {
-                which,
+                link,
                 requests: Vec::new(alloc),
             })?;
             Ok(number)
@@ -79,15 +79,15 @@ fn put(groups: &mut Vec<Gathered>, number: usize, request: Asked) -> Result<(), 
 }
 
 /// The groups with the bytes of each.
-fn packed(alloc: Global, all: Vec<Gathered>) -> Result<Vec<Group>, AllocError>
+fn packed(alloc: Global, all: Vec<Gathered>) -> Result<Vec<NodeRequests>, AllocError>
     ensures { IfOk result (λ v. map group_of v.items ≡ map gathered_of all.items) }
 {
     let mut groups = Vec::with_capacity(alloc, all.len())?;
     'gathered: for gathered in all {
-        let Gathered { which, requests } = gathered;
+        let Gathered { link, requests } = gathered;
         let bytes = bytes_of(alloc, &requests)?;
-        groups.push(Group {
-            which,
+        groups.push(NodeRequests {
+            link,
             requests,
             bytes,
         })?;
@@ -114,7 +114,7 @@ pub fn grouped(
     let mut gathered = Vec::new(alloc);
     let mut numbers = Vec::with_capacity(alloc, dispatches.len())?;
     'dispatches: for dispatch in dispatches {
-        let number = number_of(alloc, &mut table, &mut gathered, dispatch.place.which)?;
+        let number = number_of(alloc, &mut table, &mut gathered, dispatch.hop.link)?;
         put(&mut gathered, number, request_of(dispatch))?;
         numbers.push(number)?;
     }

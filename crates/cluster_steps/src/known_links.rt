@@ -1,7 +1,7 @@
 //! Links whose table, where there is one, has the address of each of them.
 ghost use Rattle.std.specs.Prelude.{◌≡◌, ◌<◌, ◌++◌, ◌∷◌, [], None, Some, is_some, not, option_map, slice_get, vec_len, IfSome, OnErr, OnOk};
 ghost use Rattle.cluster_routing.specs.Seen.{address};
-ghost use Rattle.cluster_calls.specs.Links.World.{Node, nodes, place_at, has_repeats, addresses_of, Calls};
+ghost use Rattle.cluster_calls.specs.Links.World.{Node, nodes, place_at, has_repeats, addresses_of, CallsLink};
 ghost use Rattle.resp_link.specs.TwoCalls.{Receives, Sends};
 
 use crate::at_once::{received_over, sent_over};
@@ -86,21 +86,21 @@ impl<L: ConnectionLike> KnownLinks<L> {
     }
 
     /// The link at this place.
-    pub fn link(&self, which: usize) -> &L
-        requires { which < vec_len self.now.nodes }
-        ensures { option_map (λ (node : Node). node.link) (slice_get (nodes L.seen self.now.nodes.items) which)
+    pub fn link(&self, index: usize) -> &L
+        requires { index < vec_len self.now.nodes }
+        ensures { option_map (λ (node : Node). node.link) (slice_get (nodes L.seen self.now.nodes.items) index)
             ≡ Some (L.seen result.now) }
     {
-        &self.links.nodes[which].1
+        &self.links.nodes[index].1
     }
 
     /// Puts a link in the place of the one that stands there, which is handed back.
-    pub fn replace(&mut self, which: usize, link: L) -> L
-        requires { which < vec_len self.old.nodes }
-        ensures { Calls (nodes L.seen self.old.nodes.items) (nodes L.seen self.new.nodes.items) which
+    pub fn replace(&mut self, index: usize, link: L) -> L
+        requires { index < vec_len self.old.nodes }
+        ensures { CallsLink (nodes L.seen self.old.nodes.items) (nodes L.seen self.new.nodes.items) index
             (λ before after. (before ≡ L.seen result) × (after ≡ L.seen link)) }
     {
-        replaced(&mut self.links.nodes, which, link)
+        replaced(&mut self.links.nodes, index, link)
     }
 
     /// Makes the table of many nodes that have none. Where memory is refused, they go without.
@@ -113,28 +113,28 @@ impl<L: ConnectionLike> KnownLinks<L> {
 
 impl<L: PipelinedLink> KnownLinks<L> {
     /// Sends the bytes over the link at this place, which owes their replies then.
-    pub fn send(&mut self, which: usize, bytes: &[u8]) -> Result<(), RedisError>
-        requires { which < vec_len self.old.nodes }
-        ensures call { Calls (nodes L.seen self.old.nodes.items) (nodes L.seen self.new.nodes.items) which
+    pub fn send(&mut self, link: usize, bytes: &[u8]) -> Result<(), RedisError>
+        requires { link < vec_len self.old.nodes }
+        ensures call { CallsLink (nodes L.seen self.old.nodes.items) (nodes L.seen self.new.nodes.items) link
             (λ before after. Sends before after bytes.now result) }
         ensures len { vec_len self.new.nodes ≡ vec_len self.old.nodes }
     {
-        sent_over(&mut self.links.nodes, which, bytes)
+        sent_over(&mut self.links.nodes, link, bytes)
     }
 
     /// Takes so many replies that the link at this place owes.
     pub fn receive(
         &mut self,
         alloc: Global,
-        which: usize,
+        link: usize,
         count: usize,
     ) -> Result<Vec<Value>, RedisError>
-        requires { which < vec_len self.old.nodes }
-        ensures call { Calls (nodes L.seen self.old.nodes.items) (nodes L.seen self.new.nodes.items) which
+        requires { link < vec_len self.old.nodes }
+        ensures call { CallsLink (nodes L.seen self.old.nodes.items) (nodes L.seen self.new.nodes.items) link
             (λ before after. Receives before after count result) }
         ensures len { vec_len self.new.nodes ≡ vec_len self.old.nodes }
     {
-        received_over(&mut self.links.nodes, alloc, which, count)
+        received_over(&mut self.links.nodes, alloc, link, count)
     }
 }
 
@@ -151,22 +151,22 @@ impl<L: ConnectionLike> NodeLinks for KnownLinks<L> {
         }
     }
 
-    fn is_open_at(&self, which: usize) -> bool {
-        self.links.is_open_at(which)
+    fn is_open_at(&self, index: usize) -> bool {
+        self.links.is_open_at(index)
     }
 
     fn call(
         &mut self,
         alloc: Global,
-        which: usize,
+        link: usize,
         bytes: &[u8],
         offset: usize,
         count: usize,
     ) -> Result<Vec<Value>, RedisError> {
-        called(&mut self.links.nodes, alloc, which, bytes, offset, count)
+        called(&mut self.links.nodes, alloc, link, bytes, offset, count)
     }
 
-    fn call_one(&mut self, alloc: Global, which: usize, bytes: &[u8]) -> Result<Value, RedisError> {
-        called_one(&mut self.links.nodes, alloc, which, bytes)
+    fn call_one(&mut self, alloc: Global, link: usize, bytes: &[u8]) -> Result<Value, RedisError> {
+        called_one(&mut self.links.nodes, alloc, link, bytes)
     }
 }

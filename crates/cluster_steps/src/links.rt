@@ -5,7 +5,7 @@ ghost use Rattle.std.specs.Prelude.{◌≡◌, ◌<◌, ◌++◌, ◌∷◌, [],
 ghost use Rattle.resp_core.specs.View.{view};
 ghost use Rattle.cluster_routing.specs.Address.{same_address};
 ghost use Rattle.cluster_routing.specs.Seen.{address, addresses};
-ghost use Rattle.cluster_calls.specs.Links.World.{nodes, open_links, place_at, is_linked, has_repeats, addresses_of, Calls, Called, one_reply, tree_result, tree_results};
+ghost use Rattle.cluster_calls.specs.Links.World.{nodes, open_links, place_at, is_linked, has_repeats, addresses_of, CallsLink, Called, one_reply, tree_result, tree_results};
 ghost use Rattle.cluster_calls.specs.Links.Places.{IsOpenAt};
 ghost use Rattle.cluster_steps.specs.LinkTable.{knows_all, knows_links};
 ghost use Rattle.cluster_steps.specs.declared.links.Told.TheVariants.{Absent};
@@ -101,12 +101,12 @@ impl<L: ConnectionLike + Drop> Links<L> {
 
 impl<L: ConnectionLike> Links<L> {
     /// Puts a link in the place of the one that stands there, which is handed back.
-    pub fn replace(&mut self, which: usize, link: L) -> L
-        requires { which < vec_len self.old.nodes }
-        ensures { Calls (nodes L.seen self.old.nodes.items) (nodes L.seen self.new.nodes.items) which
+    pub fn replace(&mut self, index: usize, link: L) -> L
+        requires { index < vec_len self.old.nodes }
+        ensures { CallsLink (nodes L.seen self.old.nodes.items) (nodes L.seen self.new.nodes.items) index
             (λ before after. (before ≡ L.seen result) × (after ≡ L.seen link)) }
     {
-        replaced(&mut self.nodes, which, link)
+        replaced(&mut self.nodes, index, link)
     }
 
     /// The table learns of a node that is to come behind the others. Where memory is refused, it is dropped.
@@ -142,7 +142,7 @@ impl<L: ConnectionLike> Links<L> {
     /// The place of a node.
     pub fn place_of(&self, node: &NodeAddress) -> Option<usize>
         ensures place { result ≡ place_at (nodes L.seen self.now.nodes.items) (address node.now) }
-        ensures within { IfSome result (λ which. which < vec_len self.now.nodes) }
+        ensures within { IfSome result (λ link. link < vec_len self.now.nodes) }
     {
         self.place_by(self.told(node), node)
     }
@@ -157,7 +157,7 @@ impl<L: ConnectionLike> Links<L> {
             None => Told::Nothing,
             Some(table) => match table.get_index_of(node) {
                 None => Told::Absent,
-                Some(which) => Told::At(which),
+                Some(link) => Told::At(link),
             },
         }
     }
@@ -165,25 +165,25 @@ impl<L: ConnectionLike> Links<L> {
     /// The place of a node, by what the table told, or else looked for.
     pub(crate) fn place_by(&self, told: Told, node: &NodeAddress) -> Option<usize>
         ensures place { result ≡ place_at (nodes L.seen self.now.nodes.items) (address node.now) }
-        ensures within { IfSome result (λ which. which < vec_len self.now.nodes) }
+        ensures within { IfSome result (λ link. link < vec_len self.now.nodes) }
     {
-        if let Told::At(which) = told {
-            if let Some(which) = self.told_place(which, node) {
-                return Some(which);
+        if let Told::At(link) = told {
+            if let Some(link) = self.told_place(link, node) {
+                return Some(link);
             }
         }
         place_of(&self.nodes, node)
     }
 
     /// The place that the table told, where the node does stand there.
-    fn told_place(&self, which: usize, node: &NodeAddress) -> Option<usize>
+    fn told_place(&self, index: usize, node: &NodeAddress) -> Option<usize>
         ensures place { IfSome result
-            (λ which. place_at (nodes L.seen self.now.nodes.items) (address node.now) ≡ Some which) }
-        ensures within { IfSome result (λ which. which < vec_len self.now.nodes) }
+            (λ index. place_at (nodes L.seen self.now.nodes.items) (address node.now) ≡ Some index) }
+        ensures within { IfSome result (λ index. index < vec_len self.now.nodes) }
     {
-        let link = self.nodes.get(which)?;
+        let link = self.nodes.get(index)?;
         if is_same(&link.0, node) {
-            Some(which)
+            Some(index)
         } else {
             None
         }
@@ -193,8 +193,8 @@ impl<L: ConnectionLike> Links<L> {
     pub fn open_place(&self, node: &NodeAddress) -> Option<usize>
         ensures place { MatchOption result
             (is_linked (open_links (nodes L.seen self.now.nodes.items)) (address node.now) ≡ false)
-            (λ which. IsOpenAt (nodes L.seen self.now.nodes.items) (address node.now) which) }
-        ensures within { IfSome result (λ which. which < vec_len self.now.nodes) }
+            (λ link. IsOpenAt (nodes L.seen self.now.nodes.items) (address node.now) link) }
+        ensures within { IfSome result (λ link. link < vec_len self.now.nodes) }
     {
         NodeLinks::open_place(self, node)
     }
@@ -204,32 +204,32 @@ impl<L: ConnectionLike> Links<L> {
     pub fn call(
         &mut self,
         alloc: Global,
-        which: usize,
+        link: usize,
         bytes: &[u8],
         offset: usize,
         count: usize,
     ) -> Result<Vec<Value>, RedisError>
-        requires { which < vec_len self.old.nodes }
-        ensures call { Calls (nodes L.seen self.old.nodes.items) (nodes L.seen self.new.nodes.items) which
+        requires { link < vec_len self.old.nodes }
+        ensures call { CallsLink (nodes L.seen self.old.nodes.items) (nodes L.seen self.new.nodes.items) link
             (λ before after. Called before after bytes.now offset count (tree_results view result)) }
         ensures len { vec_len self.new.nodes ≡ vec_len self.old.nodes }
     {
-        called(&mut self.nodes, alloc, which, bytes, offset, count)
+        called(&mut self.nodes, alloc, link, bytes, offset, count)
     }
 
     /// One link call of the node at this place for one reply: it sends the bytes, and answers their reply.
     pub fn call_one(
         &mut self,
         alloc: Global,
-        which: usize,
+        link: usize,
         bytes: &[u8],
     ) -> Result<Value, RedisError>
-        requires { which < vec_len self.old.nodes }
-        ensures call { Calls (nodes L.seen self.old.nodes.items) (nodes L.seen self.new.nodes.items) which
+        requires { link < vec_len self.old.nodes }
+        ensures call { CallsLink (nodes L.seen self.old.nodes.items) (nodes L.seen self.new.nodes.items) link
             (λ before after. Called before after bytes.now 0 1 (one_reply (tree_result view result))) }
         ensures len { vec_len self.new.nodes ≡ vec_len self.old.nodes }
     {
-        called_one(&mut self.nodes, alloc, which, bytes)
+        called_one(&mut self.nodes, alloc, link, bytes)
     }
 }
 
@@ -242,53 +242,53 @@ impl<L: ConnectionLike> NodeLinks for Links<L> {
         Links::place_of(self, node)
     }
 
-    fn is_open_at(&self, which: usize) -> bool {
-        self.nodes[which].1.is_open()
+    fn is_open_at(&self, index: usize) -> bool {
+        self.nodes[index].1.is_open()
     }
 
     fn call(
         &mut self,
         alloc: Global,
-        which: usize,
+        link: usize,
         bytes: &[u8],
         offset: usize,
         count: usize,
     ) -> Result<Vec<Value>, RedisError> {
-        Links::call(self, alloc, which, bytes, offset, count)
+        Links::call(self, alloc, link, bytes, offset, count)
     }
 
-    fn call_one(&mut self, alloc: Global, which: usize, bytes: &[u8]) -> Result<Value, RedisError> {
-        Links::call_one(self, alloc, which, bytes)
+    fn call_one(&mut self, alloc: Global, link: usize, bytes: &[u8]) -> Result<Value, RedisError> {
+        Links::call_one(self, alloc, link, bytes)
     }
 }
 
 /// Puts a link in the place of the one that stands there, which is handed back.
 pub(crate) fn replaced<L: ConnectionLike>(
     links: &mut [(NodeAddress, L)],
-    which: usize,
+    index: usize,
     link: L,
 ) -> L
-    requires { which < length links.old }
-    ensures { Calls (nodes L.seen links.old) (nodes L.seen links.new) which
+    requires { index < length links.old }
+    ensures { CallsLink (nodes L.seen links.old) (nodes L.seen links.new) index
         (λ before after. (before ≡ L.seen result) × (after ≡ L.seen link)) }
 {
-    mem::replace(&mut links[which].1, link)
+    mem::replace(&mut links[index].1, link)
 }
 
 /// One link call of the node at this place.
 pub(crate) fn called<L: ConnectionLike>(
     links: &mut [(NodeAddress, L)],
     alloc: Global,
-    which: usize,
+    index: usize,
     bytes: &[u8],
     offset: usize,
     count: usize,
 ) -> Result<Vec<Value>, RedisError>
-    requires { which < length links.old }
-    ensures { Calls (nodes L.seen links.old) (nodes L.seen links.new) which
+    requires { index < length links.old }
+    ensures { CallsLink (nodes L.seen links.old) (nodes L.seen links.new) index
         (λ before after. Called before after bytes.now offset count (tree_results view result)) }
 {
-    let link = &mut links[which].1;
+    let link = &mut links[index].1;
     call(link, alloc, bytes, offset, count)
 }
 
@@ -308,14 +308,14 @@ fn call<L: ConnectionLike>(
 pub(crate) fn called_one<L: ConnectionLike>(
     links: &mut [(NodeAddress, L)],
     alloc: Global,
-    which: usize,
+    index: usize,
     bytes: &[u8],
 ) -> Result<Value, RedisError>
-    requires { which < length links.old }
-    ensures { Calls (nodes L.seen links.old) (nodes L.seen links.new) which
+    requires { index < length links.old }
+    ensures { CallsLink (nodes L.seen links.old) (nodes L.seen links.new) index
         (λ before after. Called before after bytes.now 0 1 (one_reply (tree_result view result))) }
 {
-    let link = &mut links[which].1;
+    let link = &mut links[index].1;
     call_one(link, alloc, bytes)
 }
 
@@ -338,7 +338,7 @@ fn is_same(one: &NodeAddress, other: &NodeAddress) -> bool
 /// The first place at which the address stands.
 fn first_of<L: ConnectionLike>(links: &[(NodeAddress, L)], node: &NodeAddress) -> Option<usize>
     ensures first { result ≡ position (λ link. same_address (address link.0) (address node.now)) links.now }
-    ensures within { IfSome result (λ which. which < length links.now) }
+    ensures within { IfSome result (λ index. index < length links.now) }
 {
     links.iter().position(|link| is_same(&link.0, node))
 }
@@ -346,7 +346,7 @@ fn first_of<L: ConnectionLike>(links: &[(NodeAddress, L)], node: &NodeAddress) -
 /// The place of a node.
 fn place_of<L: ConnectionLike>(links: &[(NodeAddress, L)], node: &NodeAddress) -> Option<usize>
     ensures place { result ≡ place_at (nodes L.seen links.now) (address node.now) }
-    ensures within { IfSome result (λ which. which < length links.now) }
+    ensures within { IfSome result (λ link. link < length links.now) }
 {
     first_of(links, node)
 }
@@ -362,8 +362,8 @@ fn is_among<L: ConnectionLike>(links: &[(NodeAddress, L)], node: &NodeAddress) -
 fn repeats_behind<L: ConnectionLike>(links: &[(NodeAddress, L)]) -> bool
     ensures { result ≡ has_repeats (addresses_of (nodes L.seen links.now)) }
 {
-    'links: for (which, link) in links.iter().enumerate() {
-        if is_among(&links[which + 1..], &link.0) {
+    'links: for (index, link) in links.iter().enumerate() {
+        if is_among(&links[index + 1..], &link.0) {
             return true;
         }
     }

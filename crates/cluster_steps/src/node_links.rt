@@ -2,7 +2,7 @@
 ghost use Rattle.std.specs.Prelude.{◌≡◌, ◌<◌, Some, false, length, option_map, slice_get, IfSome, MatchOption};
 ghost use Rattle.resp_core.specs.View.{view};
 ghost use Rattle.cluster_routing.specs.Seen.{address};
-ghost use Rattle.cluster_calls.specs.Links.World.{open_links, is_linked, place_at, Calls, Called, one_reply, tree_result, tree_results};
+ghost use Rattle.cluster_calls.specs.Links.World.{open_links, is_linked, place_at, CallsLink, Called, one_reply, tree_result, tree_results};
 ghost use Rattle.cluster_calls.specs.Links.Places.{IsOpenAt};
 
 use cluster_routing::NodeAddress;
@@ -20,32 +20,32 @@ pub trait NodeLinks {
     /// The place of a node.
     fn place_of(&self, node: &NodeAddress) -> Option<usize>
         ensures place { result ≡ place_at (nodes self.now) (address node.now) }
-        ensures within { IfSome result (λ which. which < length (nodes self.now)) };
+        ensures within { IfSome result (λ link. link < length (nodes self.now)) };
 
     /// Whether the link at this place is open.
-    fn is_open_at(&self, which: usize) -> bool
-        requires { which < length (nodes self.now) }
-        ensures { option_map (λ (node : Node). node.link.usable) (slice_get (nodes self.now) which) ≡ Some result };
+    fn is_open_at(&self, index: usize) -> bool
+        requires { index < length (nodes self.now) }
+        ensures { option_map (λ (node : Node). node.link.usable) (slice_get (nodes self.now) index) ≡ Some result };
 
     /// One link call of the node at this place: it sends the bytes, drops `offset` replies, and
     /// answers the `count` replies behind them.
     fn call(
         &mut self,
         alloc: Global,
-        which: usize,
+        link: usize,
         bytes: &[u8],
         offset: usize,
         count: usize,
     ) -> Result<Vec<Value>, RedisError>
-        requires { which < length (nodes self.old) }
-        ensures call { Calls (nodes self.old) (nodes self.new) which
+        requires { link < length (nodes self.old) }
+        ensures call { CallsLink (nodes self.old) (nodes self.new) link
             (λ before after. Called before after bytes.now offset count (tree_results view result)) }
         ensures len { length (nodes self.new) ≡ length (nodes self.old) };
 
     /// One link call of the node at this place for one reply: it sends the bytes, and answers their reply.
-    fn call_one(&mut self, alloc: Global, which: usize, bytes: &[u8]) -> Result<Value, RedisError>
-        requires { which < length (nodes self.old) }
-        ensures call { Calls (nodes self.old) (nodes self.new) which
+    fn call_one(&mut self, alloc: Global, link: usize, bytes: &[u8]) -> Result<Value, RedisError>
+        requires { link < length (nodes self.old) }
+        ensures call { CallsLink (nodes self.old) (nodes self.new) link
             (λ before after. Called before after bytes.now 0 1 (one_reply (tree_result view result))) }
         ensures len { length (nodes self.new) ≡ length (nodes self.old) };
 
@@ -53,14 +53,14 @@ pub trait NodeLinks {
     fn open_place(&self, node: &NodeAddress) -> Option<usize>
         ensures place { MatchOption result
             (is_linked (open_links (nodes self.now)) (address node.now) ≡ false)
-            (λ which. IsOpenAt (nodes self.now) (address node.now) which) }
-        ensures within { IfSome result (λ which. which < length (nodes self.now)) }
+            (λ link. IsOpenAt (nodes self.now) (address node.now) link) }
+        ensures within { IfSome result (λ link. link < length (nodes self.now)) }
     {
-        let Some(which) = self.place_of(node) else {
+        let Some(link) = self.place_of(node) else {
             return None;
         };
-        if self.is_open_at(which) {
-            Some(which)
+        if self.is_open_at(link) {
+            Some(link)
         } else {
             None
         }

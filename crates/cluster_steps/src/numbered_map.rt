@@ -8,7 +8,7 @@ ghost use Rattle.cluster_routing.specs.Seen.{address};
 ghost use Rattle.cluster_calls.specs.Calls.Plan.{by_number};
 ghost use Rattle.cluster_steps.specs.FirstPlaces.{node_by, node_by_place};
 
-use crate::place::{item_among, node_by_number};
+use crate::hop::{item_among, node_by_number};
 use cluster_routing::{NodeAddress, NodePlace, SlotMap};
 use resp_core::{Cause, RedisError};
 use std::alloc::Global;

@@ -32,30 +32,30 @@ impl Numbers {
     }
 
     /// The number of a place, if it has one.
-    pub(crate) fn get(&self, which: usize) -> Option<usize>
-        requires { HasPlace self.now which }
-        ensures { result ≡ found self.now which }
+    pub(crate) fn get(&self, link: usize) -> Option<usize>
+        requires { HasPlace self.now link }
+        ensures { result ≡ found self.now link }
     {
         match self {
-            Numbers::ByPlace(list) => list[which],
-            Numbers::InUse(table) => table.get(&which).copied(),
+            Numbers::ByPlace(list) => list[link],
+            Numbers::InUse(table) => table.get(&link).copied(),
         }
     }
 
     /// Gives a place a number.
-    pub(crate) fn insert(&mut self, which: usize, number: usize) -> Result<(), AllocError>
-        requires { HasPlace self.old which }
+    pub(crate) fn insert(&mut self, link: usize, number: usize) -> Result<(), AllocError>
+        requires { HasPlace self.old link }
         ensures given { OnOk result ((k : ℕ)
-            → found self.new k ≡ (if k == which then Some number else found self.old k)) }
+            → found self.new k ≡ (if k == link then Some number else found self.old k)) }
         ensures places { OnOk result ((k : ℕ) → HasPlace self.old k → HasPlace self.new k) }
     {
         match self {
             Numbers::ByPlace(list) => {
-                list[which] = Some(number);
+                list[link] = Some(number);
                 Ok(())
             }
             Numbers::InUse(table) => {
-                table.insert(which, number)?;
+                table.insert(link, number)?;
                 Ok(())
             }
         }

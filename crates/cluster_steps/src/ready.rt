@@ -14,13 +14,13 @@ use std::alloc::{AllocError, Global};
 pub struct Ready {
     pub dispatch: Dispatch,
     pub bytes: Vec<u8>,
-    ghost packed: { bytes.items ≡ outgoing_for dispatch.place.asking (texts dispatch.args.items) },
+    ghost packed: { bytes.items ≡ outgoing_for dispatch.hop.asking (texts dispatch.args.items) },
 }
 
 /// The requests that go out over the link at one place, and their bytes.
 #[derive(Drop)]
-pub struct Group {
-    pub which: usize,
+pub struct NodeRequests {
+    pub link: usize,
     pub requests: Vec<Asked>,
     pub bytes: Vec<u8>,
     ghost packed: { bytes.items ≡ bytes_of requests.items },
@@ -80,7 +80,7 @@ fn outgoing_for(alloc: Global, args: &[Vec<u8>], asking: bool) -> Result<Vec<u8>
 fn packed(alloc: Global, dispatch: Dispatch) -> Result<Ready, AllocError>
     ensures { IfOk result (λ r. r.dispatch ≡ dispatch) }
 {
-    let bytes = outgoing_for(alloc, &dispatch.args, dispatch.place.asking)?;
+    let bytes = outgoing_for(alloc, &dispatch.args, dispatch.hop.asking)?;
     Ok(Ready { dispatch, bytes })
 }
 

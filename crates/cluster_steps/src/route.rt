@@ -1,18 +1,17 @@
-//! The parts of a command, and where each of them is to go.
-ghost use Rattle.std.specs.List.{list_any};
-ghost use Rattle.std.specs.Prelude.{ℕ, ◌≡◌, ◌≢◌, ◌++◌, Err, map, option_map, true, false, IfOk};
-ghost use Rattle.resp_args.specs.Left.{shown};
+//! Where a command goes, and its parts as they stand on the wire.
+ghost use Rattle.std.specs.Prelude.{◌≡◌, ◌≢◌, ◌++◌, Err, is_some, map, option_map, false, IfOk};
 ghost use Rattle.resp_core.specs.Errors.{by_cause};
 ghost use Rattle.resp_core.specs.declared.errors.redis_error.Cause.TheVariants.{Memory};
 ghost use Rattle.resp_args.specs.Packed.{sent};
-ghost use Rattle.cluster_routing.specs.Info.{shown_routed, shown_split, texts};
-ghost use Rattle.cluster_routing.specs.Split.{has_split_word, parts_by_place};
-ghost use Rattle.cluster_calls.specs.Calls.Parts.{is_gap, parts_of};
-ghost use Rattle.cluster_steps.specs.CodeParts.{IsSplitBy, IsWholePart, part_targets, parts_by, routed_part, split_in, targets_by};
-ghost use Rattle.cluster_steps.specs.FirstPlaces.{is_split, one_part, part_by, part_of, target_by, target_of};
+ghost use Rattle.cluster_routing.specs.Directions.{parts_in, shown_direction};
+ghost use Rattle.cluster_routing.specs.Info.{shown_parts, shown_routed, shown_split, texts};
+ghost use Rattle.cluster_routing.specs.Split.{IsOwnSplitting, has_split_word, parts_by_place};
+ghost use Rattle.cluster_calls.specs.Calls.Parts.{part_to, parts_of};
+ghost use Rattle.cluster_steps.specs.CodeParts.{part_targets, routed_at, routed_part, split_in, targets_by, targets_in_direction};
+ghost use Rattle.cluster_steps.specs.FirstPlaces.{part_of, target_of};
 
 use cluster_routing::{Direction, Route, SplitParts};
-use resp_args::{Arg, ArgsIter, Cmd};
+use resp_args::Cmd;
 use resp_core::{Cause, RedisError};
 use std::alloc::{AllocError, Global};
 
@@ -32,13 +31,6 @@ pub struct Part {
     pub args: Vec<Vec<u8>>,
 }
 
-/// The parts of a command, and how the replies of a split one become one.
-#[derive(Drop)]
-pub struct Parts {
-    pub list: Vec<Part>,
-    pub split: Option<SplitParts>,
-}
-
 /// Where the parts of a command are to go.
 #[derive(Drop)]
 pub enum Targets {
@@ -48,36 +40,13 @@ pub enum Targets {
     Split(SplitParts),
 }
 
-/// The parts of a command.
+/// Where the parts of a command are to go, by one look into the routing table. No argument is copied.
 ///
 /// # Errors
 /// `NoResponse` for a command that waits for none; for one whose word is split by its keys,
 /// `CursorInSplit` where an argument is a gap, and `BrokenTuples` where its last tuple is broken or
 /// it has none; `NoRoute` for one that goes nowhere or to several nodes by the routing table;
 /// `Memory`.
-pub fn parts_of(
-    alloc: Global,
-    cmd: &Cmd,
-    read_only: &[Vec<u8>],
-    number: u64,
-) -> Result<Parts, RedisError>
-    ensures parts { result ≢ Err (by_cause Memory)
-        → parts_by result ≡ parts_of (texts read_only.now) cmd.now number }
-    ensures split { IfOk result
-        (λ p. option_map shown_split p.split ≡ parts_by_place cmd.now.args (texts read_only.now)) }
-{
-    let Some(part) = whole_part(alloc, cmd, read_only, number)? else {
-        return split_parts(alloc, cmd, read_only);
-    };
-    let mut list = Vec::new(alloc);
-    list.push(part)?;
-    Ok(Parts { list, split: None })
-}
-
-/// Where the parts of a command are to go. No argument is copied.
-///
-/// # Errors
-/// As `parts_of`.
 pub fn targets_of(
     alloc: Global,
     cmd: &Cmd,
@@ -88,122 +57,71 @@ pub fn targets_of(
         → targets_by result ≡ part_targets (parts_of (texts read_only.now) cmd.now number) }
     ensures split { IfOk result
         (λ t. option_map shown_split (split_in t) ≡ parts_by_place cmd.now.args (texts read_only.now)) }
+    ensures word { IfOk result (λ t. is_some (split_in t) ≡ has_split_word cmd.now.args) }
+    ensures response { IfOk result (λ _. cmd.now.no_response ≡ false) }
 {
     if cmd.is_no_response() {
         return Err(RedisError::from(Cause::NoResponse));
     }
     let direction = Direction::for_routable(alloc, cmd, read_only)?;
-    if is_split(direction) {
-        return match split_of(alloc, cmd, read_only) {
-            Ok(split) => Ok(Targets::Split(split)),
-            Err(e) => Err(e),
-        };
-    }
-    match target_in(direction, number) {
-        Some(target) => Ok(Targets::Whole(target)),
-        None => Err(RedisError::from(Cause::NoRoute)),
-    }
+    let targets = targets_by(direction, number)?;
+    Ok(targets)
 }
 
-/// The one part of a command that is not split by its keys: the command whole. `None` for a command that is.
+/// Where the parts of a command are to go that goes this way.
 ///
 /// # Errors
-/// As `parts_of` for a command of a word that is not split: `NoResponse`, `NoRoute`; `Memory`.
-pub fn whole_part(
-    alloc: Global,
-    cmd: &Cmd,
-    read_only: &[Vec<u8>],
-    number: u64,
-) -> Result<Option<Part>, RedisError>
-    ensures { result ≢ Err (by_cause Memory)
-        → IsWholePart (texts read_only.now) cmd.now number result }
-{
-    if cmd.is_no_response() {
-        return Err(RedisError::from(Cause::NoResponse));
-    }
-    let direction = Direction::for_routable(alloc, cmd, read_only)?;
-    if is_split(direction) {
-        return Ok(None);
-    }
-    Ok(Some(only_part(alloc, cmd, direction, number)?))
-}
-
-fn is_split(direction: Direction) -> bool
-    ensures { result ≡ is_split direction }
+/// Why it goes nowhere; `NoRoute` where it goes to several nodes by the routing table.
+pub fn targets_by(direction: Direction, number: u64) -> Result<Targets, RedisError>
+    ensures targets { targets_by result ≡ targets_in_direction number (shown_direction direction) }
+    ensures split { IfOk result
+        (λ t. option_map shown_split (split_in t) ≡ parts_in (shown_direction direction)) }
 {
     match direction {
-        Direction::SplitByKeys => true,
-        Direction::Slot(_) | Direction::AnyNode | Direction::Elsewhere => false,
-    }
-}
-
-/// Whether an argument is a gap.
-fn has_gap(args: ArgsIter<'_>) -> bool
-    ensures { result ≡ list_any is_gap args.entry }
-{
-    'arguments: for arg in args {
-        if is_gap(arg) {
-            return true;
+        Direction::Slot(route) => Ok(Targets::Whole(Target::Slot(route))),
+        Direction::AnyNode => Ok(Targets::Whole(Target::Number(number))),
+        Direction::Parts(split) => Ok(Targets::Split(split)),
+        Direction::Nowhere(cause) => Err(RedisError::from(cause)),
+        Direction::AllNodes(_) | Direction::AllPrimaries(_) => {
+            Err(RedisError::from(Cause::NoRoute))
         }
     }
-    false
 }
 
-fn is_gap(arg: Arg<&[u8]>) -> bool
-    ensures { result ≡ is_gap (shown arg.entry) }
+/// The one part of a command that goes whole.
+///
+/// # Errors
+/// `AllocError` where memory is refused.
+pub fn whole_part(cmd: &Cmd, target: Target) -> Result<Part, AllocError>
+    ensures { IfOk result (λ p. part_of p ≡ part_to (sent cmd.now) (target_of target)) }
 {
-    match arg {
-        Arg::Simple(_) => false,
-        Arg::Cursor => true,
-    }
-}
-
-/// How a command is split whose word is split by its keys.
-fn split_of(alloc: Global, cmd: &Cmd, read_only: &[Vec<u8>]) -> Result<SplitParts, RedisError>
-    requires word { has_split_word cmd.now.args ≡ true }
-    requires response { cmd.now.no_response ≡ false }
-    ensures { result ≢ Err (by_cause Memory) → (number : ℕ)
-        → IsSplitBy (texts read_only.now) cmd.now number result }
-{
-    if has_gap(cmd.args_iter()) {
-        return Err(RedisError::from(Cause::CursorInSplit));
-    }
-    match SplitParts::for_routable(alloc, cmd, read_only)? {
-        Some(split) => Ok(split),
-        None => Err(RedisError::from(Cause::BrokenTuples)),
-    }
-}
-
-/// The parts of a command whose word is split by its keys: one for each of their slots.
-fn split_parts(alloc: Global, cmd: &Cmd, read_only: &[Vec<u8>]) -> Result<Parts, RedisError>
-    requires word { has_split_word cmd.now.args ≡ true }
-    requires response { cmd.now.no_response ≡ false }
-    ensures parts { result ≢ Err (by_cause Memory) → (number : ℕ)
-        → parts_by result ≡ parts_of (texts read_only.now) cmd.now number }
-    ensures split { IfOk result
-        (λ p. option_map shown_split p.split ≡ parts_by_place cmd.now.args (texts read_only.now)) }
-{
-    let split = match split_of(alloc, cmd, read_only) {
-        Ok(split) => split,
-        Err(e) => return Err(e),
-    };
-    let routed = split.routed_args(alloc, cmd)?;
-    let mut list = Vec::with_capacity(alloc, routed.len())?;
-    push_parts(&mut list, routed)?;
-    Ok(Parts {
-        list,
-        split: Some(split),
+    Ok(Part {
+        target,
+        args: cmd.wire_args()?,
     })
 }
 
-/// Puts a part for each route, with its arguments, behind what there is.
+/// Puts the parts of a command that is split this way behind what there is.
 ///
 /// # Errors
-/// `AllocError` where memory is refused; the parts before that one may then stand there.
-pub fn push_parts(
+/// `AllocError` where memory is refused; some of the parts may then stand there.
+pub fn push_split(
+    alloc: Global,
     parts: &mut Vec<Part>,
-    routed: Vec<(Route, Vec<Vec<u8>>)>,
+    cmd: &Cmd,
+    split: &SplitParts,
 ) -> Result<(), AllocError>
+    requires { IsOwnSplitting cmd.now.args (shown_split split.now).splitting }
+    ensures { IfOk result
+        (λ _. map part_of parts.new.items ≡ map part_of parts.old.items
+        ++ map routed_part (map (routed_at cmd.now.args) (shown_parts split.now.routes.items))) }
+{
+    let routed = split.own_routed_args(alloc, cmd)?;
+    push_parts(parts, routed)
+}
+
+/// Puts a part for each route, with its arguments, behind what there is.
+fn push_parts(parts: &mut Vec<Part>, routed: Vec<(Route, Vec<Vec<u8>>)>) -> Result<(), AllocError>
     ensures { IfOk result
         (λ _. map part_of parts.new.items
         ≡ map part_of parts.old.items ++ map routed_part (shown_routed routed.items)) }
@@ -215,34 +133,4 @@ pub fn push_parts(
         })?;
     }
     Ok(())
-}
-
-/// The target of a command that goes to one node; `None` for every other.
-fn target_in(direction: Direction, number: u64) -> Option<Target>
-    ensures { option_map target_of result ≡ target_by number direction }
-{
-    match direction {
-        Direction::Slot(route) => Some(Target::Slot(route)),
-        Direction::AnyNode => Some(Target::Number(number)),
-        Direction::SplitByKeys | Direction::Elsewhere => None,
-    }
-}
-
-/// The one part of a command that is not split: the command whole.
-fn only_part(
-    alloc: Global,
-    cmd: &Cmd,
-    direction: Direction,
-    number: u64,
-) -> Result<Part, RedisError>
-    ensures { result ≢ Err (by_cause Memory)
-        → one_part result ≡ part_by (sent cmd.now) (target_by number direction) }
-{
-    let Some(target) = target_in(direction, number) else {
-        return Err(RedisError::from(Cause::NoRoute));
-    };
-    Ok(Part {
-        target,
-        args: cmd.wire_args()?,
-    })
 }

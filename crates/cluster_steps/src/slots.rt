@@ -11,7 +11,7 @@ ghost use Rattle.cluster_calls.specs.Links.Request.{slots_command};
 ghost use Rattle.cluster_steps.specs.Groups.{request_in};
 
 use crate::dispatch::Dispatch;
-use crate::place::Place;
+use crate::hop::Hop;
 use cluster_routing::{NodeAddress, SlotMap, parse_slots, slot_cmd};
 use resp_core::{RedisError, Value};
 use std::alloc::{AllocError, Global};
@@ -20,19 +20,19 @@ use std::alloc::{AllocError, Global};
 pub fn slots_dispatch(
     alloc: Global,
     node: &NodeAddress,
-    which: usize,
+    link: usize,
 ) -> Result<Dispatch, AllocError>
     ensures request { IfOk result
         (λ d. request_in d ≡ record { node = address node.now; args = slots_command; asking = false }) }
-    ensures place { IfOk result (λ d. d.place.which ≡ which) }
+    ensures place { IfOk result (λ d. d.hop.link ≡ link) }
 {
-    let place = Place {
+    let hop = Hop {
         node: node.clone()?,
-        which,
+        link,
         asking: false,
     };
     Ok(Dispatch {
-        place,
+        hop,
         args: slot_cmd(alloc)?.wire_args()?,
     })
 }

@@ -11,9 +11,9 @@ ghost use Rattle.cluster_calls.specs.Links.World.{nodes, open_links};
 ghost use Rattle.cluster_steps.specs.Turns.{next_by, goes_on, LeadsOn, TurnsBy, turns_on, TurnsOn};
 ghost use Rattle.cluster_calls.specs.Calls.Redirects.{Stays, hop_by_link, next_of, sort_next};
 
+use crate::hop::Hop;
 use crate::links::Links;
 use crate::node_links::NodeLinks;
-use crate::place::Place;
 use cluster_routing::NodeAddress;
 use resp_core::{Cause, ErrorKind, RedisError, ServerError, ServerErrorKind, Value};
 use resp_link::ConnectionLike;
@@ -26,7 +26,7 @@ pub enum Onward {
     Stay,
     /// To a node without an open link.
     Lost,
-    Go(Place),
+    Go(Hop),
 }
 
 /// What becomes of a reply.
@@ -35,7 +35,7 @@ pub enum Turn {
     /// It is the answer.
     Answered(Value),
     /// Its request goes on.
-    On(Place),
+    On(Hop),
 }
 
 /// The address that a text spells, none where it spells none.
@@ -70,11 +70,7 @@ fn to_link<K: NodeLinks>(links: &K, node: NodeAddress, asking: bool) -> Onward
 {
     match links.open_place(&node) {
         None => Onward::Lost,
-        Some(which) => Onward::Go(Place {
-            node,
-            which,
-            asking,
-        }),
+        Some(link) => Onward::Go(Hop { node, link, asking }),
     }
 }
 
@@ -119,19 +115,19 @@ fn behind_error<K: NodeLinks>(
 pub(crate) fn next_place<K: NodeLinks>(
     alloc: Global,
     links: &K,
-    left: u16,
+    redirects: u16,
     reply: &Value,
 ) -> Result<Onward, RedisError>
     ensures next { IfOk result
-        (λ o. next_by o ≡ next_of (open_links (K.nodes links.now)) left
+        (λ o. next_by o ≡ next_of (open_links (K.nodes links.now)) redirects
         (Some (view reply.now))) }
     ensures on { IfOk result (λ o. LeadsOn (K.nodes links.now) o) }
-    ensures some { IfOk result (λ o. goes_on o ≡ true → left ≢ 0) }
+    ensures some { IfOk result (λ o. goes_on o ≡ true → redirects ≢ 0) }
     ensures only { IfErr result (λ e. e ≡ by_cause Memory) }
     // Memory is taken for the error that the reply is.
     ensures error { IfErr result (λ e. is_data (sort_of (view reply.now)) ≡ false) }
 {
-    if left == 0 {
+    if redirects == 0 {
         return Ok(Onward::Stay);
     }
     match reply {
@@ -144,39 +140,39 @@ pub(crate) fn next_place<K: NodeLinks>(
 pub fn turn_by<L: ConnectionLike>(
     alloc: Global,
     links: &Links<L>,
-    left: u16,
+    redirects: u16,
     reply: Value,
 ) -> Result<Turn, RedisError>
     ensures turns { result ≢ Err (by_cause Memory)
-        → TurnsBy (next_of (open_links (nodes L.seen links.now.nodes.items)) left (Some (view reply)))
+        → TurnsBy (next_of (open_links (nodes L.seen links.now.nodes.items)) redirects (Some (view reply)))
         (view reply) result }
     ensures on { IfOk result (λ turn. TurnsOn (nodes L.seen links.now.nodes.items) turn) }
-    ensures some { IfOk result (λ turn. turns_on turn ≡ true → left ≢ 0) }
+    ensures some { IfOk result (λ turn. turns_on turn ≡ true → redirects ≢ 0) }
     // Also where memory is refused: the reply is or holds an error.
     ensures error { IfErr result (λ e. is_data (sort_of (view reply)) ≡ false) }
 {
-    turn_over(alloc, links, left, reply)
+    turn_over(alloc, links, redirects, reply)
 }
 
 /// The same for any links.
 pub fn turn_over<K: NodeLinks>(
     alloc: Global,
     links: &K,
-    left: u16,
+    redirects: u16,
     reply: Value,
 ) -> Result<Turn, RedisError>
     ensures turns { result ≢ Err (by_cause Memory)
-        → TurnsBy (next_of (open_links (K.nodes links.now)) left (Some (view reply)))
+        → TurnsBy (next_of (open_links (K.nodes links.now)) redirects (Some (view reply)))
         (view reply) result }
     ensures on { IfOk result (λ turn. TurnsOn (K.nodes links.now) turn) }
-    ensures some { IfOk result (λ turn. turns_on turn ≡ true → left ≢ 0) }
+    ensures some { IfOk result (λ turn. turns_on turn ≡ true → redirects ≢ 0) }
     // Also where memory is refused: the reply is or holds an error.
     ensures error { IfErr result (λ e. is_data (sort_of (view reply)) ≡ false) }
 {
-    match next_place(alloc, links, left, &reply)? {
+    match next_place(alloc, links, redirects, &reply)? {
         Onward::Stay => answer(reply),
         Onward::Lost => Err(RedisError::from(Cause::NoLink)),
-        Onward::Go(place) => Ok(Turn::On(place)),
+        Onward::Go(hop) => Ok(Turn::On(hop)),
     }
 }
 

@@ -5,19 +5,19 @@ ghost use Rattle.cluster_steps.specs.Groups.{place_in};
 use cluster_routing::NodeAddress;
 use cluster_steps::dispatch::Dispatch;
 use cluster_steps::grouped::{NumberedGroups, grouped};
-use cluster_steps::place::Place;
+use cluster_steps::hop::Hop;
 use std::alloc::{AllocError, Global};
 use std::process::Abort;
 use std::test::Fail;
 
 /// A request to the link at a place.
-fn to(alloc: Global, which: usize) -> Dispatch
-    ensures { place_in result ≡ which }
+fn to(alloc: Global, link: usize) -> Dispatch
+    ensures { place_in result ≡ link }
 {
     Dispatch {
-        place: Place {
+        hop: Hop {
             node: NodeAddress::new(String::new(alloc), 7000),
-            which,
+            link,
             asking: false,
         },
         args: Vec::new(alloc),
@@ -40,7 +40,7 @@ fn are_grouped<R: Abort>(rt: &R, alloc: Global, count: usize) -> Result<(), Fail
     let mut places = Vec::new(alloc);
     let mut lengths = Vec::new(alloc);
     for group in &told.groups {
-        places.push(group.which)?;
+        places.push(group.link)?;
         lengths.push(group.requests.len())?;
     }
     assert_eq!(rt; places.as_slice(), [2, 0, 1].as_slice());

@@ -24,13 +24,13 @@ fn add<L: ConnectionLike + Drop>(
 }
 
 /// Gives the node at a place another address.
-fn rename<L: ConnectionLike>(links: &mut Links<L>, which: usize, node: NodeAddress)
-    requires within { which < vec_len links.old.nodes }
+fn rename<L: ConnectionLike>(links: &mut Links<L>, index: usize, node: NodeAddress)
+    requires within { index < vec_len links.old.nodes }
     requires distinct { (link : L) → has_repeats (map (λ l. address l.0)
-        (slice_set links.old.nodes.items which (node, link))) ≡ false }
-    ensures { (link : L) × (links.new.nodes.items ≡ slice_set links.old.nodes.items which (node, link)) }
+        (slice_set links.old.nodes.items index (node, link))) ≡ false }
+    ensures { (link : L) × (links.new.nodes.items ≡ slice_set links.old.nodes.items index (node, link)) }
 {
-    links.nodes[which].0 = node;
+    links.nodes[index].0 = node;
 }
 
 /// The place of a node, once another stands behind the others.
@@ -51,16 +51,16 @@ fn place_behind<L: ConnectionLike + Drop>(
 /// The place of a node, once the one at a place has another address.
 fn place_renamed<L: ConnectionLike>(
     links: &mut Links<L>,
-    which: usize,
+    index: usize,
     node: NodeAddress,
     wanted: &NodeAddress,
 ) -> Option<usize>
-    requires within { which < vec_len links.old.nodes }
+    requires within { index < vec_len links.old.nodes }
     requires distinct { (link : L) → has_repeats (map (λ l. address l.0)
-        (slice_set links.old.nodes.items which (node, link))) ≡ false }
+        (slice_set links.old.nodes.items index (node, link))) ≡ false }
     ensures { result ≡ place_at (nodes L.seen links.new.nodes.items) (address wanted.now) }
 {
-    rename(links, which, node);
+    rename(links, index, node);
     links.place_of(wanted)
 }
 

@@ -5,11 +5,12 @@ use Rattle.std.proofs.lemmas.List.{drop-drop, drop_min, take-append-drop}
 use Rattle.resp_requests.specs.declared.fault.Fault.{Fault}
 use Rattle.resp_requests.specs.declared.reader.RequestReader.{RequestReader}
 use Rattle.resp_requests.specs.Given.{texts}
+use Rattle.resp_requests.specs.Laws.{joined}
 use Rattle.resp_requests.specs.Requests.{Command, Requests, requests}
 use Rattle.resp_requests.specs.Standing.{Stands, StandsIn, limits_of, told}
 use Rattle.proxy_core.specs.declared.outcome.Outcome.{Outcome}
 use Rattle.proxy_core.specs.declared.queue.Entry.{Entry}
-use Rattle.proxy_core.specs.declared.queue.Entry.TheVariants.{Waits, Reads}
+use Rattle.proxy_core.specs.declared.queue.Entry.TheVariants.{Reads}
 use Rattle.proxy_core.specs.declared.limits.Room.{Room}
 use Rattle.proxy_core.specs.Guests.{Queues, queue_at}
 use Rattle.proxy_core.specs.Queue.{settled}
@@ -22,7 +23,7 @@ use Rattle.proxy_connection.specs.declared.progress.Progress.{Progress}
 use Rattle.proxy_connection.specs.declared.progress.Progress.TheVariants.{Taken, Short, Full, Ended, NoGuest}
 use Rattle.proxy_connection.specs.History.{History, came, then, written_more}
 use Rattle.proxy_connection.specs.Moves.{Advances, Rests}
-use Rattle.proxy_connection.specs.Serving.{Serves, Goes, Stays, AreAnswered, IsInTime, and_heard, and_unput, is_nothing, joined, rest_of}
+use Rattle.proxy_connection.specs.Serving.{AlwaysStays, Serves, Goes, AreAnswered, IsInTime, and_heard, and_unput, is_nothing, rest_of}
 use Rattle.proxy_connection.specs.Ways.{Ways, Understands}
 
 -- ---- words
@@ -200,37 +201,36 @@ module _ {T C V : Type 0} (w : Ways T C V) where
     writes = s.writes;
   }
 
-  pub reply_taken : (c : Connection T C V) (q q' : List (Entry C V)) (h : History T C V) (v : V) → rest_of w.written c.reply c.count ≡ []
-      → q ≡ Reads v ∷ q' → Serves w c q h → Serves w (record c { reply = Some v; count = 0 }) q' h
-  reply_taken c q q' h v e k s = record {
+  -- another reply goes out, or more of its bytes were written
+  writes_on : (c : Connection T C V) (q q' : List (Entry C V)) (h : History T C V) (reply : Option V) (n : ℕ) (bytes : List ℕ) (replies : List V)
+      → sees w.overlaps [] h.events ≡ shown replies q' → bytes ++ rest_of w.written reply n ≡ joined (map w.written replies)
+      → Serves w c q h → Serves w (record c { reply = reply; count = n }) q' (record h { written = bytes })
+  writes_on c q q' h reply n bytes replies e k s = record {
     commands = s.commands;
     entries = s.entries;
-    replies = s.replies ++ v ∷ [];
+    replies = replies;
     limits = s.limits;
     reads = s.reads;
     understands = s.understands;
     in_time = s.in_time;
     comes = s.comes;
-    sees = s.sees ∙ ap (shown s.replies) k ∙ sym (shown_taken w.overlaps s.replies v q');
-    writes = ap (λ (xs : List ℕ). xs ++ w.written v) (sym (append-nil h.written) ∙ ap (λ (xs : List ℕ). h.written ++ xs) (sym e) ∙ s.writes) ∙ sym (joined_more w.written s.replies v);
+    sees = e;
+    writes = k;
   }
+
+  pub reply_taken : (c : Connection T C V) (q q' : List (Entry C V)) (h : History T C V) (v : V) → rest_of w.written c.reply c.count ≡ []
+      → q ≡ Reads v ∷ q' → Serves w c q h → Serves w (record c { reply = Some v; count = 0 }) q' h
+  reply_taken c q q' h v e k s =
+      writes_on c q q' h (Some v) 0 h.written (s.replies ++ v ∷ [])
+      (s.sees ∙ ap (shown s.replies) k ∙ sym (shown_taken w.overlaps s.replies v q'))
+      (ap (λ (xs : List ℕ). xs ++ w.written v) (sym (append-nil h.written) ∙ ap (λ (xs : List ℕ). h.written ++ xs) (sym e) ∙ s.writes) ∙ sym (joined_more w.written s.replies v)) s
 
   pub bytes_written : (c : Connection T C V) (q : List (Entry C V)) (h : History T C V) (n m : ℕ) → rest_of w.written c.reply m ≡ drop n (rest_of w.written c.reply c.count)
       → Serves w c q h → Serves w (record c { count = m }) q (written_more h (take n (rest_of w.written c.reply c.count)))
-  bytes_written c q h n m e s = record {
-    commands = s.commands;
-    entries = s.entries;
-    replies = s.replies;
-    limits = s.limits;
-    reads = s.reads;
-    understands = s.understands;
-    in_time = s.in_time;
-    comes = s.comes;
-    sees = s.sees;
-    writes =
-        let rest = rest_of w.written c.reply c.count in
-        append_assoc h.written (take n rest) (rest_of w.written c.reply m) ∙ ap (λ (xs : List ℕ). h.written ++ xs) (ap (λ (xs : List ℕ). take n rest ++ xs) e ∙ take-append-drop n rest) ∙ s.writes;
-  }
+  bytes_written c q h n m e s =
+      let rest = rest_of w.written c.reply c.count in
+      writes_on c q q h c.reply m (h.written ++ take n rest) s.replies s.sees
+      (append_assoc h.written (take n rest) (rest_of w.written c.reply m) ∙ ap (λ (xs : List ℕ). h.written ++ xs) (ap (λ (xs : List ℕ). take n rest ++ xs) e ∙ take-append-drop n rest) ∙ s.writes) s
 
   pub turn_told : (c : Connection T C V) (q : List (Entry C V)) (outcomes : List (Outcome V)) → Goes w c q c (settled w.overlaps q outcomes) (λ h. then h (Told outcomes))
   turn_told c q outcomes h s = record {
@@ -249,7 +249,7 @@ module _ {T C V : Type 0} (w : Ways T C V) where
   -- ---- calls
 
   module _ (command : C → ℕ) (reply : V → ℕ) (share : Room) (is_there : Bool) (g : ℕ) (old new : Connection T C V) (qs qs' : Queues C V) where
-    pub rests_advances : (p : Progress) → Rests w old new p → ((q : List (Entry C V)) → Stays w old new q) → qs' ≡ qs → Advances w command reply share is_there g old new qs qs' p
+    pub rests_advances : (p : Progress) → Rests w old new p → AlwaysStays w old new → qs' ≡ qs → Advances w command reply share is_there g old new qs qs' p
     rests_advances Short r k e = ((e, k (queue_at qs g)), λ h s. r (queue_at qs g) h s)
     rests_advances Ended r k e = ((e, k (queue_at qs g)), r.0, r.1)
     rests_advances Taken r k e = absurd r
@@ -257,7 +257,7 @@ module _ {T C V : Type 0} (w : Ways T C V) where
     rests_advances NoGuest r k e = absurd r
 
     -- a step before by which nothing was seen
-    pub advances_behind : (first : Connection T C V) (p : Progress) → ((q : List (Entry C V)) → Stays w first old q)
+    pub advances_behind : (first : Connection T C V) (p : Progress) → AlwaysStays w first old
         → Advances w command reply share is_there g old new qs qs' p → Advances w command reply share is_there g first new qs qs' p
     advances_behind first Taken k a = (a.0, a.1, λ h s. a.2 h (k (queue_at qs g) h s))
     advances_behind first Short k a = ((a.0.0, λ h s. a.0.1 h (k (queue_at qs g) h s)), λ h s. a.1 h (k (queue_at qs g) h s))

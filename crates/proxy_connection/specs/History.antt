@@ -1,7 +1,6 @@
 -- What was seen of one guest since it joined.
 use Rattle.std.specs.Prelude.{ℕ, List, [], ◌∷◌, ◌++◌}
 use Rattle.resp_requests.specs.declared.limits.Limits.{Limits}
-use Rattle.proxy_core.specs.declared.outcome.Outcome.{Outcome}
 use Rattle.proxy_core.specs.declared.queue.Entry.{Entry}
 use Rattle.proxy_core.specs.Sees.{Event, Came, Told, Renewed}
 

@@ -1,5 +1,6 @@
 -- Laws of connections.
 use Rattle.std.specs.Prelude.{◌≡◌, true, List, [], ◌++◌, map}
+use Rattle.resp_requests.specs.Laws.{joined}
 use Rattle.resp_requests.specs.Requests.{Command, requests}
 use Rattle.proxy_core.specs.declared.outcome.Outcome.{Outcome}
 use Rattle.proxy_core.specs.declared.queue.Entry.{Entry}
@@ -8,7 +9,7 @@ use Rattle.proxy_core.specs.Sees.{Told, sees, shown}
 use Rattle.proxy_connection.specs.declared.connection.Connection.{Connection}
 use Rattle.proxy_connection.specs.History.{History, then}
 use Rattle.proxy_connection.specs.Ways.{Ways}
-use Rattle.proxy_connection.specs.Serving.{Serves, Goes, is_over, joined}
+use Rattle.proxy_connection.specs.Serving.{Serves, Goes, is_over}
 
 -- A turn of the proxy leaves the connection, and settles the guest's queue by its own outcomes.
 abbrev pub TurnsAreTold : {T C V : Type 0} → Ways T C V → Type 0

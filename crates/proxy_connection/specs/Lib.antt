@@ -1,4 +1,5 @@
 pub mod History
+pub mod State
 pub mod Ways
 pub mod Serving
 pub mod Moves

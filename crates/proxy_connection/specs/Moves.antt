@@ -1,12 +1,13 @@
 -- What the calls of a connection do, to it and to its guest's queue in the proxy.
-use Rattle.std.specs.Prelude.{◌≡◌, ◌≢◌, ℕ, ◌<◌, ◌⊎◌, Bool, true, false, List, [], ◌∷◌, Option, None, length}
+use Rattle.std.specs.Prelude.{◌≡◌, ◌≢◌, ℕ, ◌<◌, ◌⊎◌, Bool, true, false, List, [], None, length}
 use Rattle.resp_requests.specs.Standing.{waiting}
 use Rattle.proxy_core.specs.declared.limits.Room.{Room}
 use Rattle.proxy_core.specs.declared.queue.Entry.{Entry}
-use Rattle.proxy_core.specs.Guests.{Queues, queue_at, entry_bytes, queue_bytes}
+use Rattle.proxy_core.specs.Guests.{Queues, queue_at, is_open_at, entry_bytes, queue_bytes}
 use Rattle.proxy_core.specs.Moves.{HasRoom, IsFull, Puts, Takes}
 use Rattle.proxy_core.specs.Queue.{first_reply}
 use Rattle.proxy_core.specs.Sees.{Came}
+use Rattle.proxy_core.specs.State.{State}
 use Rattle.proxy_connection.specs.declared.connection.Connection.{Connection}
 use Rattle.proxy_connection.specs.declared.pending.Pending.{Pending}
 use Rattle.proxy_connection.specs.declared.pending.Pending.TheVariants as pendings
@@ -56,6 +57,24 @@ IsUnderWay w command reply share is_there q c pendings.Nothing =
 IsUnderWay w command reply share is_there q c (pendings.Entry e) = (is_there ≡ true)
     × HasRoom share (length q) (queue_bytes command reply q) (entry_bytes command reply e)
 IsUnderWay w command reply share is_there q c _ = Unit {0}
+
+-- memory was wanted for that in every share, and whatever the guest holds
+abbrev pub AlwaysUnderWay : {T C V : Type 0} → Ways T C V → (C → ℕ) → (V → ℕ) → Connection T C V → Type 0
+AlwaysUnderWay {T} {C} {V} w command reply c = (share : Room) (is_there : Bool) (q : List (Entry C V))
+    → IsUnderWay w command reply share is_there q c c.pending
+
+-- what came of looking for the next command of a connection's own guest, in a proxy, before and after
+abbrev pub AdvancesIn : {T C V : Type 0} → Ways T C V → (C → ℕ) → (V → ℕ) → Connection T C V → Connection T C V
+    → State C V → State C V → Progress → Type 0
+AdvancesIn w command reply old new before after = Advances w command reply before.limits.share
+    (is_open_at before.openings old.guest) old.guest old new before.queues after.queues
+
+-- what memory was wanted for on the way to the next command of a connection's own guest in a proxy: for bytes that wait,
+-- for what its words or its fault mean, or for an entry that has room
+abbrev pub IsUnderWayIn : {T C V : Type 0} → Ways T C V → (C → ℕ) → (V → ℕ) → Connection T C V → Connection T C V
+    → State C V → Type 0
+IsUnderWayIn w command reply old new before = IsUnderWay w command reply before.limits.share
+    (is_open_at before.openings old.guest) (queue_at before.queues old.guest) new new.pending
 
 -- What came of looking for bytes to write to guest g: those that are left of the reply that is going out, or,
 -- where none are, those of the next reply; or no reply is there.

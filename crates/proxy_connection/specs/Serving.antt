@@ -1,8 +1,8 @@
 -- What a connection stands for: what was seen of its guest, and how that hangs together.
-use Rattle.std.specs.Prelude.{◌≡◌, ℕ, ◌==◌, ◌&&◌, ◌||◌, Bool, true, false, List, [], ◌∷◌, ◌++◌, drop, length, map, Option, Some, None, Vec}
-use Rattle.std.specs.Global.{Global}
+use Rattle.std.specs.Prelude.{◌≡◌, ℕ, ◌==◌, ◌&&◌, ◌||◌, Bool, true, false, List, [], ◌∷◌, ◌++◌, drop, length, map, Option, Some, None}
 use Rattle.resp_requests.specs.declared.fault.Fault.{Fault}
 use Rattle.resp_requests.specs.Given.{texts}
+use Rattle.resp_requests.specs.Laws.{joined}
 use Rattle.resp_requests.specs.Requests.{Command}
 use Rattle.resp_requests.specs.Standing.{Stands, AreAll, told, limits_of}
 use Rattle.proxy_core.specs.declared.queue.Entry.{Entry}
@@ -13,11 +13,6 @@ use Rattle.proxy_connection.specs.declared.pending.Pending.{Pending}
 use Rattle.proxy_connection.specs.declared.pending.Pending.TheVariants as pendings
 use Rattle.proxy_connection.specs.History.{History, came}
 use Rattle.proxy_connection.specs.Ways.{Ways, Understands}
-
--- replies, one behind the other
-abbrev pub joined : List (List ℕ) → List ℕ
-joined [] = []
-joined (bytes ∷ others) = bytes ++ joined others
 
 -- behind these commands the one that was read and is not understood yet
 abbrev pub and_heard : {C V : Type 0} → List Command → Pending C V → List Command
@@ -77,6 +72,15 @@ Goes {T} {C} {V} w old q new q' more = (h : History T C V) → Serves w old q h 
 -- nothing was seen
 abbrev pub Stays : {T C V : Type 0} → Ways T C V → Connection T C V → Connection T C V → List (Entry C V) → Type 0
 Stays w old new q = Goes w old q new q (λ h. h)
+
+-- whatever was seen of the guest before, and whatever its queue holds, which does not change: this was seen of it now
+abbrev pub AlwaysGoes : {T C V : Type 0} → Ways T C V → Connection T C V → Connection T C V
+    → (History T C V → History T C V) → Type 0
+AlwaysGoes {T} {C} {V} w old new more = (q : List (Entry C V)) → Goes w old q new q more
+
+-- nothing was seen, whatever its queue holds
+abbrev pub AlwaysStays : {T C V : Type 0} → Ways T C V → Connection T C V → Connection T C V → Type 0
+AlwaysStays {T} {C} {V} w old new = (q : List (Entry C V)) → Stays w old new q
 
 -- every command of the bytes that a guest sent came into its queue
 pub record IsCaughtUp {T C V : Type 0} (w : Ways T C V) (c : Connection T C V) (h : History T C V) : Type 0 where

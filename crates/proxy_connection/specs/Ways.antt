@@ -3,6 +3,7 @@ use Rattle.std.specs.Prelude.{◌≡◌, ℕ, Bool, false, List, [], ◌∷◌}
 use Rattle.resp_requests.specs.declared.fault.Fault.{Fault}
 use Rattle.resp_requests.specs.Requests.{Command}
 use Rattle.proxy_core.specs.declared.queue.Entry.{Entry}
+use Rattle.proxy_connection.specs.declared.translator.Translator.{Ghosts}
 
 -- `overlaps`: whether the order of two commands can be seen. `written`: the bytes of a reply. `translates t words
 -- entry t'`: understood by t, the words put this entry into their guest's queue, and t' understands those behind.
@@ -14,15 +15,15 @@ pub record Ways (T C V : Type 0) : Type 1 where
   pub refuses : T → Fault → V → Type 0
   pub has_ended : T → Bool
 
--- how words are understood and replies written, in one
-abbrev pub ways : {T C V : Type 0} → (C → C → Bool) → (V → List ℕ) → (T → Command → Entry C V → T → Type 0)
-    → (T → Fault → V → Type 0) → (T → Bool) → Ways T C V
-ways overlaps written translates refuses has_ended = record {
+-- how words are understood and replies written, in one: the order of commands can be seen so, replies have these bytes,
+-- and a translator understands words so
+abbrev pub ways : {T C V : Type 0} → (C → C → Bool) → (V → List ℕ) → Ghosts T C V → Ways T C V
+ways overlaps written words = record {
   overlaps = overlaps;
   written = written;
-  translates = translates;
-  refuses = refuses;
-  has_ended = has_ended;
+  translates = words.translates;
+  refuses = words.refuses;
+  has_ended = words.has_ended;
 }
 
 -- Command after command, each by what was said before it, and none behind the last one of a guest that ended.

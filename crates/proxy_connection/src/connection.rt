@@ -1,12 +1,9 @@
 //! A guest's connection.
-ghost use Rattle.std.specs.Prelude.{◌≡◌, ◌≢◌, ℕ, Bool, List, [], ◌∷◌, ◌++◌, ◌<◌, length, Some, None, OnOk, OnErr, IfOk, IfSome, IfNone, take, drop, false, true};
-ghost use Rattle.proxy_core.specs.declared.limits.Room.{Room};
-ghost use Rattle.proxy_core.specs.declared.queue.Entry.{Entry};
-ghost use Rattle.proxy_core.specs.Guests.{openings, is_open_at, queue_at, queues};
-ghost use Rattle.proxy_connection.specs.declared.progress.Progress.TheVariants.{Short, Ended};
-ghost use Rattle.proxy_connection.specs.History.{History, beginning, fed_more, written_more};
-ghost use Rattle.proxy_connection.specs.Moves.{Advances, Fetches, HoldsEntry, IsUnderWay, Keeps, Rests};
-ghost use Rattle.proxy_connection.specs.Serving.{Goes, Serves, Stays, is_nothing, is_over, rest_of};
+ghost use Rattle.std.specs.Prelude.{◌≡◌, ◌<◌, [], length, OnOk, OnErr, IfOk, IfSome, IfNone, take, drop, false};
+ghost use Rattle.proxy_core.specs.Guests.{queue_at};
+ghost use Rattle.proxy_connection.specs.History.{beginning, fed_more, written_more};
+ghost use Rattle.proxy_connection.specs.Moves.{AdvancesIn, AlwaysUnderWay, Fetches, HoldsEntry, IsUnderWayIn, Keeps, Rests};
+ghost use Rattle.proxy_connection.specs.Serving.{AlwaysGoes, AlwaysStays, Goes, Serves, is_nothing, is_over, rest_of};
 ghost use Rattle.proxy_connection.specs.Ways.{ways};
 
 use crate::pending::Pending;
@@ -15,13 +12,14 @@ use crate::translator::{Translator, Written};
 use proxy_core::{Command, Entry, Proxy, Refusal};
 use resp_requests::{Limits, RequestError, RequestReader};
 use std::alloc::{AllocError, Global};
+use std::marker::Model;
 use std::mem;
 
 /// One guest of a proxy, between its bytes and its queue.
 ///
 /// It keeps what came of the guest and has no place in its queue yet, and the reply that is going out. The
 /// queue is that of the guest's number in the proxy: what else puts there or takes from there is seen by
-/// nobody here.
+/// nobody here. A contract sees all that it keeps.
 #[derive(Drop)]
 pub struct Connection<T, C, V> {
     guest: usize,
@@ -35,12 +33,27 @@ pub struct Connection<T, C, V> {
     count: usize,
 }
 
+impl<T, C, V> Model for Connection<T, C, V> {
+    ghost use Rattle.proxy_connection.specs.State.{State};
+
+    ghost Value = { State T C V };
+
+    ghost view = { λ c. record {
+      guest = c.guest;
+      requests = c.requests;
+      translator = c.translator;
+      pending = c.pending;
+      is_refused = c.is_refused;
+      reply = c.reply;
+      count = c.count;
+    } };
+}
+
 impl<T: Translator<C, V>, C: Command, V: Written> Connection<T, C, V> {
     /// The connection of a guest that just joined the proxy by this number, under limits of what it may send.
     /// It takes no memory.
     pub fn new(alloc: Global, guest: usize, translator: T, limits: Limits) -> Connection<T, C, V>
-        ensures begins { Serves (ways C.overlaps V.written T.translates T.refuses T.has_ended)
-            result [] (beginning limits translator) }
+        ensures begins { Serves (ways C.overlaps V.written T.Translator) result [] (beginning limits translator) }
         ensures guest { result.guest ≡ guest }
     {
         Connection {
@@ -70,11 +83,9 @@ impl<T: Translator<C, V>, C: Command, V: Written> Connection<T, C, V> {
 
     /// Takes bytes that the guest sent, behind those before. Where memory is refused it changes nothing.
     pub fn feed(&mut self, bytes: &[u8]) -> Result<(), AllocError>
-        ensures ok { OnOk result ((q : List (Entry C V))
-            → Goes (ways C.overlaps V.written T.translates T.refuses T.has_ended)
-            self.old q self.new q (λ h. fed_more h bytes.now)) }
-        ensures err { OnErr result ((q : List (Entry C V))
-            → Stays (ways C.overlaps V.written T.translates T.refuses T.has_ended) self.old self.new q) }
+        ensures ok { OnOk result (AlwaysGoes (ways C.overlaps V.written T.Translator)
+            self.old self.new (λ h. fed_more h bytes.now)) }
+        ensures err { OnErr result (AlwaysStays (ways C.overlaps V.written T.Translator) self.old self.new) }
         ensures some { OnErr result (0 < length bytes.now) }
         ensures guest { self.new.guest ≡ self.old.guest }
     {
@@ -90,17 +101,14 @@ impl<T: Translator<C, V>, C: Command, V: Written> Connection<T, C, V> {
         alloc: Global,
         proxy: &mut Proxy<C, V>,
     ) -> Result<Progress, AllocError>
-        ensures ok { IfOk result (λ progress.
-            Advances (ways C.overlaps V.written T.translates T.refuses T.has_ended) C.bytes V.bytes
-            proxy.old.limits.share (is_open_at (openings proxy.old.guests.items) self.old.guest)
-            self.old.guest self.old self.new (queues proxy.old.guests.items) (queues proxy.new.guests.items) progress) }
-        ensures err { OnErr result (Keeps (ways C.overlaps V.written T.translates T.refuses T.has_ended)
-            self.old.guest self.old self.new (queues proxy.old.guests.items) (queues proxy.new.guests.items)) }
-        ensures due { OnErr result (IsUnderWay (ways C.overlaps V.written T.translates T.refuses T.has_ended) C.bytes V.bytes
-            proxy.old.limits.share (is_open_at (openings proxy.old.guests.items) self.old.guest)
-            (queue_at (queues proxy.old.guests.items) self.old.guest) self.new self.new.pending) }
+        ensures ok { IfOk result (λ progress. AdvancesIn (ways C.overlaps V.written T.Translator) C.bytes V.bytes
+            self.old self.new proxy.old proxy.new progress) }
+        ensures err { OnErr result (Keeps (ways C.overlaps V.written T.Translator)
+            self.old.guest self.old self.new proxy.old.queues proxy.new.queues) }
+        ensures due { OnErr result (IsUnderWayIn (ways C.overlaps V.written T.Translator) C.bytes V.bytes
+            self.old self.new proxy.old) }
         ensures guest { self.new.guest ≡ self.old.guest }
-        ensures openings { openings proxy.new.guests.items ≡ openings proxy.old.guests.items }
+        ensures openings { proxy.new.openings ≡ proxy.old.openings }
         ensures limits { proxy.new.limits ≡ proxy.old.limits }
     {
         if let Some(progress) = self.hear()? {
@@ -113,14 +121,12 @@ impl<T: Translator<C, V>, C: Command, V: Written> Connection<T, C, V> {
 
     // Reads the words of the next command, where nothing is pending; or why there are none.
     fn hear(&mut self) -> Result<Option<Progress>, AllocError>
-        ensures stays { (q : List (Entry C V))
-            → Stays (ways C.overlaps V.written T.translates T.refuses T.has_ended) self.old self.new q }
+        ensures stays { AlwaysStays (ways C.overlaps V.written T.Translator) self.old self.new }
         ensures none { IfOk result (λ progress. IfSome progress (λ why.
-            Rests (ways C.overlaps V.written T.translates T.refuses T.has_ended) self.old self.new why)) }
+            Rests (ways C.overlaps V.written T.Translator) self.old self.new why)) }
         ensures some { IfOk result (λ progress. IfNone progress (is_nothing self.new.pending ≡ false)) }
-        ensures due { OnErr result ((share : Room) (is_there : Bool) (q : List (Entry C V))
-            → IsUnderWay (ways C.overlaps V.written T.translates T.refuses T.has_ended) C.bytes V.bytes
-            share is_there q self.new self.new.pending) }
+        ensures due { OnErr result (AlwaysUnderWay (ways C.overlaps V.written T.Translator)
+            C.bytes V.bytes self.new) }
         ensures guest { self.new.guest ≡ self.old.guest }
     {
         if !self.pending.is_nothing() {
@@ -147,11 +153,9 @@ impl<T: Translator<C, V>, C: Command, V: Written> Connection<T, C, V> {
     fn understand(&mut self, alloc: Global) -> Result<(), AllocError>
         requires { is_nothing self.old.pending ≡ false }
         ensures entry { OnOk result (HoldsEntry self.new.pending) }
-        ensures stays { (q : List (Entry C V))
-            → Stays (ways C.overlaps V.written T.translates T.refuses T.has_ended) self.old self.new q }
-        ensures due { OnErr result ((share : Room) (is_there : Bool) (q : List (Entry C V))
-            → IsUnderWay (ways C.overlaps V.written T.translates T.refuses T.has_ended) C.bytes V.bytes
-            share is_there q self.new self.new.pending) }
+        ensures stays { AlwaysStays (ways C.overlaps V.written T.Translator) self.old self.new }
+        ensures due { OnErr result (AlwaysUnderWay (ways C.overlaps V.written T.Translator)
+            C.bytes V.bytes self.new) }
         ensures guest { self.new.guest ≡ self.old.guest }
     {
         let entry = match &self.pending {
@@ -170,17 +174,14 @@ impl<T: Translator<C, V>, C: Command, V: Written> Connection<T, C, V> {
     // Puts the entry that is pending into the guest's queue.
     fn put(&mut self, proxy: &mut Proxy<C, V>) -> Result<Progress, AllocError>
         requires { HoldsEntry self.old.pending }
-        ensures ok { IfOk result (λ progress.
-            Advances (ways C.overlaps V.written T.translates T.refuses T.has_ended) C.bytes V.bytes
-            proxy.old.limits.share (is_open_at (openings proxy.old.guests.items) self.old.guest)
-            self.old.guest self.old self.new (queues proxy.old.guests.items) (queues proxy.new.guests.items) progress) }
-        ensures err { OnErr result (Keeps (ways C.overlaps V.written T.translates T.refuses T.has_ended)
-            self.old.guest self.old self.new (queues proxy.old.guests.items) (queues proxy.new.guests.items)) }
-        ensures due { OnErr result (IsUnderWay (ways C.overlaps V.written T.translates T.refuses T.has_ended) C.bytes V.bytes
-            proxy.old.limits.share (is_open_at (openings proxy.old.guests.items) self.old.guest)
-            (queue_at (queues proxy.old.guests.items) self.old.guest) self.new self.new.pending) }
+        ensures ok { IfOk result (λ progress. AdvancesIn (ways C.overlaps V.written T.Translator) C.bytes V.bytes
+            self.old self.new proxy.old proxy.new progress) }
+        ensures err { OnErr result (Keeps (ways C.overlaps V.written T.Translator)
+            self.old.guest self.old self.new proxy.old.queues proxy.new.queues) }
+        ensures due { OnErr result (IsUnderWayIn (ways C.overlaps V.written T.Translator) C.bytes V.bytes
+            self.old self.new proxy.old) }
         ensures guest { self.new.guest ≡ self.old.guest }
-        ensures openings { openings proxy.new.guests.items ≡ openings proxy.old.guests.items }
+        ensures openings { proxy.new.openings ≡ proxy.old.openings }
         ensures limits { proxy.new.limits ≡ proxy.old.limits }
     {
         match mem::replace(&mut self.pending, Pending::Nothing) {
@@ -205,13 +206,13 @@ impl<T: Translator<C, V>, C: Command, V: Written> Connection<T, C, V> {
     /// Looks for bytes to write: those that are left of the reply that is going out, or, where none are, those of
     /// the next reply. Whether there is a reply. It takes no memory.
     pub fn fetch(&mut self, proxy: &mut Proxy<C, V>) -> bool
-        ensures fetches { Fetches (ways C.overlaps V.written T.translates T.refuses T.has_ended)
-            self.old.guest self.old self.new (queues proxy.old.guests.items) (queues proxy.new.guests.items) result }
-        ensures goes { Goes (ways C.overlaps V.written T.translates T.refuses T.has_ended)
-            self.old (queue_at (queues proxy.old.guests.items) self.old.guest)
-            self.new (queue_at (queues proxy.new.guests.items) self.old.guest) (λ h. h) }
+        ensures fetches { Fetches (ways C.overlaps V.written T.Translator)
+            self.old.guest self.old self.new proxy.old.queues proxy.new.queues result }
+        ensures goes { Goes (ways C.overlaps V.written T.Translator)
+            self.old (queue_at proxy.old.queues self.old.guest)
+            self.new (queue_at proxy.new.queues self.old.guest) (λ h. h) }
         ensures guest { self.new.guest ≡ self.old.guest }
-        ensures openings { openings proxy.new.guests.items ≡ openings proxy.old.guests.items }
+        ensures openings { proxy.new.openings ≡ proxy.old.openings }
         ensures limits { proxy.new.limits ≡ proxy.old.limits }
     {
         if !self.output().is_empty() {
@@ -242,8 +243,7 @@ impl<T: Translator<C, V>, C: Command, V: Written> Connection<T, C, V> {
 
     /// Tells that so many of these bytes were written; at most all of them are.
     pub fn wrote(&mut self, count: usize)
-        ensures goes { (q : List (Entry C V))
-            → Goes (ways C.overlaps V.written T.translates T.refuses T.has_ended) self.old q self.new q
+        ensures goes { AlwaysGoes (ways C.overlaps V.written T.Translator) self.old self.new
             (λ h. written_more h (take count (rest_of V.written self.old.reply self.old.count))) }
         ensures rest { rest_of V.written self.new.reply self.new.count
             ≡ drop count (rest_of V.written self.old.reply self.old.count) }
@@ -256,8 +256,8 @@ impl<T: Translator<C, V>, C: Command, V: Written> Connection<T, C, V> {
 
     /// Whether nothing more is read of the guest, and all of its replies are written.
     pub fn is_over(&self, proxy: &Proxy<C, V>) -> bool
-        ensures { result ≡ is_over (ways C.overlaps V.written T.translates T.refuses T.has_ended) self.now
-            (queue_at (queues proxy.now.guests.items) self.now.guest) }
+        ensures { result ≡ is_over (ways C.overlaps V.written T.Translator) self.now
+            (queue_at proxy.now.queues self.now.guest) }
     {
         (self.is_refused || self.translator.has_ended())
             && self.pending.is_nothing()

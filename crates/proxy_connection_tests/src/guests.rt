@@ -1,7 +1,7 @@
 //! A proxy with a guest, by its bytes.
-use crate::talk::{Moving, OnKey, Talk};
 use proxy_connection::{Connection, Progress};
 use proxy_core::{Limits, Proxy, Room};
+use proxy_stubs::{Moving, OnKey, Talk};
 use std::alloc::{AllocError, Global};
 
 /// Three entries of a guest have room.

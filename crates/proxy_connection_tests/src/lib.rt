@@ -7,5 +7,3 @@ mod guests;
 mod memory;
 #[cfg(test)]
 mod pieces;
-#[cfg(test)]
-mod talk;

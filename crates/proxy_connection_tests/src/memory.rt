@@ -1,8 +1,8 @@
 //! One request for memory is refused, whichever: `tools/refused-tests` plays each test once for each.
 use crate::guests::{Core, Guest, LIMITS};
-use crate::talk::{Moving, Talk};
 use proxy_connection::{Connection, Progress};
 use proxy_core::{JoinRefusal, Proxy};
+use proxy_stubs::{Moving, Talk};
 use resp_requests::Limits;
 use std::alloc::Global;
 use std::io::Print;

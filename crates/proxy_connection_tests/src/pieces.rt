@@ -2,9 +2,9 @@
 ghost use Rattle.std.specs.Prelude.{◌<◌};
 
 use crate::guests::{Core, Guest, LIMITS, serve, take_in, write_out};
-use crate::talk::{Moving, OnKey, Talk};
 use proxy_connection::{Connection, Progress, over_is_whole, reads_in_order, turns_are_told};
 use proxy_core::Proxy;
+use proxy_stubs::{Moving, OnKey, Talk};
 use resp_requests::Limits;
 use std::alloc::{AllocError, Global};
 use std::test::*;

@@ -2,7 +2,7 @@
 use Rattle.std.specs.Prelude.{ℕ, suc, Bool, cond, ◌==◌, List, [], ◌∷◌, ◌++◌, map, length, drop}
 use Rattle.proxy_core.specs.declared.outcome.Outcome.{Outcome}
 use Rattle.proxy_core.specs.declared.queue.Entry.{Entry}
-use Rattle.proxy_core.specs.declared.servers.Asked.{Asked}
+use Rattle.proxy_core.specs.declared.servers.Waiting.{Waiting}
 use Rattle.proxy_core.specs.Queue.{waiting, settled}
 
 -- what servers may do in one call: before it, what it asks, the outcomes, and after it
@@ -10,8 +10,8 @@ abbrev pub Asks : Type 0 → Type 0 → Type 0 → Type 1
 Asks S C V = S → List (ℕ × C) → List (Outcome V) → S → Type 0
 
 -- what a batch asks
-abbrev pub batch_of : {C : Type 0} → List (Asked C) → List (ℕ × C)
-batch_of {C} batch = map (λ (a : Asked C). (a.guest, a.command.now)) batch
+abbrev pub batch_of : {C : Type 0} → List (Waiting C) → List (ℕ × C)
+batch_of {C} batch = map (λ (a : Waiting C). (a.guest, a.command.now)) batch
 
 -- a guest's commands, each beside the guest
 abbrev pub asked_by : {C : Type 0} → ℕ → List C → List (ℕ × C)

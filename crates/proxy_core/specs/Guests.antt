@@ -2,19 +2,19 @@
 use Rattle.std.specs.Prelude.{◌≡◌, ℕ, suc, ◌+◌, Bool, true, false, List, [], ◌∷◌, map, slice_index_or as get_or}
 use Rattle.proxy_core.specs.declared.queue.Entry.{Entry}
 use Rattle.proxy_core.specs.declared.queue.Entry.TheVariants.{Waits, Reads}
-use Rattle.proxy_core.specs.declared.guest.Guest.{Guest}
+use Rattle.proxy_core.specs.declared.guest_queue.GuestQueue.{GuestQueue}
 
 -- the queue of each guest, by its number
 abbrev pub Queues : Type 0 → Type 0 → Type 0
 Queues C V = List (List (Entry C V))
 
 -- the queues of guests
-abbrev pub queues : {C V : Type 0} → List (Guest C V) → Queues C V
-queues {C} {V} guests = map (λ (g : Guest C V). g.entries.items) guests
+abbrev pub queues : {C V : Type 0} → List (GuestQueue C V) → Queues C V
+queues {C} {V} guests = map (λ (g : GuestQueue C V). g.entries.items) guests
 
 -- which of them are open
-abbrev pub openings : {C V : Type 0} → List (Guest C V) → List Bool
-openings {C} {V} guests = map (λ (g : Guest C V). g.open) guests
+abbrev pub openings : {C V : Type 0} → List (GuestQueue C V) → List Bool
+openings {C} {V} guests = map (λ (g : GuestQueue C V). g.open) guests
 
 -- the queue of guest g: none where there is no such guest
 abbrev pub queue_at : {C V : Type 0} → Queues C V → ℕ → List (Entry C V)
@@ -41,5 +41,5 @@ queue_bytes command reply [] = 0
 queue_bytes command reply (e ∷ es) = entry_bytes command reply e + queue_bytes command reply es
 
 -- the bytes of a guest's queue are counted
-abbrev pub IsCounted : {C V : Type 0} → (C → ℕ) → (V → ℕ) → Guest C V → Type 0
+abbrev pub IsCounted : {C V : Type 0} → (C → ℕ) → (V → ℕ) → GuestQueue C V → Type 0
 IsCounted command reply g = g.bytes ≡ queue_bytes command reply g.entries.items

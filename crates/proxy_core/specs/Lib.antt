@@ -8,6 +8,7 @@ pub mod Guests
 pub mod State
 pub mod Seen
 pub mod Moves
+pub mod Runs
 pub mod Steps
 pub mod Sees
 pub mod Shares

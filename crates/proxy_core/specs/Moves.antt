@@ -10,7 +10,7 @@ use Rattle.proxy_core.specs.declared.refusal.JoinRefusal.{JoinRefusal}
 use Rattle.proxy_core.specs.declared.refusal.JoinRefusal.TheVariants as joins
 use Rattle.proxy_core.specs.Queue.{waiting, settled}
 use Rattle.proxy_core.specs.Batch.{Asks, commands_of, outcomes_of}
-use Rattle.proxy_core.specs.Guests.{Queues, queue_at, is_open_at, free_from}
+use Rattle.proxy_core.specs.Guests.{Queues, queue_at, is_open_at, free_from, entry_bytes, queue_bytes}
 use Rattle.proxy_core.specs.State.{State}
 
 -- an entry of so many bytes has no room in a share of which so many entries and bytes are held
@@ -27,6 +27,18 @@ abbrev pub IsDue : Refusal → Bool → Room → ℕ → ℕ → ℕ → Type 0
 IsDue NoGuest is_there share entries held size = is_there ≡ false
 IsDue Full is_there share entries held size = IsFull share entries held size
 IsDue NoMemory is_there share entries held size = (is_there ≡ true) × HasRoom share entries held size
+
+-- the same of an entry for a guest with this queue, where commands and replies take these bytes
+abbrev pub IsPutDue : {C V : Type 0} → (C → ℕ) → (V → ℕ) → Room → List (Entry C V) → Entry C V → Bool → Refusal
+    → Type 0
+IsPutDue command reply share q e is_there why =
+    IsDue why is_there share (length q) (queue_bytes command reply q) (entry_bytes command reply e)
+
+-- guest g is there, and its own share has room for the entry, whatever other guests hold
+abbrev pub HasRoomFor : {C V : Type 0} → (C → ℕ) → (V → ℕ) → State C V → ℕ → Entry C V → Type 0
+HasRoomFor command reply state g e = (is_open_at state.openings g ≡ true)
+    × HasRoom state.limits.share (length (queue_at state.queues g))
+    (queue_bytes command reply (queue_at state.queues g)) (entry_bytes command reply e)
 
 -- when a guest is refused so: all numbers below the limit are taken, or one of them is free, but no guest that
 -- left had it, so that a place has to be made for it

@@ -1,18 +1,19 @@
 -- Runs of calls of a proxy, each call with what it answered.
-use Rattle.std.specs.Prelude.{◌≡◌, ℕ, ◌<◌, ◌≤◌, Bool, true, false, List, [], ◌∷◌, ◌++◌, None, ◌⊎◌, map, length}
+use Rattle.std.specs.Prelude.{◌≡◌, ℕ, ◌<◌, ◌≤◌, Bool, true, false, List, [], None, ◌⊎◌, length}
 use Rattle.proxy_core.specs.declared.outcome.Outcome.{Outcome}
 use Rattle.proxy_core.specs.declared.queue.Entry.{Entry}
 use Rattle.proxy_core.specs.declared.refusal.JoinRefusal.{JoinRefusal}
 use Rattle.proxy_core.specs.declared.refusal.Refusal.{Refusal}
-use Rattle.proxy_core.specs.declared.run.Answer.{Answer}
-use Rattle.proxy_core.specs.declared.run.Answer.TheVariants as answers
-use Rattle.proxy_core.specs.declared.run.Call.{Call}
-use Rattle.proxy_core.specs.declared.run.Call.TheVariants as calls
+use Rattle.proxy_core.specs.declared.play.Answer.{Answer}
+use Rattle.proxy_core.specs.declared.play.Answer.TheVariants as answers
+use Rattle.proxy_core.specs.declared.play.Call.{Call}
+use Rattle.proxy_core.specs.declared.play.Call.TheVariants as calls
 use Rattle.proxy_core.specs.Queue.{first_reply}
 use Rattle.proxy_core.specs.Batch.{Asks}
-use Rattle.proxy_core.specs.Guests.{queue_at, is_open_at, free_from, entry_bytes, queue_bytes}
+use Rattle.proxy_core.specs.Guests.{queue_at, is_open_at, free_from, queue_bytes}
+use Rattle.proxy_core.specs.Runs.{MakesOneBy, PlaysBy, RunsBy}
 use Rattle.proxy_core.specs.State.{State}
-use Rattle.proxy_core.specs.Moves.{IsDue, IsJoinDue, Renews, Puts, Takes, Settles}
+use Rattle.proxy_core.specs.Moves.{IsPutDue, IsJoinDue, Renews, Puts, Takes, Settles}
 
 -- A call that was made. Of a turn there is what was asked, each command beside its guest, and the outcomes.
 pub data Step (C V : Type 0) : Type 0 where
@@ -71,8 +72,7 @@ Makes overlaps command reply asks (Put g e) old s new s' = (is_open_at old.openi
     × (queue_bytes command reply (queue_at new.queues g) ≤ old.limits.share.bytes)
     × SameGuests old new × (s' ≡ s)
 Makes overlaps command reply asks (NotPut g e why) old s new s' =
-    IsDue why (is_open_at old.openings g) old.limits.share (length (queue_at old.queues g))
-    (queue_bytes command reply (queue_at old.queues g)) (entry_bytes command reply e)
+    IsPutDue command reply old.limits.share (queue_at old.queues g) e (is_open_at old.openings g) why
     × Keeps old new × (s' ≡ s)
 Makes overlaps command reply asks (Took g v) old s new s' =
     Takes old.queues new.queues g v × SameGuests old new × (s' ≡ s)
@@ -87,23 +87,15 @@ Makes overlaps command reply asks NotTurned old s new s' = Keeps old new × ((s'
 -- a call was made, and answered this
 abbrev pub MakesOne : {C V S : Type 0} → (C → C → Bool) → (C → ℕ) → (V → ℕ) → Asks S C V → Call C V
     → Answer C V → State C V → S → State C V → S → Type 0
-MakesOne {C} {V} overlaps command reply asks call answer old s new s' = (step : Step C V)
-    × (call ≡ call_of step) × (answer ≡ answer_of step) × Makes overlaps command reply asks step old s new s'
+MakesOne overlaps command reply asks = MakesOneBy (Makes overlaps command reply asks) call_of answer_of
 
 -- one call after another
 abbrev pub Runs : {C V S : Type 0} → (C → C → Bool) → (C → ℕ) → (V → ℕ) → Asks S C V → List (Step C V)
     → State C V → S → State C V → S → Type 0
-Runs overlaps command reply asks [] old s new s' = (new ≡ old) × (s' ≡ s)
-Runs {C} {V} {S} overlaps command reply asks (step ∷ steps) old s new s' = (old1 : State C V) × (s1 : S)
-    × Makes overlaps command reply asks step old s old1 s1
-    × Runs overlaps command reply asks steps old1 s1 new s'
+Runs overlaps command reply asks = RunsBy (Makes overlaps command reply asks)
 
 -- The first of the calls were made, one after another, and the others are left; what each answered stands
 -- behind the answers before.
-pub record Plays {C V S : Type 0} (overlaps : C → C → Bool) (command : C → ℕ) (reply : V → ℕ)
-    (asks : Asks S C V) (calls left : List (Call C V)) (before after : List (Answer C V))
-    (old : State C V) (s : S) (new : State C V) (s' : S) : Type 0 where
-  pub steps : List (Step C V)
-  pub runs : Runs overlaps command reply asks steps old s new s'
-  pub first : calls ≡ map call_of steps ++ left
-  pub answers : after ≡ before ++ map answer_of steps
+abbrev pub Plays : {C V S : Type 0} → (C → C → Bool) → (C → ℕ) → (V → ℕ) → Asks S C V → List (Call C V)
+    → List (Call C V) → List (Answer C V) → List (Answer C V) → State C V → S → State C V → S → Type 0
+Plays overlaps command reply asks = PlaysBy (Makes overlaps command reply asks) call_of answer_of

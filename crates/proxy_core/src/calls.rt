@@ -1,13 +1,12 @@
 //! The calls of a proxy.
-ghost use Rattle.std.specs.Prelude.{◌≡◌, ◌≤◌, ◌<◌, ◌+◌, ◌++◌, ◌∷◌, [], ◌⊎◌, false, true, length, IfOk, IfErr, OnOk, OnErr, MatchOption};
+ghost use Rattle.std.specs.Prelude.{◌≡◌, ◌≤◌, ◌<◌, ◌++◌, ◌∷◌, [], ◌⊎◌, false, true, length, IfOk, IfErr, OnOk, OnErr, MatchOption};
 ghost use Rattle.proxy_core.specs.declared.refusal.Refusal.TheVariants.{NoMemory};
-ghost use Rattle.proxy_core.specs.Guests.{entry_bytes, free_from, is_open_at, openings, queue_at, queue_bytes, queues};
-ghost use Rattle.proxy_core.specs.Moves.{IsDue, IsJoinDue, Puts, Renews, Takes, Turns};
+ghost use Rattle.proxy_core.specs.Guests.{free_from, is_open_at, queue_at, queue_bytes};
+ghost use Rattle.proxy_core.specs.Moves.{HasRoomFor, IsJoinDue, IsPutDue, Puts, Renews, Takes, Turns};
 ghost use Rattle.proxy_core.specs.Queue.{first_reply};
-ghost use Rattle.proxy_core.specs.Seen.{state_of};
 
 use crate::command::{Bytes, Command};
-use crate::guest::Guest;
+use crate::guest_queue::GuestQueue;
 use crate::guests::{ask_waiting, free_number, put_in, renew, settle_all, take_from};
 use crate::limits::Limits;
 use crate::proxy::Proxy;
@@ -20,8 +19,8 @@ use std::collections::VecDeque;
 impl<C: Command, V: Bytes> Proxy<C, V> {
     /// A proxy with no guest.
     pub fn new(alloc: Global, limits: Limits) -> Proxy<C, V>
-        ensures none { queues result.guests.items ≡ [] }
-        ensures nobody { openings result.guests.items ≡ [] }
+        ensures none { result.queues ≡ [] }
+        ensures nobody { result.openings ≡ [] }
         ensures limits { result.limits ≡ limits }
     {
         Proxy {
@@ -33,14 +32,12 @@ impl<C: Command, V: Bytes> Proxy<C, V> {
     /// Lets a guest in, and answers its number: the first one that no guest has. Where it is refused
     /// nothing has changed. The place of a guest that left takes no memory.
     pub fn join(&mut self, alloc: Global) -> Result<usize, JoinRefusal>
-        ensures number { IfOk result (λ g. g ≡ free_from 0 (openings self.old.guests.items)) }
+        ensures number { IfOk result (λ g. g ≡ free_from 0 self.old.openings) }
         ensures within { IfOk result (λ g. g < self.old.limits.guests) }
-        ensures ok { IfOk result (λ g. Renews (state_of self.old.guests.items self.old.limits)
-            (state_of self.new.guests.items self.new.limits) g true) }
-        ensures why { IfErr result (λ why. IsJoinDue why
-            (openings self.old.guests.items) self.old.limits.guests) }
-        ensures err { OnErr result (queues self.new.guests.items ≡ queues self.old.guests.items) }
-        ensures still_open { OnErr result (openings self.new.guests.items ≡ openings self.old.guests.items) }
+        ensures ok { IfOk result (λ g. Renews self.old self.new g true) }
+        ensures why { IfErr result (λ why. IsJoinDue why self.old.openings self.old.limits.guests) }
+        ensures err { OnErr result (self.new.queues ≡ self.old.queues) }
+        ensures still_open { OnErr result (self.new.openings ≡ self.old.openings) }
         ensures limits { self.new.limits ≡ self.old.limits }
     {
         let number = free_number(&self.guests);
@@ -59,15 +56,13 @@ impl<C: Command, V: Bytes> Proxy<C, V> {
 
     // Lets a guest in behind the others.
     fn add(&mut self, alloc: Global) -> Result<(), AllocError>
-        ensures queues { OnOk result (queues self.new.guests.items
-            ≡ queues self.old.guests.items ++ [] ∷ []) }
-        ensures openings { OnOk result (openings self.new.guests.items
-            ≡ openings self.old.guests.items ++ true ∷ []) }
-        ensures err { OnErr result (queues self.new.guests.items ≡ queues self.old.guests.items) }
-        ensures still_open { OnErr result (openings self.new.guests.items ≡ openings self.old.guests.items) }
+        ensures queues { OnOk result (self.new.queues ≡ self.old.queues ++ [] ∷ []) }
+        ensures openings { OnOk result (self.new.openings ≡ self.old.openings ++ true ∷ []) }
+        ensures err { OnErr result (self.new.queues ≡ self.old.queues) }
+        ensures still_open { OnErr result (self.new.openings ≡ self.old.openings) }
         ensures limits { self.new.limits ≡ self.old.limits }
     {
-        self.guests.push(Guest {
+        self.guests.push(GuestQueue {
             open: true,
             bytes: 0,
             entries: VecDeque::new(alloc),
@@ -77,7 +72,7 @@ impl<C: Command, V: Bytes> Proxy<C, V> {
 
     // Whether a guest is there.
     fn is_open(&self, guest: usize) -> bool
-        ensures is_there { result ≡ is_open_at (openings self.now.guests.items) guest }
+        ensures is_there { result ≡ is_open_at self.now.openings guest }
     {
         if self.guests.len() <= guest {
             return false;
@@ -87,7 +82,7 @@ impl<C: Command, V: Bytes> Proxy<C, V> {
 
     /// How many entries the proxy holds of a guest: commands that wait, and replies that it did not take.
     pub fn held(&self, guest: usize) -> usize
-        ensures { result ≡ length (queue_at (queues self.now.guests.items) guest) }
+        ensures { result ≡ length (queue_at self.now.queues guest) }
     {
         if self.guests.len() <= guest {
             return 0;
@@ -99,25 +94,19 @@ impl<C: Command, V: Bytes> Proxy<C, V> {
     /// refused nothing has changed, and the entry comes back. What other guests hold is no cause: an
     /// entry that the guest's own share has room for is refused by want of memory alone.
     pub fn put(&mut self, guest: usize, entry: Entry<C, V>) -> Result<(), Refused<Entry<C, V>>>
-        ensures is_open { OnOk result (is_open_at (openings self.old.guests.items) guest ≡ true) }
-        ensures ok { OnOk result (Puts
-            (queues self.old.guests.items) (queues self.new.guests.items) guest entry) }
+        ensures is_open { OnOk result (is_open_at self.old.openings guest ≡ true) }
+        ensures ok { OnOk result (Puts self.old.queues self.new.queues guest entry) }
         ensures bounded { OnOk result
-            (length (queue_at (queues self.new.guests.items) guest) ≤ self.old.limits.share.entries) }
-        ensures bytes_bounded { OnOk result (queue_bytes C.bytes V.bytes
-            (queue_at (queues self.new.guests.items) guest) ≤ self.old.limits.share.bytes) }
+            (length (queue_at self.new.queues guest) ≤ self.old.limits.share.entries) }
+        ensures bytes_bounded { OnOk result
+            (queue_bytes C.bytes V.bytes (queue_at self.new.queues guest) ≤ self.old.limits.share.bytes) }
         ensures entry { IfErr result (λ refused. refused.value ≡ entry) }
-        ensures err { OnErr result (queues self.new.guests.items ≡ queues self.old.guests.items) }
-        ensures why { let q = queue_at (queues self.old.guests.items) guest in
-            IfErr result (λ refused. IsDue refused.why (is_open_at (openings self.old.guests.items) guest)
-            self.old.limits.share (length q) (queue_bytes C.bytes V.bytes q)
-            (entry_bytes C.bytes V.bytes entry)) }
-        ensures own_share { let q = queue_at (queues self.old.guests.items) guest in
-            is_open_at (openings self.old.guests.items) guest ≡ true
-            → length q < self.old.limits.share.entries
-            → queue_bytes C.bytes V.bytes q + entry_bytes C.bytes V.bytes entry ≤ self.old.limits.share.bytes
+        ensures err { OnErr result (self.new.queues ≡ self.old.queues) }
+        ensures why { IfErr result (λ refused. IsPutDue C.bytes V.bytes self.old.limits.share
+            (queue_at self.old.queues guest) entry (is_open_at self.old.openings guest) refused.why) }
+        ensures own_share { HasRoomFor C.bytes V.bytes self.old guest entry
             → IfErr result (λ refused. refused.why ≡ NoMemory) }
-        ensures openings { openings self.new.guests.items ≡ openings self.old.guests.items }
+        ensures openings { self.new.openings ≡ self.old.openings }
         ensures limits { self.new.limits ≡ self.old.limits }
     {
         if !self.is_open(guest) || self.guests.len() <= guest {
@@ -131,10 +120,10 @@ impl<C: Command, V: Bytes> Proxy<C, V> {
 
     /// Hands a guest its next reply: none where its first command waits.
     pub fn take(&mut self, guest: usize) -> Option<V>
-        ensures first { result ≡ first_reply (queue_at (queues self.old.guests.items) guest) }
-        ensures taken { MatchOption result (queues self.new.guests.items ≡ queues self.old.guests.items)
-            (λ v. Takes (queues self.old.guests.items) (queues self.new.guests.items) guest v) }
-        ensures openings { openings self.new.guests.items ≡ openings self.old.guests.items }
+        ensures first { result ≡ first_reply (queue_at self.old.queues guest) }
+        ensures taken { MatchOption result (self.new.queues ≡ self.old.queues)
+            (λ v. Takes self.old.queues self.new.queues guest v) }
+        ensures openings { self.new.openings ≡ self.old.openings }
         ensures limits { self.new.limits ≡ self.old.limits }
     {
         if self.guests.len() <= guest {
@@ -146,8 +135,7 @@ impl<C: Command, V: Bytes> Proxy<C, V> {
     /// Ends a guest, and drops what the proxy holds of it: its commands are not asked any more, and its
     /// number is free.
     pub fn leave(&mut self, alloc: Global, guest: usize)
-        ensures ended { Renews (state_of self.old.guests.items self.old.limits)
-            (state_of self.new.guests.items self.new.limits) guest false }
+        ensures ended { Renews self.old self.new guest false }
     {
         if self.guests.len() <= guest {
             return;
@@ -162,11 +150,11 @@ impl<C: Command, V: Bytes> Proxy<C, V> {
         alloc: Global,
         servers: &mut S,
     ) -> Result<(), AllocError>
-        ensures ok { OnOk result (Turns C.overlaps S.asks
-            (queues self.old.guests.items) (queues self.new.guests.items) servers.old servers.new) }
-        ensures err { OnErr result (queues self.new.guests.items ≡ queues self.old.guests.items) }
+        ensures ok { OnOk result
+            (Turns C.overlaps S.asks self.old.queues self.new.queues servers.old servers.new) }
+        ensures err { OnErr result (self.new.queues ≡ self.old.queues) }
         ensures unasked { OnErr result ((servers.new ≡ servers.old) ⊎ S.asks servers.old [] [] servers.new) }
-        ensures openings { openings self.new.guests.items ≡ openings self.old.guests.items }
+        ensures openings { self.new.openings ≡ self.old.openings }
         ensures limits { self.new.limits ≡ self.old.limits }
     {
         let outcomes = ask_waiting(alloc, &self.guests, servers)?;

@@ -2,22 +2,25 @@
 ghost use Rattle.std.specs.Prelude.{◌≡◌, ◌≢◌, ◌≤◌, ◌<◌, ◌++◌, ◌∷◌, ℕ, [], ◌⊎◌, true, length, drop, vec_len, slice_set, IfErr, IfOk, MatchOption, OnErr, OnOk};
 ghost use Rattle.std.specs.List.{AllByRecursion};
 ghost use Rattle.proxy_core.specs.Batch.{all_settled, batch_from, batch_of};
-ghost use Rattle.proxy_core.specs.Guests.{IsCounted, entry_bytes, free_from, openings, queue_at, queue_bytes, queues};
-ghost use Rattle.proxy_core.specs.Moves.{IsDue};
+ghost use Rattle.proxy_core.specs.Guests.{IsCounted, free_from, openings, queue_at, queue_bytes, queues};
+ghost use Rattle.proxy_core.specs.Moves.{IsPutDue};
 ghost use Rattle.proxy_core.specs.Queue.{first_reply};
 
 use crate::command::{Bytes, Command};
-use crate::guest::{Guest, settle_guest};
+use crate::guest_queue::{GuestQueue, settle_guest};
 use crate::limits::Room;
 use crate::outcome::Outcome;
 use crate::queue::Entry;
 use crate::refusal::Refused;
-use crate::servers::{Asked, Servers, gather_guest};
+use crate::servers::{Servers, Waiting, gather_guest};
 use std::alloc::{AllocError, Global};
 use std::collections::VecDeque;
 
 // What waits of all guests, guest behind guest.
-fn gather<C, V>(alloc: Global, guests: &[Guest<C, V>]) -> Result<Vec<Asked<'_, C>>, AllocError>
+fn gather<C, V>(
+    alloc: Global,
+    guests: &[GuestQueue<C, V>],
+) -> Result<Vec<Waiting<'_, C>>, AllocError>
     ensures { IfOk result (λ batch. batch_of batch.items ≡ batch_from 0 (queues guests.now)) }
 {
     let mut batch = Vec::new(alloc);
@@ -30,7 +33,7 @@ fn gather<C, V>(alloc: Global, guests: &[Guest<C, V>]) -> Result<Vec<Asked<'_, C
 /// Asks the servers what waits.
 pub(crate) fn ask_waiting<C, V, S: Servers<C, V>>(
     alloc: Global,
-    guests: &[Guest<C, V>],
+    guests: &[GuestQueue<C, V>],
     servers: &mut S,
 ) -> Result<Vec<Outcome<V>>, AllocError>
     ensures one_each { IfOk result (λ outcomes. vec_len outcomes
@@ -45,7 +48,7 @@ pub(crate) fn ask_waiting<C, V, S: Servers<C, V>>(
 
 /// Settles each guest's queue by its own outcomes, which stand guest behind guest.
 pub(crate) fn settle_all<C: Command, V: Bytes>(
-    guests: &mut [Guest<C, V>],
+    guests: &mut [GuestQueue<C, V>],
     outcomes: VecDeque<Outcome<V>>,
 )
     requires { AllByRecursion (IsCounted C.bytes V.bytes) guests.old }
@@ -61,7 +64,7 @@ pub(crate) fn settle_all<C: Command, V: Bytes>(
 
 /// Puts an entry behind those of a guest, where its share has room for it.
 pub(crate) fn put_in<C: Bytes, V: Bytes>(
-    guests: &mut [Guest<C, V>],
+    guests: &mut [GuestQueue<C, V>],
     guest: usize,
     share: Room,
     entry: Entry<C, V>,
@@ -75,10 +78,8 @@ pub(crate) fn put_in<C: Bytes, V: Bytes>(
         (queue_bytes C.bytes V.bytes (queue_at (queues guests.new) guest) ≤ share.bytes) }
     ensures err { OnErr result (queues guests.new ≡ queues guests.old) }
     ensures value { IfErr result (λ refused. refused.value ≡ entry) }
-    ensures why { IfErr result (λ refused. IsDue refused.why true share
-        (length (queue_at (queues guests.old) guest))
-        (queue_bytes C.bytes V.bytes (queue_at (queues guests.old) guest))
-        (entry_bytes C.bytes V.bytes entry)) }
+    ensures why { IfErr result (λ refused. IsPutDue C.bytes V.bytes share
+        (queue_at (queues guests.old) guest) entry true refused.why) }
     ensures openings { openings guests.new ≡ openings guests.old }
     ensures counted { AllByRecursion (IsCounted C.bytes V.bytes) guests.new }
 {
@@ -86,7 +87,10 @@ pub(crate) fn put_in<C: Bytes, V: Bytes>(
 }
 
 /// Takes a guest's first reply, where no command waits before it.
-pub(crate) fn take_from<C: Bytes, V: Bytes>(guests: &mut [Guest<C, V>], guest: usize) -> Option<V>
+pub(crate) fn take_from<C: Bytes, V: Bytes>(
+    guests: &mut [GuestQueue<C, V>],
+    guest: usize,
+) -> Option<V>
     requires there { guest < length guests.old }
     requires counted { AllByRecursion (IsCounted C.bytes V.bytes) guests.old }
     ensures taken { MatchOption result (queues guests.new ≡ queues guests.old) (λ v.
@@ -101,7 +105,7 @@ pub(crate) fn take_from<C: Bytes, V: Bytes>(guests: &mut [Guest<C, V>], guest: u
 
 /// Drops what is held of a guest, which is there from now on or not.
 pub(crate) fn renew<C: Bytes, V: Bytes>(
-    guests: &mut [Guest<C, V>],
+    guests: &mut [GuestQueue<C, V>],
     alloc: Global,
     guest: usize,
     is_there: bool,
@@ -112,7 +116,7 @@ pub(crate) fn renew<C: Bytes, V: Bytes>(
     ensures openings { openings guests.new ≡ slice_set (openings guests.old) guest is_there }
     ensures counted { AllByRecursion (IsCounted C.bytes V.bytes) guests.new }
 {
-    guests[guest] = Guest {
+    guests[guest] = GuestQueue {
         open: is_there,
         bytes: 0,
         entries: VecDeque::new(alloc),
@@ -120,7 +124,7 @@ pub(crate) fn renew<C: Bytes, V: Bytes>(
 }
 
 /// The first number that no guest has.
-pub(crate) fn free_number<C, V>(guests: &[Guest<C, V>]) -> usize
+pub(crate) fn free_number<C, V>(guests: &[GuestQueue<C, V>]) -> usize
     ensures number { result ≡ free_from 0 (openings guests.now) }
     ensures within { result ≤ length guests.now }
 {

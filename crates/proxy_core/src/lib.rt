@@ -6,15 +6,15 @@
 mod calls;
 mod command;
 mod done;
-mod guest;
+mod guest_queue;
 mod guests;
 mod laws;
 mod limits;
 mod outcome;
+mod play;
 mod proxy;
 mod queue;
 mod refusal;
-mod run;
 mod servers;
 mod verdicts;
 
@@ -22,8 +22,8 @@ pub use command::{Bytes, Command};
 pub use laws::{asks_once, each_sees_its_own, keeps_order, stays_within};
 pub use limits::{Limits, Room};
 pub use outcome::{Fate, Outcome};
+pub use play::{Answer, Call};
 pub use proxy::Proxy;
 pub use queue::Entry;
 pub use refusal::{JoinRefusal, Refusal, Refused};
-pub use run::{Answer, Call};
-pub use servers::{Asked, Servers};
+pub use servers::{Servers, Waiting};

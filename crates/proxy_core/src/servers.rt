@@ -8,9 +8,9 @@ use crate::queue::Entry;
 use std::alloc::{AllocError, Global};
 use std::collections::VecDeque;
 
-/// A command and the guest that asked it.
+/// A command that waits, lent to the servers, and its guest.
 #[derive(Clone, Copy)]
-pub struct Asked<'a, C> {
+pub struct Waiting<'a, C> {
     pub guest: usize,
     pub command: &'a C,
 }
@@ -24,7 +24,11 @@ pub trait Servers<C, V> {
     /// Asks all of the batch, those of one guest in their order, and answers one outcome for each. Where
     /// memory is refused before anything was written nothing is asked; behind that each command has an
     /// outcome.
-    fn ask(&mut self, alloc: Global, batch: &[Asked<'_, C>]) -> Result<Vec<Outcome<V>>, AllocError>
+    fn ask(
+        &mut self,
+        alloc: Global,
+        batch: &[Waiting<'_, C>],
+    ) -> Result<Vec<Outcome<V>>, AllocError>
         ensures one_each { IfOk result (λ outcomes. vec_len outcomes ≡ length batch.now) }
         ensures asked { IfOk result (λ outcomes. asks self.old (batch_of batch.now) outcomes.items self.new) }
         ensures refused { OnErr result (asks self.old [] [] self.new) };
@@ -32,10 +36,10 @@ pub trait Servers<C, V> {
 
 /// Adds what waits of one guest to a batch.
 pub(crate) fn gather_guest<'a, C, V>(
-    batch: Vec<Asked<'a, C>>,
+    batch: Vec<Waiting<'a, C>>,
     guest: usize,
     entries: &'a VecDeque<Entry<C, V>>,
-) -> Result<Vec<Asked<'a, C>>, AllocError>
+) -> Result<Vec<Waiting<'a, C>>, AllocError>
     ensures { IfOk result (λ all. batch_of all.items
         ≡ batch_of batch.entry.items ++ asked_by guest (waiting entries.now.items)) }
 {
@@ -43,7 +47,7 @@ pub(crate) fn gather_guest<'a, C, V>(
     'entries: for i in 0..entries.len() {
         match &entries[i] {
             Entry::Reads(_) => {}
-            Entry::Waits(command) => all.push(Asked { guest, command })?,
+            Entry::Waits(command) => all.push(Waiting { guest, command })?,
         }
     }
     Ok(all)

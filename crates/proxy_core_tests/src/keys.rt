@@ -2,7 +2,7 @@
 ghost use Rattle.std.specs.Prelude.{◌≡◌};
 ghost use Rattle.proxy_core.specs.Slots.{overlap};
 
-use proxy_core::{Asked, Bytes, Command, Fate, Outcome, Servers};
+use proxy_core::{Bytes, Command, Fate, Outcome, Servers, Waiting};
 use std::alloc::{AllocError, Global};
 
 /// A command of one byte at these keys; it may be at any where there is none.
@@ -82,7 +82,7 @@ impl Servers<OnKeys, Said> for Fates {
     fn ask(
         &mut self,
         alloc: Global,
-        batch: &[Asked<'_, OnKeys>],
+        batch: &[Waiting<'_, OnKeys>],
     ) -> Result<Vec<Outcome<Said>>, AllocError> {
         let turn = self.turn.saturating_add(1);
         let mut outcomes = Vec::new(alloc);

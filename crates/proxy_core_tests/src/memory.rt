@@ -1,7 +1,8 @@
 //! One request for memory is refused, whichever: `tools/refused-tests` plays each test once for each.
-use crate::moving::{ERROR, Moving, OnKey};
+use crate::moving::{ERROR, Moving};
 use crate::turns::{Guests, LIMITS};
 use proxy_core::{Entry, Fate, Proxy};
+use proxy_stubs::OnKey;
 use std::alloc::Global;
 use std::io::Print;
 use std::process::Abort;

@@ -1,43 +1,7 @@
 //! Servers that tell one key's commands another fate for a while.
-ghost use Rattle.std.proofs.Common.{rules};
-ghost use Rattle.std.specs.Prelude.{◌==◌, ◌∷◌, []};
-
-use proxy_core::{Asked, Bytes, Command, Fate, Outcome, Servers};
+use proxy_core::{Bytes, Fate, Outcome, Servers, Waiting};
+use proxy_stubs::OnKey;
 use std::alloc::{AllocError, Global};
-
-/// A command of ten bytes at a key, which is its reply too.
-#[derive(Drop)]
-pub(crate) struct OnKey {
-    pub(crate) key: u8,
-}
-
-impl Bytes for OnKey {
-    ghost bytes = { λ command. 10 };
-
-    fn bytes(&self) -> usize {
-        10
-    }
-}
-
-impl Command for OnKey {
-    ghost overlaps = { λ a b. a.key == b.key };
-
-    ghost slots = { λ command. command.key ∷ [] };
-
-    ghost overlaps_by_slots = { λ a b. Prim.search rules };
-
-    fn overlaps(&self, later: &OnKey) -> bool {
-        self.key == later.key
-    }
-
-    fn slot(&self, index: usize) -> Option<u64> {
-        if index == 0 {
-            Some(u64::from(self.key))
-        } else {
-            None
-        }
-    }
-}
 
 /// A reply of one byte.
 #[derive(Drop)]
@@ -87,7 +51,7 @@ impl Servers<OnKey, Reply> for Moving {
     fn ask(
         &mut self,
         alloc: Global,
-        batch: &[Asked<'_, OnKey>],
+        batch: &[Waiting<'_, OnKey>],
     ) -> Result<Vec<Outcome<Reply>>, AllocError> {
         let mut outcomes = Vec::new(alloc);
         let mut met = false;

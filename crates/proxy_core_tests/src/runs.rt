@@ -1,7 +1,8 @@
 //! A list of calls, and what each answers.
-use crate::moving::{Moving, OnKey, Reply};
+use crate::moving::{Moving, Reply};
 use crate::turns::{Guests, LIMITS};
 use proxy_core::{Answer, Call, Entry, Fate, JoinRefusal, Proxy, Refusal};
+use proxy_stubs::OnKey;
 use std::alloc::{AllocError, Global};
 use std::collections::VecDeque;
 use std::test::*;

@@ -1,6 +1,7 @@
 //! What guests read of commands with each fate.
-use crate::moving::{ERROR, Moving, OnKey, Reply};
+use crate::moving::{ERROR, Moving, Reply};
 use proxy_core::{Entry, Fate, Limits, Proxy, Room, asks_once, each_sees_its_own, keeps_order};
+use proxy_stubs::OnKey;
 use std::alloc::Global;
 use std::test::*;
 

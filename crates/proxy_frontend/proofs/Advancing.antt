@@ -16,7 +16,7 @@ use Rattle.proxy_frontend.specs.Places.{Changes}
 use Rattle.proxy_frontend.specs.Serving.{AllStay, IsServed}
 use Rattle.proxy_frontend.specs.State.{State, connection_at}
 use Rattle.proxy_frontend.proofs.Places.{changes_either}
-use Rattle.proxy_frontend.proofs.Served.{number_of, still, unmoved, moved, now_at}
+use Rattle.proxy_frontend.proofs.Served.{own_number, served_by, still, unmoved, moved, now_at}
 
 module _ {T C V : Type 0} (w : Ways T C V) (command : C → ℕ) (reply : V → ℕ) (old new : State T C V) (g : ℕ) (f : new.proxy.openings ≡ old.proxy.openings) where
   -- of a connection that is there
@@ -43,7 +43,7 @@ module _ {T C V : Type 0} (w : Ways T C V) (command : C → ℕ) (reply : V → 
     rests_at why n m k = (
       k,
       λ histories s. subst (λ (x : Option (Connection T C V)). Rests w command reply old.proxy.limits.share x (queue_at old.proxy.queues g) (histories g) why) (sym (now_at w old new g c c' (λ h. h) was made))
-          (rests why n m (histories g) (subst (λ (x : Option (Connection T C V)). IsServed w g x (is_open_at old.proxy.openings g) (queue_at old.proxy.queues g) (histories g)) was (s g))),
+          (rests why n m (histories g) (served_by w old histories g (Some c) was s)),
     )
 
     advances_some : (progress : Progress) → Goes_so progress → Advances w command reply old new g progress
@@ -79,7 +79,7 @@ module _ {T C V : Type 0} (w : Ways T C V) (command : C → ℕ) (reply : V → 
           n,
           λ histories s. subst (λ (x : Option (Connection T C V)). Rests w command reply old.proxy.limits.share x (queue_at old.proxy.queues g) (histories g) NoGuest)
               (sym (ap (λ (cs : List (Option (Connection T C V))). connection_at cs g) k ∙ e))
-              (nobody_rests (histories g) (subst (λ (x : Option (Connection T C V)). IsServed w g x (is_open_at old.proxy.openings g) (queue_at old.proxy.queues g) (histories g)) e (s g))),
+              (nobody_rests (histories g) (served_by w old histories g None e s)),
         )
 
   pub not_advanced : Changes old.connections new.connections g ⊥ (λ c c'. moves.Keeps w c.guest c c' old.proxy.queues new.proxy.queues)
@@ -96,8 +96,6 @@ module _ {T C V : Type 0} (w : Ways T C V) (command : C → ℕ) (reply : V → 
       changes_either old.connections new.connections g ⊥ (λ c c'. Wants_so c.guest c') (IsUnderWayAt w command reply old new g)
       (λ e k n. absurd n)
       (λ c c' was made k so histories s.
-      let own : c.guest ≡ g =
-      number_of w g c (is_open_at old.proxy.openings g) (queue_at old.proxy.queues g) (histories g)
-      (subst (λ (x : Option (Connection T C V)). IsServed w g x (is_open_at old.proxy.openings g) (queue_at old.proxy.queues g) (histories g)) was (s g)) in
+      let own = own_number w old histories g c was s in
       subst (λ (x : Option (Connection T C V)). MatchOption x ⊥ (Wants_so g)) (sym (now_at w old new g c c' (λ h. h) was made))
       (subst (λ (i : ℕ). Wants_so i c') own so)) m

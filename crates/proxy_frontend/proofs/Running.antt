@@ -1,25 +1,25 @@
 -- Runs of calls: one call more at a time, and what was seen behind them.
-use Rattle.std.proofs.Common.{◌≡◌, ℕ, Bool, true, List, [], ◌∷◌, ◌++◌, map, Option, Some, None, Vec, refl, sym, ◌∙◌, ap, subst, append_assoc}
+use Rattle.std.proofs.Common.{◌≡◌, ℕ, Bool, true, List, [], ◌∷◌, Option, Some, None, Vec, refl, sym, ◌∙◌, subst}
 use Rattle.std.specs.Global.{Global}
-use Rattle.std.proofs.lemmas.List.{append-nil, map-append}
 use Rattle.resp_requests.specs.declared.limits.Limits.{Limits}
 use Rattle.proxy_core.specs.declared.queue.Entry.{Entry}
 use Rattle.proxy_core.specs.Batch.{Asks}
 use Rattle.proxy_core.specs.Guests.{queue_at, is_open_at}
+use Rattle.proxy_core.specs.Runs.{PlaysBy}
 use Rattle.proxy_connection.specs.declared.connection.Connection.{Connection}
 use Rattle.proxy_connection.specs.declared.progress.Progress.{Progress}
 use Rattle.proxy_connection.specs.declared.progress.Progress.TheVariants.{Taken, Short, Full, Ended, NoGuest}
 use Rattle.proxy_connection.specs.History.{History}
 use Rattle.proxy_connection.specs.Serving.{Serves}
 use Rattle.proxy_connection.specs.Ways.{Ways}
-use Rattle.proxy_frontend.specs.declared.run.Answer.{Answer}
-use Rattle.proxy_frontend.specs.declared.run.Answer.TheVariants as answers
-use Rattle.proxy_frontend.specs.declared.run.Call.{Call}
-use Rattle.proxy_frontend.specs.declared.run.Call.TheVariants as calls
+use Rattle.proxy_frontend.specs.declared.play.Answer.{Answer}
+use Rattle.proxy_frontend.specs.declared.play.Answer.TheVariants as answers
+use Rattle.proxy_frontend.specs.declared.play.Call.{Call}
+use Rattle.proxy_frontend.specs.declared.play.Call.TheVariants as calls
 use Rattle.proxy_frontend.specs.Histories.{Histories, wrote}
 use Rattle.proxy_frontend.specs.Laws.{own_seen, ReadsItsOwn, EachReadsItsOwn}
 use Rattle.proxy_frontend.specs.Moves.{Advances, HasNext, Writes}
-use Rattle.proxy_frontend.specs.Serving.{AllGo, AreServed, IsServed}
+use Rattle.proxy_frontend.specs.Serving.{AllGo, AreServed, IsServed, IsServedAt}
 use Rattle.proxy_frontend.specs.State.{State, connection_at}
 use Rattle.proxy_frontend.specs.Steps.{Step, Joined, NotJoined, Heard, NotHeard, Entered, Rested, NotAdvanced, Wrote, WroteNothing, NotWritten, Left, Turned, NotTurned, SameLimits, Makes, MakesOne, Runs, Plays, call_of, answer_of, seen, all_seen}
 
@@ -44,12 +44,6 @@ module _ {T C V S : Type 0} (w : Ways T C V) (command : C → ℕ) (reply : V �
 
   -- ---- one call after another
 
-  runs_more : (steps : List (Step T C V)) (step : Step T C V) (old : State T C V) (s : S) (mid : State T C V) (s1 : S) (new : State T C V) (s' : S)
-      → Runs w command reply asks steps old s mid s1 → Makes w command reply asks step mid s1 new s' → Runs w command reply asks (steps ++ step ∷ []) old s new s'
-  runs_more [] step old s mid s1 new s' r m =
-      (new, s', subst (λ (st : State T C V). Makes w command reply asks step st s new s') r.0 (subst (λ (t : S). Makes w command reply asks step mid t new s') r.1 m), (refl, refl))
-  runs_more (first ∷ steps) step old s mid s1 new s' r m = (r.0, r.1, r.2, runs_more steps step r.0 r.1 mid s1 new s' r.3 m)
-
   runs_serve : (steps : List (Step T C V)) (old : State T C V) (s : S) (new : State T C V) (s' : S)
       → Runs w command reply asks steps old s new s' → AllGo w old new (all_seen old.limits steps)
   runs_serve [] old s new s' r histories served = subst (λ (st : State T C V). AreServed w st histories) (sym r.0) served
@@ -57,26 +51,9 @@ module _ {T C V S : Type 0} (w : Ways T C V) (command : C → ℕ) (reply : V �
       subst (λ (l : Limits). AreServed w new (all_seen l steps (seen old.limits step histories))) r.2.1.0
       (runs_serve steps r.0 r.1 new s' r.3 (seen old.limits step histories) (r.2.0 histories served))
 
-  pub plays_none : (calls : List (Call T)) (before : List Answer) (old : State T C V) (s : S) → Plays w command reply asks calls calls before before old s old s
-  plays_none calls before old s =
-      record { steps = []; runs = (refl, refl); first = refl; answers = sym (append-nil before); serves = λ histories served. served }
-
-  pub plays_more : (calls left left' : List (Call T)) (before after : List Answer) (old : State T C V) (s : S) (mid : State T C V) (s1 : S) (new : State T C V) (s' : S)
-      (call : Call T) (answer : Answer)
-      → Plays w command reply asks calls left before after old s mid s1 → left ≡ call ∷ left' → MakesOne w command reply asks call answer mid s1 new s'
-      → Plays w command reply asks calls left' before (after ++ answer ∷ []) old s new s'
-  plays_more calls left left' before after old s mid s1 new s' call answer p l m =
-      let runs = runs_more p.steps m.0 old s mid s1 new s' p.runs m.3 in
-      record {
-        steps = p.steps ++ m.0 ∷ [];
-        runs = runs;
-        first = p.first ∙ ap (λ xs. map call_of p.steps ++ xs) (l ∙ ap (λ x. x ∷ left') m.1)
-            ∙ sym (append_assoc (map call_of p.steps) (call_of m.0 ∷ []) left')
-            ∙ ap (λ xs. xs ++ left') (sym (map-append call_of p.steps (m.0 ∷ [])));
-        answers = ap (λ xs. xs ++ answer ∷ []) p.answers ∙ append_assoc before (map answer_of p.steps) (answer ∷ [])
-            ∙ ap (λ xs. before ++ xs) (ap (λ x. map answer_of p.steps ++ x ∷ []) m.2 ∙ sym (map-append answer_of p.steps (m.0 ∷ [])));
-        serves = runs_serve (p.steps ++ m.0 ∷ []) old s new s' runs;
-      }
+  pub played : (calls left : List (Call T)) (before after : List Answer) (old : State T C V) (s : S) (new : State T C V) (s' : S)
+      → PlaysBy (Makes w command reply asks) call_of answer_of calls left before after old s new s' → Plays w command reply asks calls left before after old s new s'
+  played calls left before after old s new s' p = record { plays = p; serves = runs_serve p.steps old s new s' p.runs }
 
   -- ---- what is each guest's own
 
@@ -105,4 +82,4 @@ module _ {T C V S : Type 0} (w : Ways T C V) (command : C → ℕ) (reply : V �
   each_reads_its_own steps old s new s' r histories served g h e =
       let own = own_all old.limits g steps histories ∙ e in
       reads g (connection_at new.connections g) (is_open_at new.proxy.openings g) (queue_at new.proxy.queues g) h
-      (subst (λ (x : Option (History T C V)). IsServed w g (connection_at new.connections g) (is_open_at new.proxy.openings g) (queue_at new.proxy.queues g) x) own (runs_serve steps old s new s' r histories served g))
+      (subst (λ (x : Option (History T C V)). IsServedAt w new g x) own (runs_serve steps old s new s' r histories served g))

@@ -16,7 +16,7 @@ use Rattle.proxy_connection.specs.Ways.{Ways}
 use Rattle.proxy_connection.proofs.Served.{turn_told}
 use Rattle.proxy_frontend.specs.Histories.{Histories, only, told}
 use Rattle.proxy_frontend.specs.Places.{Changes, Places, SameOthers}
-use Rattle.proxy_frontend.specs.Serving.{AllGo, AllStay, Always, AreServed, IsServed}
+use Rattle.proxy_frontend.specs.Serving.{AllGo, AllStay, Always, AreServed, IsServed, IsServedAt}
 use Rattle.proxy_frontend.specs.State.{State, connection_at}
 use Rattle.proxy_frontend.proofs.Numbers.{free_open}
 use Rattle.proxy_frontend.proofs.Places.{changes_either, within}
@@ -31,9 +31,19 @@ module _ {T C V : Type 0} (w : Ways T C V) where
       subst (λ (x : Option (Connection T C V)). IsServed w n x b' q' h) (sym e)
       (subst (λ (x : Bool). IsServed w n o x q' h) (sym f) (subst (λ (x : List (Entry C V)). IsServed w n o b x h) (sym k) s))
 
-  pub number_of : (n : ℕ) (c : Connection T C V) (b : Bool) (q : List (Entry C V)) (h : Option (History T C V)) → IsServed w n (Some c) b q h → c.guest ≡ n
+  number_of : (n : ℕ) (c : Connection T C V) (b : Bool) (q : List (Entry C V)) (h : Option (History T C V)) → IsServed w n (Some c) b q h → c.guest ≡ n
   number_of n c b q None s = absurd s
   number_of n c b q (Some h) s = s.1
+
+  -- what is served at number g, by the connection there, or where there is none
+  pub served_by : (state : State T C V) (histories : Histories T C V) (g : ℕ) (o : Option (Connection T C V)) → connection_at state.connections g ≡ o → AreServed w state histories
+      → IsServed w g o (is_open_at state.proxy.openings g) (queue_at state.proxy.queues g) (histories g)
+  served_by state histories g o e s =
+      subst (λ (x : Option (Connection T C V)). IsServed w g x (is_open_at state.proxy.openings g) (queue_at state.proxy.queues g) (histories g)) e (s g)
+
+  pub own_number : (state : State T C V) (histories : Histories T C V) (g : ℕ) (c : Connection T C V) → connection_at state.connections g ≡ Some c → AreServed w state histories → c.guest ≡ g
+  own_number state histories g c e s =
+      number_of g c (is_open_at state.proxy.openings g) (queue_at state.proxy.queues g) (histories g) (served_by state histories g (Some c) e s)
 
   moved_here : (n : ℕ) (c c' : Connection T C V) (b : Bool) (q q' : List (Entry C V)) (more : History T C V → History T C V) (h : Option (History T C V))
       → c'.guest ≡ c.guest → Goes w c q c' q' more → IsServed w n (Some c) b q h → IsServed w n (Some c') b q' (option_map more h)
@@ -84,17 +94,17 @@ module _ {T C V : Type 0} (w : Ways T C V) where
       -- nothing happens to a guest that is not there
       pub nobody_moved : (more : History T C V → History T C V) → connection_at old.connections g ≡ None → AllStay w old new → AllGo w old new (only g (option_map more))
       nobody_moved more e stays histories s n =
-          subst (λ (h : Option (History T C V)). IsServed w n (connection_at new.connections n) (is_open_at new.proxy.openings n) (queue_at new.proxy.queues n) h)
+          subst (λ (h : Option (History T C V)). IsServedAt w new n h)
           (sym (same (g == n) refl)) (stays histories s n) where
             same : (b : Bool) → (g == n) ≡ b → cond b (option_map more (histories n)) (histories n) ≡ histories n
             same true k =
                 unseen n (is_open_at old.proxy.openings n) (queue_at old.proxy.queues n) more (histories n)
-                (subst (λ (x : Option (Connection T C V)). IsServed w n x (is_open_at old.proxy.openings n) (queue_at old.proxy.queues n) (histories n)) (ap (connection_at old.connections) (sym (eqb-true g n k)) ∙ e) (s n))
+                (served_by old histories n None (ap (connection_at old.connections) (sym (eqb-true g n k)) ∙ e) s)
             same false k = refl
 
       pub unmoved : AllGo w old new (only g (option_map (λ h. h))) → AllStay w old new
       unmoved goes histories s n =
-          subst (λ (h : Option (History T C V)). IsServed w n (connection_at new.connections n) (is_open_at new.proxy.openings n) (queue_at new.proxy.queues n) h)
+          subst (λ (h : Option (History T C V)). IsServedAt w new n h)
           (unchanged (g == n) (histories n)) (goes histories s n)
 
       -- the guest's connection moved
@@ -106,20 +116,19 @@ module _ {T C V : Type 0} (w : Ways T C V) where
             → Goes w c (queue_at old.proxy.queues c.guest) c' (queue_at new.proxy.queues c.guest) more → AllGo w old new (only g (option_map more))
         moved k f others go histories s n = at (g == n) refl where
           own : c.guest ≡ g
-          own = number_of g c (is_open_at old.proxy.openings g) (queue_at old.proxy.queues g) (histories g)
-              (subst (λ (x : Option (Connection T C V)). IsServed w g x (is_open_at old.proxy.openings g) (queue_at old.proxy.queues g) (histories g)) was (s g))
+          own = own_number old histories g c was s
 
           go_own : Goes w c (queue_at old.proxy.queues g) c' (queue_at new.proxy.queues g) more
           go_own = subst (λ (i : ℕ). Goes w c (queue_at old.proxy.queues i) c' (queue_at new.proxy.queues i) more) own go
 
-          here : IsServed w g (connection_at new.connections g) (is_open_at new.proxy.openings g) (queue_at new.proxy.queues g) (option_map more (histories g))
+          here : IsServedAt w new g (option_map more (histories g))
           here = same_place g (Some c') _ _ _ _ _ _ now_at (ap (λ (bs : List Bool). is_open_at bs g) f) refl
               (moved_here g c c' (is_open_at old.proxy.openings g) (queue_at old.proxy.queues g) (queue_at new.proxy.queues g) more (histories g) k go_own
-              (subst (λ (x : Option (Connection T C V)). IsServed w g x (is_open_at old.proxy.openings g) (queue_at old.proxy.queues g) (histories g)) was (s g)))
+              (served_by old histories g (Some c) was s))
 
-          at : (b : Bool) → (g == n) ≡ b → IsServed w n (connection_at new.connections n) (is_open_at new.proxy.openings n) (queue_at new.proxy.queues n) (cond b (option_map more (histories n)) (histories n))
+          at : (b : Bool) → (g == n) ≡ b → IsServedAt w new n (cond b (option_map more (histories n)) (histories n))
           at true e =
-              subst (λ (i : ℕ). IsServed w i (connection_at new.connections i) (is_open_at new.proxy.openings i) (queue_at new.proxy.queues i) (option_map more (histories i))) (eqb-true g n e) here
+              subst (λ (i : ℕ). IsServedAt w new i (option_map more (histories i))) (eqb-true g n e) here
           at false e =
               let other : n ≢ g = grind arith in
               same_place n _ _ _ _ _ _ (histories n) (ap (λ (cs : List (Option (Connection T C V))). connection_at cs n) made ∙ get_or-set_other old.connections g n (Some c') None other)
@@ -146,11 +155,11 @@ module _ {T C V : Type 0} (w : Ways T C V) where
       pub renewed : (o : Option (Connection T C V)) (b : Bool) (h : Option (History T C V)) → Renews old.proxy new.proxy g b → Places old.connections new.connections g o
           → IsServed w g o b [] h → AllGo w old new (only g (λ x. h))
       renewed o b h renews places so histories s n = at (g == n) refl where
-        here : IsServed w g (connection_at new.connections g) (is_open_at new.proxy.openings g) (queue_at new.proxy.queues g) h
+        here : IsServedAt w new g h
         here = same_place g o _ b _ [] _ h places.0 renews.1 renews.0 so
 
-        at : (x : Bool) → (g == n) ≡ x → IsServed w n (connection_at new.connections n) (is_open_at new.proxy.openings n) (queue_at new.proxy.queues n) (cond x h (histories n))
-        at true e = subst (λ (i : ℕ). IsServed w i (connection_at new.connections i) (is_open_at new.proxy.openings i) (queue_at new.proxy.queues i) h) (eqb-true g n e) here
+        at : (x : Bool) → (g == n) ≡ x → IsServedAt w new n (cond x h (histories n))
+        at true e = subst (λ (i : ℕ). IsServedAt w new i h) (eqb-true g n e) here
         at false e =
             let other : n ≢ g = grind arith in
             same_place n _ _ _ _ _ _ (histories n) (places.1 n other) (renews.3 n other).1 (renews.3 n other).0 (s n)
@@ -163,15 +172,15 @@ module _ {T C V : Type 0} (w : Ways T C V) where
         gone_at : (histories : Histories T C V) → AreServed w old histories → (queue_at old.proxy.queues g ≡ []) × IsServed w g None false [] (histories g)
         gone_at histories s =
             gone g (is_open_at old.proxy.openings g) (queue_at old.proxy.queues g) (histories g)
-            (subst (λ (x : Option (Connection T C V)). IsServed w g x (is_open_at old.proxy.openings g) (queue_at old.proxy.queues g) (histories g)) nobody_was (s g))
+            (served_by old histories g None nobody_was s)
 
         pub refused : AllStay w old new
         refused histories s n = at (g == n) refl where
-          here : IsServed w g (connection_at new.connections g) (is_open_at new.proxy.openings g) (queue_at new.proxy.queues g) (histories g)
+          here : IsServedAt w new g (histories g)
           here = same_place g None _ false _ [] _ (histories g) (ap (λ (cs : List (Option (Connection T C V))). connection_at cs g) same ∙ nobody_was) leaves.1 leaves.0 (gone_at histories s).1
 
-          at : (x : Bool) → (g == n) ≡ x → IsServed w n (connection_at new.connections n) (is_open_at new.proxy.openings n) (queue_at new.proxy.queues n) (histories n)
-          at true e = subst (λ (i : ℕ). IsServed w i (connection_at new.connections i) (is_open_at new.proxy.openings i) (queue_at new.proxy.queues i) (histories i)) (eqb-true g n e) here
+          at : (x : Bool) → (g == n) ≡ x → IsServedAt w new n (histories n)
+          at true e = subst (λ (i : ℕ). IsServedAt w new i (histories i)) (eqb-true g n e) here
           at false e =
               let other : n ≢ g = grind arith in
               same_place n _ _ _ _ _ _ (histories n) (ap (λ (cs : List (Option (Connection T C V))). connection_at cs n) same)

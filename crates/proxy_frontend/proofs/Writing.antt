@@ -1,24 +1,21 @@
 -- What is to be written next to a guest.
 use Rattle.std.proofs.Common.{◌≡◌, ℕ, Bool, true, false, List, Option, Some, None, set, sym, ap, subst}
-use Rattle.proxy_core.specs.Guests.{Queues, queue_at, is_open_at}
+use Rattle.proxy_core.specs.Guests.{Queues, queue_at}
 use Rattle.proxy_connection.specs.declared.connection.Connection.{Connection}
 use Rattle.proxy_connection.specs.History.{written_more}
 use Rattle.proxy_connection.specs.Serving.{Serves}
 use Rattle.proxy_connection.specs.Ways.{Ways}
 use Rattle.proxy_frontend.specs.Moves.{HasNext, Writes, has_bytes, next_bytes}
-use Rattle.proxy_frontend.specs.Places.{Changes, KeepsNext, WritesNext}
-use Rattle.proxy_frontend.specs.Serving.{IsServed}
+use Rattle.proxy_frontend.specs.Places.{Changes, KeepsNext, WritesAt, WritesNext}
 use Rattle.proxy_frontend.specs.State.{State, connection_at}
 use Rattle.proxy_frontend.proofs.Places.{changes_either}
-use Rattle.proxy_frontend.proofs.Served.{number_of, still, unmoved, moved}
+use Rattle.proxy_frontend.proofs.Served.{own_number, still, unmoved, moved}
 
 module _ {T C V : Type 0} (w : Ways T C V) (old new : State T C V) (g : ℕ) where
   has_next : (c : Connection T C V) (is_so : Option (List ℕ) → Type 0) → connection_at old.connections g ≡ Some c
       → is_so (next_bytes w (Some c) (queue_at old.proxy.queues c.guest)) → HasNext w old g is_so
   has_next c is_so was so histories s =
-      let own : c.guest ≡ g =
-      number_of w g c (is_open_at old.proxy.openings g) (queue_at old.proxy.queues g) (histories g)
-      (subst (λ (x : Option (Connection T C V)). IsServed w g x (is_open_at old.proxy.openings g) (queue_at old.proxy.queues g) (histories g)) was (s g)) in
+      let own = own_number w old histories g c was s in
       subst (λ (x : Option (Connection T C V)). is_so (next_bytes w x (queue_at old.proxy.queues g))) (sym was)
       (subst (λ (i : ℕ). is_so (next_bytes w (Some c) (queue_at old.proxy.queues i))) own so)
 
@@ -40,8 +37,7 @@ module _ {T C V : Type 0} (w : Ways T C V) (old new : State T C V) (g : ℕ) whe
     )
 
     pub writes : (any : Bool)
-        → Changes old.connections new.connections g ((any ≡ false) × (after ≡ before) × (new.proxy.queues ≡ old.proxy.queues)) (λ c c'. WritesNext w c c' old.proxy.queues new.proxy.queues before after any)
-        → Writes w old new g before after any
+        → WritesAt w old.connections new.connections g old.proxy.queues new.proxy.queues before after any → Writes w old new g before after any
     writes any m =
         changes_either old.connections new.connections g _ _ (Writes w old new g before after any)
         (λ e k n. subst (λ (b : Bool). Writes w old new g before after b) (sym n.0)

@@ -2,13 +2,14 @@
 use Rattle.std.specs.Prelude.{◌≡◌, ℕ, cond, ◌==◌, List, [], ◌∷◌, ◌++◌, map, Option, Some, None}
 use Rattle.std.specs.Option.{option_map}
 use Rattle.resp_requests.specs.declared.limits.Limits.{Limits}
+use Rattle.resp_requests.specs.Laws.{joined}
 use Rattle.proxy_core.specs.declared.queue.Entry.{Entry}
 use Rattle.proxy_core.specs.Batch.{Asks, outcomes_of}
 use Rattle.proxy_core.specs.Guests.{queue_at}
 use Rattle.proxy_core.specs.Sees.{Came, Told, sees, shown}
 use Rattle.proxy_connection.specs.declared.connection.Connection.{Connection}
 use Rattle.proxy_connection.specs.History.{History, beginning, fed_more, written_more, then}
-use Rattle.proxy_connection.specs.Serving.{Serves, joined, rest_of}
+use Rattle.proxy_connection.specs.Serving.{Serves, rest_of}
 use Rattle.proxy_connection.specs.Ways.{Ways}
 use Rattle.proxy_frontend.specs.Histories.{Histories}
 use Rattle.proxy_frontend.specs.Serving.{AreServed}

@@ -32,6 +32,12 @@ WritesNext w c c' qs qs' before after true = (bytes : List ℕ) × (after ≡ be
 WritesNext w c c' qs qs' before after false = (after ≡ before)
     × (next_bytes w (Some c) (queue_at qs c.guest) ≡ None) × (qs' ≡ qs) × Stays w c c' (queue_at qs c.guest)
 
+-- so of the guest at place g; where no connection is there, nothing was written
+abbrev pub WritesAt : {T C V : Type 0} → Ways T C V → List (Option (Connection T C V)) → List (Option (Connection T C V))
+    → ℕ → Queues C V → Queues C V → List ℕ → List ℕ → Bool → Type 0
+WritesAt w old new g qs qs' before after any =
+    Changes old new g ((any ≡ false) × (after ≡ before) × (qs' ≡ qs)) (λ c c'. WritesNext w c c' qs qs' before after any)
+
 -- there were bytes, for which there was no memory, and none of them is lost
 abbrev pub KeepsNext : {T C V : Type 0} → Ways T C V → Connection T C V → Connection T C V → Queues C V → Queues C V
     → Type 0

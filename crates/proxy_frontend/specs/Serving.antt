@@ -18,11 +18,15 @@ IsServed w g None is_there q None = (is_there ≡ false) × (q ≡ [])
 IsServed w g (Some c) is_there q None = ⊥
 IsServed w g None is_there q (Some h) = ⊥
 
+-- so of number g of a frontend
+abbrev pub IsServedAt : {T C V : Type 0} → Ways T C V → State T C V → ℕ → Option (History T C V) → Type 0
+IsServedAt w state g h = IsServed w g (connection_at state.connections g) (is_open_at state.proxy.openings g)
+    (queue_at state.proxy.queues g) h
+
 -- At each number there is the connection of that guest, which serves what was seen of it, or neither guest nor
 -- connection, and nothing is held.
 abbrev pub AreServed : {T C V : Type 0} → Ways T C V → State T C V → Histories T C V → Type 0
-AreServed w state histories = (g : ℕ) → IsServed w g (connection_at state.connections g)
-    (is_open_at state.proxy.openings g) (queue_at state.proxy.queues g) (histories g)
+AreServed w state histories = (g : ℕ) → IsServedAt w state g (histories g)
 
 -- Whatever was seen of each guest before: this was seen of them now.
 abbrev pub AllGo : {T C V : Type 0} → Ways T C V → State T C V → State T C V → (Histories T C V → Histories T C V)

@@ -1,5 +1,5 @@
 -- Runs of calls of a frontend, each call with what came of it.
-use Rattle.std.specs.Prelude.{◌≡◌, ℕ, ◌<◌, ◌⊎◌, true, List, [], ◌∷◌, ◌++◌, length, map, Some, None, Vec}
+use Rattle.std.specs.Prelude.{◌≡◌, ℕ, ◌<◌, ◌⊎◌, true, List, [], ◌∷◌, length, Some, None, Vec}
 use Rattle.std.specs.Global.{Global}
 use Rattle.resp_requests.specs.declared.limits.Limits.{Limits}
 use Rattle.proxy_core.specs.declared.outcome.Outcome.{Outcome}
@@ -8,13 +8,14 @@ use Rattle.proxy_core.specs.declared.refusal.JoinRefusal.{JoinRefusal}
 use Rattle.proxy_core.specs.Batch.{Asks}
 use Rattle.proxy_core.specs.Guests.{free_from}
 use Rattle.proxy_core.specs.Moves.{Settles}
+use Rattle.proxy_core.specs.Runs.{MakesOneBy, PlaysBy, RunsBy}
 use Rattle.proxy_connection.specs.declared.progress.Progress.{Progress}
 use Rattle.proxy_connection.specs.declared.progress.Progress.TheVariants as progresses
 use Rattle.proxy_connection.specs.Ways.{Ways}
-use Rattle.proxy_frontend.specs.declared.run.Answer.{Answer}
-use Rattle.proxy_frontend.specs.declared.run.Answer.TheVariants as answers
-use Rattle.proxy_frontend.specs.declared.run.Call.{Call}
-use Rattle.proxy_frontend.specs.declared.run.Call.TheVariants as calls
+use Rattle.proxy_frontend.specs.declared.play.Answer.{Answer}
+use Rattle.proxy_frontend.specs.declared.play.Answer.TheVariants as answers
+use Rattle.proxy_frontend.specs.declared.play.Call.{Call}
+use Rattle.proxy_frontend.specs.declared.play.Call.TheVariants as calls
 use Rattle.proxy_frontend.specs.Histories.{Histories, joined, heard, entered, wrote, left, told}
 use Rattle.proxy_frontend.specs.Moves.{IsJoinDue, IsConnected, IsUnderWayAt, RestsAt, HasNext, has_bytes}
 use Rattle.proxy_frontend.specs.Serving.{AllGo}
@@ -125,23 +126,17 @@ Makes w command reply asks step old s new s' = AllGo w old new (seen old.limits 
 -- a call was made, and answered this
 abbrev pub MakesOne : {T C V S : Type 0} → Ways T C V → (C → ℕ) → (V → ℕ) → Asks S C V → Call T → Answer
     → State T C V → S → State T C V → S → Type 0
-MakesOne {T} {C} {V} w command reply asks call answer old s new s' = (step : Step T C V) × (call ≡ call_of step)
-    × (answer ≡ answer_of step) × Makes w command reply asks step old s new s'
+MakesOne w command reply asks = MakesOneBy (Makes w command reply asks) call_of answer_of
 
 -- one call after another
 abbrev pub Runs : {T C V S : Type 0} → Ways T C V → (C → ℕ) → (V → ℕ) → Asks S C V → List (Step T C V) → State T C V
     → S → State T C V → S → Type 0
-Runs w command reply asks [] old s new s' = (new ≡ old) × (s' ≡ s)
-Runs {T} {C} {V} {S} w command reply asks (step ∷ steps) old s new s' = (old1 : State T C V) × (s1 : S)
-    × Makes w command reply asks step old s old1 s1 × Runs w command reply asks steps old1 s1 new s'
+Runs w command reply asks = RunsBy (Makes w command reply asks)
 
 -- The first of the calls were made, one after another, and the others are left; what each answered stands behind the
 -- answers before; and whatever was seen of each guest before, it was seen then what the steps tell.
 pub record Plays {T C V S : Type 0} (w : Ways T C V) (command : C → ℕ) (reply : V → ℕ) (asks : Asks S C V)
     (calls left : List (Call T)) (before after : List Answer) (old : State T C V) (s : S) (new : State T C V) (s' : S)
     : Type 0 where
-  pub steps : List (Step T C V)
-  pub runs : Runs w command reply asks steps old s new s'
-  pub first : calls ≡ map call_of steps ++ left
-  pub answers : after ≡ before ++ map answer_of steps
-  pub serves : AllGo w old new (all_seen old.limits steps)
+  pub plays : PlaysBy (Makes w command reply asks) call_of answer_of calls left before after old s new s'
+  pub serves : AllGo w old new (all_seen old.limits plays.steps)

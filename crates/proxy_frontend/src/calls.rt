@@ -1,13 +1,13 @@
 //! The calls of a frontend.
 ghost use Rattle.std.specs.Prelude.{◌≡◌, ◌<◌, ◌⊎◌, ℕ, [], length, true, false, IfOk, IfErr, OnOk, OnErr, MatchOption};
 ghost use Rattle.std.specs.Option.{option_map};
-ghost use Rattle.proxy_core.specs.Guests.{free_from, openings, queue_at, queues};
+ghost use Rattle.proxy_core.specs.Guests.{free_from, queue_at};
 ghost use Rattle.proxy_connection.specs.Serving.{is_over};
 ghost use Rattle.proxy_connection.specs.Ways.{ways};
 ghost use Rattle.proxy_frontend.specs.Histories.{heard, joined, left, nobody};
 ghost use Rattle.proxy_frontend.specs.Moves.{Advances, HasNext, IsConnected, IsJoinDue, IsUnderWayAt, Turns, Writes, has_bytes};
 ghost use Rattle.proxy_frontend.specs.Serving.{AllGo, AllStay, Always, AreServed};
-ghost use Rattle.proxy_frontend.specs.State.{connection_at, state_of};
+ghost use Rattle.proxy_frontend.specs.State.{connection_at};
 
 use crate::connections::{advance_at, feed_at, place_at, remove_at, write_at};
 use crate::frontend::Frontend;
@@ -19,8 +19,7 @@ use std::alloc::{AllocError, Global};
 impl<T: Translator<C, V>, C: Command, V: Written> Frontend<T, C, V> {
     /// A frontend with no guest: `shares` is how much its proxy holds, and `limits` what a guest may send.
     pub fn new(alloc: Global, shares: proxy_core::Limits, limits: Limits) -> Frontend<T, C, V>
-        ensures nobody { AreServed (ways C.overlaps V.written T.translates T.refuses T.has_ended)
-            (state_of result) nobody }
+        ensures nobody { AreServed (ways C.overlaps V.written T.Translator) result nobody }
         ensures limits { result.limits ≡ limits }
         ensures shares { result.proxy.limits ≡ shares }
     {
@@ -34,16 +33,15 @@ impl<T: Translator<C, V>, C: Command, V: Written> Frontend<T, C, V> {
     /// Lets a guest in, whose words are understood so, and answers its number: the first one that no guest has.
     /// Where it is refused nothing has changed. The place of a guest that left takes no memory.
     pub fn join(&mut self, alloc: Global, translator: T) -> Result<usize, JoinRefusal>
-        ensures number { IfOk result (λ g. g ≡ free_from 0 (openings self.old.proxy.guests.items)) }
+        ensures number { IfOk result (λ g. g ≡ free_from 0 self.old.proxy.openings) }
         ensures within { IfOk result (λ g. g < self.old.proxy.limits.guests) }
-        ensures ok { IfOk result (λ g. AllGo (ways C.overlaps V.written T.translates T.refuses T.has_ended)
-            (state_of self.old) (state_of self.new) (joined g self.old.limits translator)) }
-        ensures why { IfErr result (λ why. IsJoinDue (state_of self.old) why) }
-        ensures err { OnErr result (AllStay (ways C.overlaps V.written T.translates T.refuses T.has_ended)
-            (state_of self.old) (state_of self.new)) }
-        ensures queues { OnErr result (Always (ways C.overlaps V.written T.translates T.refuses T.has_ended)
-            (state_of self.old) (λ histories. (g : ℕ) → queue_at (queues self.new.proxy.guests.items) g
-            ≡ queue_at (queues self.old.proxy.guests.items) g)) }
+        ensures ok { IfOk result (λ g. AllGo (ways C.overlaps V.written T.Translator)
+            self.old self.new (joined g self.old.limits translator)) }
+        ensures why { IfErr result (λ why. IsJoinDue self.old why) }
+        ensures err { OnErr result (AllStay (ways C.overlaps V.written T.Translator) self.old self.new) }
+        ensures queues { OnErr result (Always (ways C.overlaps V.written T.Translator)
+            self.old (λ histories. (g : ℕ) → queue_at self.new.proxy.queues g
+            ≡ queue_at self.old.proxy.queues g)) }
         ensures limits { self.new.limits ≡ self.old.limits }
         ensures shares { self.new.proxy.limits ≡ self.old.proxy.limits }
     {
@@ -62,14 +60,13 @@ impl<T: Translator<C, V>, C: Command, V: Written> Frontend<T, C, V> {
     ///
     /// # Errors `AllocError` where memory is refused: nothing changes, and the call may be made again.
     pub fn hear(&mut self, guest: usize, bytes: &[u8]) -> Result<(), AllocError>
-        ensures ok { OnOk result (AllGo (ways C.overlaps V.written T.translates T.refuses T.has_ended)
-            (state_of self.old) (state_of self.new) (heard guest bytes.now)) }
-        ensures err { OnErr result (AllStay (ways C.overlaps V.written T.translates T.refuses T.has_ended)
-            (state_of self.old) (state_of self.new)) }
-        ensures due { OnErr result (IsConnected (state_of self.old) guest) }
+        ensures ok { OnOk result (AllGo (ways C.overlaps V.written T.Translator)
+            self.old self.new (heard guest bytes.now)) }
+        ensures err { OnErr result (AllStay (ways C.overlaps V.written T.Translator) self.old self.new) }
+        ensures due { OnErr result (IsConnected self.old guest) }
         ensures some { OnErr result (0 < length bytes.now) }
-        ensures queues { queues self.new.proxy.guests.items ≡ queues self.old.proxy.guests.items }
-        ensures openings { openings self.new.proxy.guests.items ≡ openings self.old.proxy.guests.items }
+        ensures queues { self.new.proxy.queues ≡ self.old.proxy.queues }
+        ensures openings { self.new.proxy.openings ≡ self.old.proxy.openings }
         ensures limits { self.new.limits ≡ self.old.limits }
         ensures shares { self.new.proxy.limits ≡ self.old.proxy.limits }
     {
@@ -80,15 +77,14 @@ impl<T: Translator<C, V>, C: Command, V: Written> Frontend<T, C, V> {
     ///
     /// # Errors `AllocError` where memory is refused: nothing is lost, and the call may be made again.
     pub fn advance(&mut self, alloc: Global, guest: usize) -> Result<Progress, AllocError>
-        ensures ok { IfOk result (λ progress. Advances (ways C.overlaps V.written T.translates T.refuses T.has_ended)
-            C.bytes V.bytes (state_of self.old) (state_of self.new) guest progress) }
-        ensures err { OnErr result (AllStay (ways C.overlaps V.written T.translates T.refuses T.has_ended)
-            (state_of self.old) (state_of self.new)) }
-        ensures due { OnErr result (IsConnected (state_of self.old) guest) }
-        ensures under_way { OnErr result (IsUnderWayAt (ways C.overlaps V.written T.translates T.refuses T.has_ended)
-            C.bytes V.bytes (state_of self.old) (state_of self.new) guest) }
-        ensures queues { OnErr result (queues self.new.proxy.guests.items ≡ queues self.old.proxy.guests.items) }
-        ensures openings { openings self.new.proxy.guests.items ≡ openings self.old.proxy.guests.items }
+        ensures ok { IfOk result (λ progress. Advances (ways C.overlaps V.written T.Translator)
+            C.bytes V.bytes self.old self.new guest progress) }
+        ensures err { OnErr result (AllStay (ways C.overlaps V.written T.Translator) self.old self.new) }
+        ensures due { OnErr result (IsConnected self.old guest) }
+        ensures under_way { OnErr result (IsUnderWayAt (ways C.overlaps V.written T.Translator)
+            C.bytes V.bytes self.old self.new guest) }
+        ensures queues { OnErr result (self.new.proxy.queues ≡ self.old.proxy.queues) }
+        ensures openings { self.new.proxy.openings ≡ self.old.proxy.openings }
         ensures limits { self.new.limits ≡ self.old.limits }
         ensures shares { self.new.proxy.limits ≡ self.old.proxy.limits }
     {
@@ -100,14 +96,13 @@ impl<T: Translator<C, V>, C: Command, V: Written> Frontend<T, C, V> {
     ///
     /// # Errors `AllocError` where memory is refused: `out` has not changed, and a later call puts the same bytes.
     pub fn write(&mut self, guest: usize, out: &mut Vec<u8>) -> Result<bool, AllocError>
-        ensures ok { IfOk result (λ any. Writes (ways C.overlaps V.written T.translates T.refuses T.has_ended)
-            (state_of self.old) (state_of self.new) guest out.old.items out.new.items any) }
-        ensures err { OnErr result (AllStay (ways C.overlaps V.written T.translates T.refuses T.has_ended)
-            (state_of self.old) (state_of self.new)) }
+        ensures ok { IfOk result (λ any. Writes (ways C.overlaps V.written T.Translator)
+            self.old self.new guest out.old.items out.new.items any) }
+        ensures err { OnErr result (AllStay (ways C.overlaps V.written T.Translator) self.old self.new) }
         ensures out { OnErr result (out.new.items ≡ out.old.items) }
-        ensures due { OnErr result (HasNext (ways C.overlaps V.written T.translates T.refuses T.has_ended)
-            (state_of self.old) guest (λ next. has_bytes next ≡ true)) }
-        ensures openings { openings self.new.proxy.guests.items ≡ openings self.old.proxy.guests.items }
+        ensures due { OnErr result (HasNext (ways C.overlaps V.written T.Translator)
+            self.old guest (λ next. has_bytes next ≡ true)) }
+        ensures openings { self.new.proxy.openings ≡ self.old.proxy.openings }
         ensures limits { self.new.limits ≡ self.old.limits }
         ensures shares { self.new.proxy.limits ≡ self.old.proxy.limits }
     {
@@ -116,8 +111,7 @@ impl<T: Translator<C, V>, C: Command, V: Written> Frontend<T, C, V> {
 
     /// Ends a guest: drops its connection, and what the proxy holds of it. Its number is free.
     pub fn leave(&mut self, alloc: Global, guest: usize)
-        ensures ended { AllGo (ways C.overlaps V.written T.translates T.refuses T.has_ended)
-            (state_of self.old) (state_of self.new) (left guest) }
+        ensures ended { AllGo (ways C.overlaps V.written T.Translator) self.old self.new (left guest) }
         ensures limits { self.new.limits ≡ self.old.limits }
         ensures shares { self.new.proxy.limits ≡ self.old.proxy.limits }
     {
@@ -134,13 +128,12 @@ impl<T: Translator<C, V>, C: Command, V: Written> Frontend<T, C, V> {
         alloc: Global,
         servers: &mut S,
     ) -> Result<(), AllocError>
-        ensures ok { OnOk result (Turns (ways C.overlaps V.written T.translates T.refuses T.has_ended) S.asks
-            (state_of self.old) (state_of self.new) servers.old servers.new) }
-        ensures err { OnErr result (AllStay (ways C.overlaps V.written T.translates T.refuses T.has_ended)
-            (state_of self.old) (state_of self.new)) }
-        ensures queues { OnErr result (queues self.new.proxy.guests.items ≡ queues self.old.proxy.guests.items) }
+        ensures ok { OnOk result (Turns (ways C.overlaps V.written T.Translator) S.asks
+            self.old self.new servers.old servers.new) }
+        ensures err { OnErr result (AllStay (ways C.overlaps V.written T.Translator) self.old self.new) }
+        ensures queues { OnErr result (self.new.proxy.queues ≡ self.old.proxy.queues) }
         ensures unasked { OnErr result ((servers.new ≡ servers.old) ⊎ S.asks servers.old [] [] servers.new) }
-        ensures openings { openings self.new.proxy.guests.items ≡ openings self.old.proxy.guests.items }
+        ensures openings { self.new.proxy.openings ≡ self.old.proxy.openings }
         ensures limits { self.new.limits ≡ self.old.limits }
         ensures shares { self.new.proxy.limits ≡ self.old.proxy.limits }
     {
@@ -149,7 +142,7 @@ impl<T: Translator<C, V>, C: Command, V: Written> Frontend<T, C, V> {
 
     /// How many entries are held of a guest: commands that wait, and replies that were not written.
     pub fn held(&self, guest: usize) -> usize
-        ensures { result ≡ length (queue_at (queues self.now.proxy.guests.items) guest) }
+        ensures { result ≡ length (queue_at self.now.proxy.queues guest) }
     {
         self.proxy.held(guest)
     }
@@ -157,9 +150,9 @@ impl<T: Translator<C, V>, C: Command, V: Written> Frontend<T, C, V> {
     /// Whether nothing more is read of a guest, and all of its replies are written; not so where no guest has that
     /// number.
     pub fn is_over(&self, guest: usize) -> bool
-        ensures { MatchOption (connection_at self.now.connections.items guest) (result ≡ false)
-            (λ c. result ≡ is_over (ways C.overlaps V.written T.translates T.refuses T.has_ended) c
-            (queue_at (queues self.now.proxy.guests.items) c.guest)) }
+        ensures { MatchOption (connection_at self.now.connections guest) (result ≡ false)
+            (λ c. result ≡ is_over (ways C.overlaps V.written T.Translator) c
+            (queue_at self.now.proxy.queues c.guest)) }
     {
         match self.connections.get(guest) {
             Some(Some(connection)) => connection.is_over(&self.proxy),
@@ -170,7 +163,7 @@ impl<T: Translator<C, V>, C: Command, V: Written> Frontend<T, C, V> {
     /// How a guest's words are understood by now.
     pub fn translator(&self, guest: usize) -> Option<&T>
         ensures { option_map (λ t. t.now) result
-            ≡ option_map (λ c. c.translator) (connection_at self.now.connections.items guest) }
+            ≡ option_map (λ c. c.translator) (connection_at self.now.connections guest) }
     {
         match self.connections.get(guest) {
             Some(Some(connection)) => Some(connection.translator()),

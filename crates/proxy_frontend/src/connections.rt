@@ -1,13 +1,11 @@
 //! The connections of all guests, by their numbers.
-ghost use Rattle.std.specs.Prelude.{◌≡◌, ◌≤◌, ◌<◌, List, Some, None, false, length, OnOk, OnErr, IfOk};
-ghost use Rattle.proxy_core.specs.declared.queue.Entry.{Entry};
-ghost use Rattle.proxy_core.specs.Guests.{openings, is_open_at, queue_at, queues};
+ghost use Rattle.std.specs.Prelude.{◌≡◌, ◌≤◌, ◌<◌, Some, None, length, OnOk, OnErr, IfOk};
 ghost use Rattle.proxy_connection.specs.declared.progress.Progress.TheVariants.{NoGuest};
 ghost use Rattle.proxy_connection.specs.History.{fed_more};
-ghost use Rattle.proxy_connection.specs.Moves.{Advances, IsUnderWay, Keeps};
-ghost use Rattle.proxy_connection.specs.Serving.{Goes, Stays};
+ghost use Rattle.proxy_connection.specs.Moves.{AdvancesIn, IsUnderWayIn, Keeps};
+ghost use Rattle.proxy_connection.specs.Serving.{AlwaysGoes, AlwaysStays};
 ghost use Rattle.proxy_connection.specs.Ways.{ways};
-ghost use Rattle.proxy_frontend.specs.Places.{Changes, KeepsNext, Places, WritesNext};
+ghost use Rattle.proxy_frontend.specs.Places.{Changes, KeepsNext, Places, WritesAt, WritesNext};
 
 use proxy_connection::{Connection, Progress, Translator, Written};
 use proxy_core::{Command, Proxy};
@@ -51,11 +49,9 @@ pub(crate) fn feed_at<T: Translator<C, V>, C: Command, V: Written>(
     bytes: &[u8],
 ) -> Result<(), AllocError>
     ensures ok { OnOk result (Changes connections.old.items connections.new.items guest (Unit {0})
-        (λ c c'. (q : List (Entry C V)) → Goes (ways C.overlaps V.written T.translates T.refuses T.has_ended)
-        c q c' q (λ h. fed_more h bytes.now))) }
+        (λ c c'. AlwaysGoes (ways C.overlaps V.written T.Translator) c c' (λ h. fed_more h bytes.now))) }
     ensures err { OnErr result (Changes connections.old.items connections.new.items guest ⊥
-        (λ c c'. (q : List (Entry C V)) → Stays (ways C.overlaps V.written T.translates T.refuses T.has_ended)
-        c c' q)) }
+        (λ c c'. AlwaysStays (ways C.overlaps V.written T.Translator) c c')) }
     ensures some { OnErr result (0 < length bytes.now) }
 {
     if connections.len() <= guest {
@@ -75,18 +71,13 @@ pub(crate) fn advance_at<T: Translator<C, V>, C: Command, V: Written>(
     proxy: &mut Proxy<C, V>,
 ) -> Result<Progress, AllocError>
     ensures ok { IfOk result (λ progress. Changes connections.old.items connections.new.items guest
-        ((progress ≡ NoGuest) × (queues proxy.new.guests.items ≡ queues proxy.old.guests.items))
-        (λ c c'. Advances (ways C.overlaps V.written T.translates T.refuses T.has_ended) C.bytes V.bytes
-        proxy.old.limits.share (is_open_at (openings proxy.old.guests.items) c.guest) c.guest c c'
-        (queues proxy.old.guests.items) (queues proxy.new.guests.items) progress)) }
+        ((progress ≡ NoGuest) × (proxy.new.queues ≡ proxy.old.queues))
+        (λ c c'. AdvancesIn (ways C.overlaps V.written T.Translator) C.bytes V.bytes c c' proxy.old proxy.new progress)) }
     ensures err { OnErr result (Changes connections.old.items connections.new.items guest ⊥
-        (λ c c'. Keeps (ways C.overlaps V.written T.translates T.refuses T.has_ended) c.guest c c'
-        (queues proxy.old.guests.items) (queues proxy.new.guests.items))) }
+        (λ c c'. Keeps (ways C.overlaps V.written T.Translator) c.guest c c' proxy.old.queues proxy.new.queues)) }
     ensures under_way { OnErr result (Changes connections.old.items connections.new.items guest ⊥
-        (λ c c'. IsUnderWay (ways C.overlaps V.written T.translates T.refuses T.has_ended) C.bytes V.bytes
-        proxy.old.limits.share (is_open_at (openings proxy.old.guests.items) c.guest)
-        (queue_at (queues proxy.old.guests.items) c.guest) c' c'.pending)) }
-    ensures openings { openings proxy.new.guests.items ≡ openings proxy.old.guests.items }
+        (λ c c'. IsUnderWayIn (ways C.overlaps V.written T.Translator) C.bytes V.bytes c c' proxy.old)) }
+    ensures openings { proxy.new.openings ≡ proxy.old.openings }
     ensures limits { proxy.new.limits ≡ proxy.old.limits }
 {
     if connections.len() <= guest {
@@ -105,16 +96,13 @@ pub(crate) fn write_at<T: Translator<C, V>, C: Command, V: Written>(
     proxy: &mut Proxy<C, V>,
     out: &mut Vec<u8>,
 ) -> Result<bool, AllocError>
-    ensures ok { IfOk result (λ any. Changes connections.old.items connections.new.items guest
-        ((any ≡ false) × (out.new.items ≡ out.old.items)
-        × (queues proxy.new.guests.items ≡ queues proxy.old.guests.items))
-        (λ c c'. WritesNext (ways C.overlaps V.written T.translates T.refuses T.has_ended) c c'
-        (queues proxy.old.guests.items) (queues proxy.new.guests.items) out.old.items out.new.items any)) }
+    ensures ok { IfOk result (λ any. WritesAt (ways C.overlaps V.written T.Translator)
+        connections.old.items connections.new.items guest
+        proxy.old.queues proxy.new.queues out.old.items out.new.items any) }
     ensures err { OnErr result (Changes connections.old.items connections.new.items guest ⊥
-        (λ c c'. KeepsNext (ways C.overlaps V.written T.translates T.refuses T.has_ended) c c'
-        (queues proxy.old.guests.items) (queues proxy.new.guests.items))) }
+        (λ c c'. KeepsNext (ways C.overlaps V.written T.Translator) c c' proxy.old.queues proxy.new.queues)) }
     ensures out { OnErr result (out.new.items ≡ out.old.items) }
-    ensures openings { openings proxy.new.guests.items ≡ openings proxy.old.guests.items }
+    ensures openings { proxy.new.openings ≡ proxy.old.openings }
     ensures limits { proxy.new.limits ≡ proxy.old.limits }
 {
     if connections.len() <= guest {
@@ -132,14 +120,14 @@ fn write_next<T: Translator<C, V>, C: Command, V: Written>(
     proxy: &mut Proxy<C, V>,
     out: &mut Vec<u8>,
 ) -> Result<bool, AllocError>
-    ensures ok { IfOk result (λ any. WritesNext (ways C.overlaps V.written T.translates T.refuses T.has_ended)
-        connection.old connection.new (queues proxy.old.guests.items) (queues proxy.new.guests.items)
+    ensures ok { IfOk result (λ any. WritesNext (ways C.overlaps V.written T.Translator)
+        connection.old connection.new proxy.old.queues proxy.new.queues
         out.old.items out.new.items any) }
-    ensures err { OnErr result (KeepsNext (ways C.overlaps V.written T.translates T.refuses T.has_ended)
-        connection.old connection.new (queues proxy.old.guests.items) (queues proxy.new.guests.items)) }
+    ensures err { OnErr result (KeepsNext (ways C.overlaps V.written T.Translator)
+        connection.old connection.new proxy.old.queues proxy.new.queues) }
     ensures out { OnErr result (out.new.items ≡ out.old.items) }
     ensures guest { connection.new.guest ≡ connection.old.guest }
-    ensures openings { openings proxy.new.guests.items ≡ openings proxy.old.guests.items }
+    ensures openings { proxy.new.openings ≡ proxy.old.openings }
     ensures limits { proxy.new.limits ≡ proxy.old.limits }
 {
     if !connection.fetch(proxy) {

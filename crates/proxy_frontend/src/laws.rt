@@ -8,5 +8,5 @@ use proxy_core::{Command, Servers};
 /// Over every run of calls, whatever the other guests do: what is written to a guest are the replies to its own
 /// commands, in order, each whole, but for the rest of the last.
 pub fn each_reads_its_own<T: Translator<C, V>, C: Command, V: Written, S: Servers<C, V>>()
-    ensures { EachReadsItsOwn (ways C.overlaps V.written T.translates T.refuses T.has_ended) C.bytes V.bytes S.asks }
+    ensures { EachReadsItsOwn (ways C.overlaps V.written T.Translator) C.bytes V.bytes S.asks }
 {}

@@ -5,8 +5,8 @@ mod calls;
 mod connections;
 mod frontend;
 mod laws;
-mod run;
+mod play;
 
 pub use frontend::Frontend;
 pub use laws::each_reads_its_own;
-pub use run::{Answer, Call};
+pub use play::{Answer, Call};

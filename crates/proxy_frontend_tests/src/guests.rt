@@ -1,8 +1,8 @@
 //! Guests whose bytes come in pieces, those of one between those of another.
-use crate::talk::{Moving, OnKey, Talk};
 use proxy_connection::Progress;
 use proxy_core::{JoinRefusal, Limits, Room};
 use proxy_frontend::{Answer, Call, Frontend, each_reads_its_own};
+use proxy_stubs::{Moving, OnKey, Talk};
 use std::alloc::{AllocError, Global};
 use std::collections::VecDeque;
 use std::test::*;

@@ -5,5 +5,3 @@
 mod guests;
 #[cfg(test)]
 mod memory;
-#[cfg(test)]
-mod talk;

@@ -1,8 +1,8 @@
 //! One request for memory is refused, whichever: `tools/refused-tests` plays each test once for each.
 use crate::guests::{Front, of_two};
-use crate::talk::{Moving, Talk};
 use proxy_connection::Progress;
 use proxy_core::JoinRefusal;
+use proxy_stubs::{Moving, Talk};
 use std::alloc::Global;
 use std::io::Print;
 use std::process::Abort;

@@ -62,13 +62,17 @@ impl Ask {
         command: Cmd,
         protocol: Protocol,
     ) -> Result<Ask, AllocError> {
-        let how = How::Alone(way, command.clone()?);
-        let command = GuestCommand::new(alloc, command, protocol)?;
-        let bytes = command.bytes().saturating_mul(2);
+        Ask::together(alloc, command, protocol)?.into_alone(way)
+    }
+
+    /// The same, asked by itself.
+    pub(crate) fn into_alone(self, way: Way) -> Result<Ask, AllocError> {
+        let how = How::Alone(way, self.command.command().clone()?);
+        let bytes = self.command.bytes().saturating_mul(2);
         Ok(Ask {
-            command,
+            command: self.command,
             how,
-            protocol,
+            protocol: self.protocol,
             has_no_list: false,
             bytes,
         })

@@ -7,7 +7,7 @@ use crate::waits::Waits;
 use crate::way::Way;
 use cluster_client::PipelinedLink;
 use cluster_servers::{GuestCommand, Reply};
-use proxy_core::{Asked, Command, Fate, Outcome, Servers};
+use proxy_core::{Command, Fate, Outcome, Servers, Waiting};
 use resp_core::{Protocol, WriteError};
 use std::alloc::{AllocError, Global};
 use std::collections::VecDeque;
@@ -48,7 +48,7 @@ struct Told {
 
 /// When each command of a batch is asked, in which those of a guest stand together. Those of a guest that go
 /// together speak one protocol, since the two clients are asked one after the other.
-fn times_of(alloc: Global, batch: &[Asked<'_, Ask>]) -> Result<Vec<Time>, AllocError> {
+fn times_of(alloc: Global, batch: &[Waiting<'_, Ask>]) -> Result<Vec<Time>, AllocError> {
     let mut times = Vec::with_capacity(alloc, batch.len())?;
     // The guest, and the protocol of its first command here.
     let mut first = None;
@@ -79,14 +79,14 @@ fn times_of(alloc: Global, batch: &[Asked<'_, Ask>]) -> Result<Vec<Time>, AllocE
 /// The commands of a batch that go out together to links of a protocol.
 fn part_of<'a>(
     alloc: Global,
-    batch: &[Asked<'a, Ask>],
+    batch: &[Waiting<'a, Ask>],
     times: &[Time],
     protocol: Protocol,
-) -> Result<Vec<Asked<'a, GuestCommand>>, AllocError> {
+) -> Result<Vec<Waiting<'a, GuestCommand>>, AllocError> {
     let mut part = Vec::new(alloc);
     for (asked, time) in batch.iter().zip(times.iter()) {
         if matches!(time, Time::Together(of) if *of == protocol) {
-            part.push(Asked {
+            part.push(Waiting {
                 guest: asked.guest,
                 command: &asked.command.command,
             })?;
@@ -108,7 +108,7 @@ impl<L: PipelinedLink + Drop> Side<L> {
     fn ask(
         &mut self,
         alloc: Global,
-        part: &[Asked<'_, GuestCommand>],
+        part: &[Waiting<'_, GuestCommand>],
     ) -> Result<VecDeque<Outcome<Reply>>, AllocError> {
         if part.is_empty() {
             return Ok(VecDeque::new(alloc));
@@ -129,7 +129,7 @@ impl<L: PipelinedLink + Drop> Cluster<L> {
     fn ask_each_alone(
         &mut self,
         alloc: Global,
-        batch: &[Asked<'_, Ask>],
+        batch: &[Waiting<'_, Ask>],
         times: &[Time],
         alone: &mut VecDeque<Outcome<Reply>>,
     ) {
@@ -158,7 +158,7 @@ impl<L: PipelinedLink + Drop> Cluster<L> {
     fn note_waits(
         &mut self,
         alloc: Global,
-        batch: &[Asked<'_, Ask>],
+        batch: &[Waiting<'_, Ask>],
         times: &[Time],
         is_behind: bool,
     ) {
@@ -191,7 +191,7 @@ impl<L: PipelinedLink + Drop> Cluster<L> {
     /// Puts the outcomes of all behind one another, as the batch stands.
     fn tell_all(
         &mut self,
-        batch: &[Asked<'_, Ask>],
+        batch: &[Waiting<'_, Ask>],
         times: &[Time],
         mut told: Told,
         outcomes: &mut Vec<Outcome<Reply>>,
@@ -240,7 +240,7 @@ fn in_form(ask: &Ask, outcome: Outcome<Reply>) -> Outcome<Reply> {
 }
 
 /// Whether a batch has another command that was asked and may have put something there for one that waits.
-fn touches(batch: &[Asked<'_, Ask>], times: &[Time], waiting: &Ask) -> bool {
+fn touches(batch: &[Waiting<'_, Ask>], times: &[Time], waiting: &Ask) -> bool {
     for (asked, time) in batch.iter().zip(times.iter()) {
         if matches!(time, Time::Together(_) | Time::Alone) && asked.command.overlaps(waiting) {
             return true;
@@ -255,7 +255,7 @@ impl<L: PipelinedLink + Drop> Servers<Ask, Reply> for Cluster<L> {
     fn ask(
         &mut self,
         alloc: Global,
-        batch: &[Asked<'_, Ask>],
+        batch: &[Waiting<'_, Ask>],
     ) -> Result<Vec<Outcome<Reply>>, AllocError> {
         let mut outcomes = Vec::with_capacity(alloc, batch.len())?;
         let times = times_of(alloc, batch)?;

@@ -6,7 +6,7 @@ use crate::block::Block;
 use crate::own::{self, line, refuse};
 use crate::queued::Queued;
 use crate::way::{Own, Way, way_by_table, way_of};
-use cluster_client::Cmd;
+use cluster_client::{Cmd, Direction};
 use cluster_servers::Reply;
 use proxy_connection::Translator;
 use proxy_core::Entry;
@@ -65,9 +65,8 @@ impl Talk {
         if ask.command.has_slots() {
             return Ok(Entry::Waits(ask));
         }
-        let command = ask.command.command().clone()?;
-        let way = way_by_table(alloc, &command)?;
-        Ok(Entry::Waits(Ask::alone(alloc, way, command, self.protocol)?))
+        let way = way_by_table(ask.command.direction());
+        Ok(Entry::Waits(ask.into_alone(way)?))
     }
 
     /// What a command that waits puts into the queue.
@@ -160,7 +159,8 @@ impl Talk {
 
 /// Whether a command that is named nowhere here goes by its keys.
 fn is_keyed(alloc: Global, command: &Cmd) -> Result<bool, AllocError> {
-    Ok(matches!(way_by_table(alloc, command)?, Way::Keyed))
+    let direction = Direction::for_routable(alloc, command, &[])?;
+    Ok(matches!(way_by_table(&direction), Way::Keyed))
 }
 
 /// What EXEC answers where no command is asked.

@@ -1,7 +1,6 @@
 //! Which way a command goes.
 use crate::block::waits;
-use cluster_client::{Cmd, MultipleNodeRoutingInfo, Routable, RoutingInfo, SingleNodeRoutingInfo};
-use std::alloc::{AllocError, Global};
+use cluster_client::{Cmd, Direction, Routable};
 
 /// How a command is answered.
 #[derive(Clone, Copy, Debug, PartialEq, Eq)]
@@ -156,17 +155,11 @@ pub(crate) fn way_of(command: &Cmd) -> Way {
 }
 
 /// How a command is answered that is named nowhere here: as the routing table says.
-pub(crate) fn way_by_table(alloc: Global, command: &Cmd) -> Result<Way, AllocError> {
-    Ok(way_by(RoutingInfo::for_routable(alloc, command, &[])?))
-}
-
-fn way_by(info: Option<RoutingInfo>) -> Way {
-    match &info {
-        None => Way::FirstNode,
-        Some(RoutingInfo::SingleNode(SingleNodeRoutingInfo::SpecificNode(_))) => Way::Keyed,
-        Some(RoutingInfo::SingleNode(_)) => Way::FirstNode,
-        Some(RoutingInfo::MultiNode((MultipleNodeRoutingInfo::MultiSlot(_), _))) => Way::Keyed,
-        Some(RoutingInfo::MultiNode(_)) => Way::Several,
+pub(crate) fn way_by_table(direction: &Direction) -> Way {
+    match direction {
+        Direction::Slot(_) | Direction::Parts(_) => Way::Keyed,
+        Direction::AllNodes(_) | Direction::AllPrimaries(_) => Way::Several,
+        Direction::AnyNode | Direction::Nowhere(_) => Way::FirstNode,
     }
 }
 

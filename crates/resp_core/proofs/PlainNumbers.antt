@@ -9,6 +9,7 @@ use Rattle.std.specs.Str.Parse.{AllDigits, IsNumeral, digits_value, signed_digit
 use Rattle.std.proofs.lemmas.Bool.{false≢true}
 use Rattle.std.proofs.lemmas.Bool.Decides.{nat_tests}
 use Rattle.std.proofs.lemmas.Fmt.{IsAscii-from_digits}
+use Rattle.std.proofs.lemmas.List.{length-take-le}
 use Rattle.std.proofs.lemmas.Int.Digits.{digits_value_more, digits_more}
 use Rattle.std.proofs.lemmas.Str.{encodes-IsAscii, chars-IsAscii, IsUtf8-from_ascii, is_utf8-from_IsUtf8}
 use Rattle.std.proofs.lemmas.Str.Parse.{IsNumeralModel, numerals_by_value, tells_all_ascii_digits, digit_at, digits_value_short, parse_signed_digits}
@@ -64,3 +65,9 @@ more_value bs i n lt is digit =
 
 pub digits_below : (ds : List ℕ) (k : ℕ) → AllDigits 10 ds → length ds ≤ k → digits_value 10 ds < 10 ^ k
 digits_below ds k h le = digits_value_short own ds k (own.from ds h) le
+
+-- the digits before one more are so few that it fits
+pub room_for_more : (ds : List ℕ) (i : ℕ) → length ds ≤ 18 → i < length ds → AllDigits 10 (take i ds) → digits_value 10 (take i ds) < 100_000_000_000_000_000
+room_for_more ds i few lt h =
+    let short : length (take i ds) ≤ 17 = omega (arith, length-take-le i ds (omega arith)) in
+    digits_below (take i ds) 17 h short

@@ -36,7 +36,7 @@ abbrev taken : (a : Reading) (t : Tree) (rest : List ℕ) → BeginsWith a.limit
 taken a t rest b = record {
   got = [];
   bytes = b.0;
-  consumed = Consumes-none a.left;
+  consumed = Consumes-none a.unread;
   spells = (b.0, [], sym (append-nil b.0), b.1, refl);
   joins = append-nil a.held ∙ b.2;
   room = omega arith;
@@ -81,7 +81,7 @@ not_empty : (n : ℕ) (old new : ℕ) (rest : Bool) → (n ≡ 0 → ⊥) → ne
 not_empty n old new rest some e = elim (eqb_tells n 0) [ inl p ↦ absurd (some p.1) | inr p ↦ rw p.0 at e ]
 
 -- one read gave this front of the buffer
-pub Seeks-once : {E : Type 0} (a b : Reading) (buffer : List ℕ) (n : ℕ) → BeginsUnfinished a.limit a.held → ReadConsumes {E = E} a.left b.left (Ok n) buffer
+pub Seeks-once : {E : Type 0} (a b : Reading) (buffer : List ℕ) (n : ℕ) → BeginsUnfinished a.limit a.held → ReadConsumes {E = E} a.unread b.unread (Ok n) buffer
     → CountsRead {E = E} a.counts b.counts (Ok n) (length buffer) → a.held ++ take n buffer ≡ b.held
     → (n ≡ 0 → ⊥) → n ≤ length buffer → length buffer ≡ 4096 → a.allowed ≡ b.allowed + 1 → b.limit ≡ a.limit → Seeks a b []
 Seeks-once a b buffer n u bytes counts joins some bound room allowed same = record {
@@ -116,13 +116,13 @@ kept (Some xs) None k = absurd k
 kept (Some xs) (Some ys) k = sym k
 
 -- one read was refused
-pub Stops-refused : {E : Type 0} (a b : Reading) (buffer : List ℕ) (e : E) → BeginsUnfinished a.limit a.held → ReadConsumes {E = E} a.left b.left (Err e) buffer
+pub Stops-refused : {E : Type 0} (a b : Reading) (buffer : List ℕ) (e : E) → BeginsUnfinished a.limit a.held → ReadConsumes {E = E} a.unread b.unread (Err e) buffer
     → CountsRead {E = E} a.counts b.counts (Err e) (length buffer) → b.held ≡ a.held → a.allowed ≡ b.allowed + 1 → b.limit ≡ a.limit → Stops a b []
 Stops-refused a b buffer e u bytes counts held allowed same = record {
   takes = record {
     got = [];
     bytes = [];
-    consumed = kept a.left b.left bytes;
+    consumed = kept a.unread b.unread bytes;
     spells = refl;
     joins = append-nil a.held ∙ sym held;
     room = omega (arith, allowed);

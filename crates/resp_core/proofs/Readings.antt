@@ -39,7 +39,7 @@ abbrev pub Takes-append : {a b c : Reading} {ss ts : List Tree} → Takes a b ss
 Takes-append {a} {b} {c} {ss} {ts} p q = record {
   got = p.got ++ q.got;
   bytes = p.bytes ++ q.bytes;
-  consumed = Consumes-append a.left b.left c.left p.got q.got p.consumed q.consumed;
+  consumed = Consumes-append a.unread b.unread c.unread p.got q.got p.consumed q.consumed;
   spells = SpelledInOrder-append a.limit p.bytes q.bytes ss ts p.spells (subst (λ k. SpelledInOrder k q.bytes ts) p.same_limit q.spells);
   joins = sym (append_assoc a.held p.got q.got) ∙ ap (λ s. s ++ q.got) p.joins ∙ append_assoc p.bytes b.held q.got
       ∙ ap (λ s. p.bytes ++ s) q.joins ∙ sym (append_assoc p.bytes q.bytes c.held);
@@ -123,7 +123,7 @@ abbrev pub Takes-none : (a : Reading) → Takes a a []
 Takes-none a = record {
   got = [];
   bytes = [];
-  consumed = Consumes-none a.left;
+  consumed = Consumes-none a.unread;
   spells = refl;
   joins = append-nil a.held;
   room = subst (λ k. k ≤ 4096 * a.allowed) (sym (add_comm 0 (4096 * a.allowed) ∙ add-zero (4096 * a.allowed))) (le_refl (4096 * a.allowed));

@@ -191,12 +191,12 @@ pairs_twice no_pairs n = omega arith
 pairs_twice (pair k v ps) n = let h = pairs_twice ps n in omega arith
 
 -- one level below
-child : (limit : ℕ) (p : Protocol) (t : Tree) (level left : ℕ) → ((below : ℕ) → suc level + below ≤ limit → fits_in p below t ≡ true → Spells limit (suc level) (written p t) (form p t))
-    → level + left ≤ limit → (nat_lt 0 left && fits_in p (left - 1) t) ≡ true → Spells limit (suc level) (written p t) (form p t)
-child limit p t level left reads e h =
-    let k = and_parts (nat_lt 0 left) (fits_in p (left - 1) t) h in
-    let some = ltb-true 0 left k.0 in
-    reads (left - 1) (omega arith) k.1
+child : (limit : ℕ) (p : Protocol) (t : Tree) (level levels : ℕ) → ((below : ℕ) → suc level + below ≤ limit → fits_in p below t ≡ true → Spells limit (suc level) (written p t) (form p t))
+    → level + levels ≤ limit → (nat_lt 0 levels && fits_in p (levels - 1) t) ≡ true → Spells limit (suc level) (written p t) (form p t)
+child limit p t level levels reads e h =
+    let k = and_parts (nat_lt 0 levels) (fits_in p (levels - 1) t) h in
+    let some = ltb-true 0 levels k.0 in
+    reads (levels - 1) (omega arith) k.1
 
 mutual
   unfolding written form fits_in
@@ -248,21 +248,21 @@ mutual
       let k = and_parts (is_text x.code) (is_detail x.detail) h in
       failed_spelled limit p x level (omega arith) k.0 k.1
 
-  all_spelled : (limit : ℕ) (p : Protocol) (ts : Trees) (level left : ℕ) → level + left ≤ limit → fits_all p left ts ≡ true → SpellsAll limit (suc level) (count ts) (written_all p ts) (forms p ts)
-  all_spelled limit p no_trees level left e h = none
-  all_spelled limit p (tree t ts) level left e h =
-      let k = and_parts (nat_lt 0 left && fits_in p (left - 1) t) (fits_all p left ts) h in
-      more (child limit p t level left (λ b f g. spelled limit p t (suc level) b f g) e k.0) (all_spelled limit p ts level left e k.1)
+  all_spelled : (limit : ℕ) (p : Protocol) (ts : Trees) (level levels : ℕ) → level + levels ≤ limit → fits_all p levels ts ≡ true → SpellsAll limit (suc level) (count ts) (written_all p ts) (forms p ts)
+  all_spelled limit p no_trees level levels e h = none
+  all_spelled limit p (tree t ts) level levels e h =
+      let k = and_parts (nat_lt 0 levels && fits_in p (levels - 1) t) (fits_all p levels ts) h in
+      more (child limit p t level levels (λ b f g. spelled limit p t (suc level) b f g) e k.0) (all_spelled limit p ts level levels e k.1)
 
-  pairs_spelled : (limit : ℕ) (p : Protocol) (ps : Pairs) (level left n : ℕ) (back : List ℕ) (rest : Trees) → level + left ≤ limit → fits_pairs p left ps ≡ true → SpellsAll limit (suc level) n back rest
+  pairs_spelled : (limit : ℕ) (p : Protocol) (ps : Pairs) (level levels n : ℕ) (back : List ℕ) (rest : Trees) → level + levels ≤ limit → fits_pairs p levels ps ≡ true → SpellsAll limit (suc level) n back rest
       → SpellsAll limit (suc level) (behind_pairs ps n) (written_pairs p ps ++ back) (flat_onto (pair_forms p ps) rest)
-  pairs_spelled limit p no_pairs level left n back rest e h all = all
-  pairs_spelled limit p (pair k v ps) level left n back rest e h all =
-      let a = and_parts (nat_lt 0 left && fits_in p (left - 1) k) ((nat_lt 0 left && fits_in p (left - 1) v) && fits_pairs p left ps) h in
-      let b = and_parts (nat_lt 0 left && fits_in p (left - 1) v) (fits_pairs p left ps) a.1 in
+  pairs_spelled limit p no_pairs level levels n back rest e h all = all
+  pairs_spelled limit p (pair k v ps) level levels n back rest e h all =
+      let a = and_parts (nat_lt 0 levels && fits_in p (levels - 1) k) ((nat_lt 0 levels && fits_in p (levels - 1) v) && fits_pairs p levels ps) h in
+      let b = and_parts (nat_lt 0 levels && fits_in p (levels - 1) v) (fits_pairs p levels ps) a.1 in
       subst (λ (l : List ℕ). SpellsAll limit (suc level) (suc (suc (behind_pairs ps n))) l (tree (form p k) (tree (form p v) (flat_onto (pair_forms p ps) rest))))
       (sym (append_assoc (written p k) (written p v ++ written_pairs p ps) back ∙ ap (λ (l : List ℕ). written p k ++ l) (append_assoc (written p v) (written_pairs p ps) back)))
-      (more (child limit p k level left (λ b f g. spelled limit p k (suc level) b f g) e a.0) (more (child limit p v level left (λ b f g. spelled limit p v (suc level) b f g) e b.0) (pairs_spelled limit p ps level left n back rest e b.1 all)))
+      (more (child limit p k level levels (λ b f g. spelled limit p k (suc level) b f g) e a.0) (more (child limit p v level levels (λ b f g. spelled limit p v (suc level) b f g) e b.0) (pairs_spelled limit p ps level levels n back rest e b.1 all)))
 
 pub written_is_read : WrittenIsRead
 written_is_read p limit t h =

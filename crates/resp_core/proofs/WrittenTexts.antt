@@ -88,25 +88,25 @@ spaced_next bs i b old mid new lt is sofar more =
 here : {A : Type 0} (vs : List A) (i : ℕ) (v : A) → i < length vs → v ≡ get_or vs i v → drop i vs ≡ v ∷ drop (i + 1) vs
 here vs i v lt is = drop-cons vs i v lt ∙ ap₂ (λ x (k : ℕ). x ∷ drop k vs) (sym is) (sym (add-one i))
 
-pub fits_next : (p : Protocol) (left : ℕ) (vs : List Value) (i : ℕ) (v : Value) (b : Bool) → i < length vs → v ≡ get_or vs i v → b ≡ fits p left (view v)
-    → fits_all p left (trees_view (drop i vs)) ≡ (b && fits_all p left (trees_view (drop (i + 1) vs)))
+pub fits_next : (p : Protocol) (levels : ℕ) (vs : List Value) (i : ℕ) (v : Value) (b : Bool) → i < length vs → v ≡ get_or vs i v → b ≡ fits p levels (view v)
+    → fits_all p levels (trees_view (drop i vs)) ≡ (b && fits_all p levels (trees_view (drop (i + 1) vs)))
 unfolding fits_in
-fits_next p left vs i v b lt is e =
-    ap (λ (l : List Value). fits_all p left (trees_view l)) (here vs i v lt is) ∙ ap (λ (c : Bool). c && fits_all p left (trees_view (drop (i + 1) vs))) (sym e)
+fits_next p levels vs i v b lt is e =
+    ap (λ (l : List Value). fits_all p levels (trees_view l)) (here vs i v lt is) ∙ ap (λ (c : Bool). c && fits_all p levels (trees_view (drop (i + 1) vs))) (sym e)
 
-pub fits_end : (p : Protocol) (left : ℕ) (vs : List Value) (i : ℕ) → length vs ≤ i → fits_all p left (trees_view (drop i vs)) ≡ true
+pub fits_end : (p : Protocol) (levels : ℕ) (vs : List Value) (i : ℕ) → length vs ≤ i → fits_all p levels (trees_view (drop i vs)) ≡ true
 unfolding fits_in
-fits_end p left vs i le = ap (λ (l : List Value). fits_all p left (trees_view l)) (drop_all i vs le)
+fits_end p levels vs i le = ap (λ (l : List Value). fits_all p levels (trees_view l)) (drop_all i vs le)
 
-pub pair_fits_next : (p : Protocol) (left : ℕ) (vs : List (Value × Value)) (i : ℕ) (v : Value × Value) (b c : Bool) → i < length vs → v ≡ get_or vs i v → b ≡ fits p left (view v.0) → c ≡ fits p left (view v.1)
-    → fits_pairs p left (pairs_view (drop i vs)) ≡ (b && (c && fits_pairs p left (pairs_view (drop (i + 1) vs))))
+pub pair_fits_next : (p : Protocol) (levels : ℕ) (vs : List (Value × Value)) (i : ℕ) (v : Value × Value) (b c : Bool) → i < length vs → v ≡ get_or vs i v → b ≡ fits p levels (view v.0) → c ≡ fits p levels (view v.1)
+    → fits_pairs p levels (pairs_view (drop i vs)) ≡ (b && (c && fits_pairs p levels (pairs_view (drop (i + 1) vs))))
 unfolding fits_in
-pair_fits_next p left vs i v b c lt is e f =
-    ap (λ (l : List (Value × Value)). fits_pairs p left (pairs_view l)) (here vs i v lt is) ∙ ap₂ (λ (x y : Bool). x && (y && fits_pairs p left (pairs_view (drop (i + 1) vs)))) (sym e) (sym f)
+pair_fits_next p levels vs i v b c lt is e f =
+    ap (λ (l : List (Value × Value)). fits_pairs p levels (pairs_view l)) (here vs i v lt is) ∙ ap₂ (λ (x y : Bool). x && (y && fits_pairs p levels (pairs_view (drop (i + 1) vs)))) (sym e) (sym f)
 
-pub pair_fits_end : (p : Protocol) (left : ℕ) (vs : List (Value × Value)) (i : ℕ) → length vs ≤ i → fits_pairs p left (pairs_view (drop i vs)) ≡ true
+pub pair_fits_end : (p : Protocol) (levels : ℕ) (vs : List (Value × Value)) (i : ℕ) → length vs ≤ i → fits_pairs p levels (pairs_view (drop i vs)) ≡ true
 unfolding fits_in
-pair_fits_end p left vs i le = ap (λ (l : List (Value × Value)). fits_pairs p left (pairs_view l)) (drop_all i vs le)
+pair_fits_end p levels vs i le = ap (λ (l : List (Value × Value)). fits_pairs p levels (pairs_view l)) (drop_all i vs le)
 
 -- ---- exits
 
@@ -132,11 +132,11 @@ pub attribute_fits : (p : Protocol) (below : ℕ) (t : Tree) (ps : Pairs) (c : B
 unfolding fits_in
 attribute_fits p below t ps c e f = f ∙ ap (λ (b : Bool). b && (fits p below t)) e
 
-pub pair_fits_key : (p : Protocol) (left : ℕ) (vs : List (Value × Value)) (i : ℕ) (v : Value × Value) → i < length vs → v ≡ get_or vs i v → false ≡ fits p left (view v.0)
-    → fits_pairs p left (pairs_view (drop i vs)) ≡ false
+pub pair_fits_key : (p : Protocol) (levels : ℕ) (vs : List (Value × Value)) (i : ℕ) (v : Value × Value) → i < length vs → v ≡ get_or vs i v → false ≡ fits p levels (view v.0)
+    → fits_pairs p levels (pairs_view (drop i vs)) ≡ false
 unfolding fits_in
-pair_fits_key p left vs i v lt is e =
-    ap (λ (l : List (Value × Value)). fits_pairs p left (pairs_view l)) (here vs i v lt is) ∙ ap (λ (x : Bool). x && (fits p left (view v.1) && fits_pairs p left (pairs_view (drop (i + 1) vs)))) (sym e)
+pair_fits_key p levels vs i v lt is e =
+    ap (λ (l : List (Value × Value)). fits_pairs p levels (pairs_view l)) (here vs i v lt is) ∙ ap (λ (x : Bool). x && (fits p levels (view v.1) && fits_pairs p levels (pairs_view (drop (i + 1) vs)))) (sym e)
 
 pub attribute_written : {X E : Type 0} (r : Result X E) (p : Protocol) (inner t all : Tree) (ps : Pairs) (old mid new : List ℕ) → inner ≡ t → all ≡ attribute t ps
     → mid ≡ old ++ beside p (pair_count ps) (written_pairs p ps) → MatchResult r (λ _. new ≡ mid ++ written p inner) (λ _. (more : List ℕ) × (new ≡ mid ++ more))

@@ -272,13 +272,13 @@ unfoldable mutual
   fits_in p below (server_error e) = is_text e.code && is_detail e.detail
 
   pub fits_all : Protocol → ℕ → Trees → Bool
-  fits_all p left no_trees = true
-  fits_all p left (tree t ts) = (nat_lt 0 left && fits_in p (left - 1) t) && fits_all p left ts
+  fits_all p levels no_trees = true
+  fits_all p levels (tree t ts) = (nat_lt 0 levels && fits_in p (levels - 1) t) && fits_all p levels ts
 
   pub fits_pairs : Protocol → ℕ → Pairs → Bool
-  fits_pairs p left no_pairs = true
-  fits_pairs p left (pair k v ps) = (nat_lt 0 left && fits_in p (left - 1) k)
-      && ((nat_lt 0 left && fits_in p (left - 1) v) && fits_pairs p left ps)
+  fits_pairs p levels no_pairs = true
+  fits_pairs p levels (pair k v ps) = (nat_lt 0 levels && fits_in p (levels - 1) k)
+      && ((nat_lt 0 levels && fits_in p (levels - 1) v) && fits_pairs p levels ps)
 
 -- The tree can be written where values may nest so deep: the kind of a push and the value of an attribute each
 -- stand one level below it, and no part has 2^62 bytes or values or more.

@@ -26,87 +26,91 @@ fn is_written<R: Abort>(
     Ok(())
 }
 
-// A reply as it comes, as it is written in RESP2, and in RESP3.
-const REPLIES: &[(&[u8], &[u8], &[u8])] = &[
-    (b"_\r\n", b"$-1\r\n", b"_\r\n"),
-    (b"$-1\r\n", b"$-1\r\n", b"_\r\n"),
-    (b":1000\r\n", b":1000\r\n", b":1000\r\n"),
-    (b":-5\r\n", b":-5\r\n", b":-5\r\n"),
-    (b"$5\r\nhello\r\n", b"$5\r\nhello\r\n", b"$5\r\nhello\r\n"),
-    (b"$0\r\n\r\n", b"$0\r\n\r\n", b"$0\r\n\r\n"),
-    (b"*0\r\n", b"*0\r\n", b"*0\r\n"),
-    (
-        b"*2\r\n*3\r\n:1\r\n:2\r\n:3\r\n*2\r\n+Hello\r\n-World\r\n",
-        b"*2\r\n*3\r\n:1\r\n:2\r\n:3\r\n*2\r\n+Hello\r\n-World\r\n",
-        b"*2\r\n*3\r\n:1\r\n:2\r\n:3\r\n*2\r\n+Hello\r\n-World\r\n",
-    ),
-    (
-        b"*3\r\n$5\r\nhello\r\n$-1\r\n$5\r\nworld\r\n",
-        b"*3\r\n$5\r\nhello\r\n$-1\r\n$5\r\nworld\r\n",
-        b"*3\r\n$5\r\nhello\r\n_\r\n$5\r\nworld\r\n",
-    ),
-    (b"+OK\r\n", b"+OK\r\n", b"+OK\r\n"),
-    (b"+Hello\r\n", b"+Hello\r\n", b"+Hello\r\n"),
+// Replies that are written as they come, in both protocols.
+const SAME: &[&[u8]] = &[
+    b":1000\r\n",
+    b":-5\r\n",
+    b"$5\r\nhello\r\n",
+    b"$0\r\n\r\n",
+    b"*0\r\n",
+    b"*2\r\n*3\r\n:1\r\n:2\r\n:3\r\n*2\r\n+Hello\r\n-World\r\n",
+    b"+OK\r\n",
+    b"+Hello\r\n",
+    b"-ERR unknown command 'asdf'\r\n",
+];
+
+// Those that RESP3 writes as they come, each with what RESP2 writes.
+const PLAINER: &[(&[u8], &[u8])] = &[
+    (b"_\r\n", b"$-1\r\n"),
     (
         b"%2\r\n+first\r\n:1\r\n+second\r\n:2\r\n",
         b"*4\r\n+first\r\n:1\r\n+second\r\n:2\r\n",
-        b"%2\r\n+first\r\n:1\r\n+second\r\n:2\r\n",
     ),
     (
         b"|1\r\n+key-popularity\r\n%2\r\n$1\r\na\r\n,0.1923\r\n$1\r\nb\r\n,0.0012\r\n*2\r\n:2039123\r\n:9543892\r\n",
         b"*2\r\n:2039123\r\n:9543892\r\n",
-        b"|1\r\n+key-popularity\r\n%2\r\n$1\r\na\r\n,0.1923\r\n$1\r\nb\r\n,0.0012\r\n*2\r\n:2039123\r\n:9543892\r\n",
     ),
     (
         b"~5\r\n+orange\r\n+apple\r\n#t\r\n:100\r\n:999\r\n",
         b"*5\r\n+orange\r\n+apple\r\n:1\r\n:100\r\n:999\r\n",
-        b"~5\r\n+orange\r\n+apple\r\n#t\r\n:100\r\n:999\r\n",
     ),
-    (b",1.23\r\n", b"$4\r\n1.23\r\n", b",1.23\r\n"),
-    (b",-inf\r\n", b"$4\r\n-inf\r\n", b",-inf\r\n"),
-    (b"#t\r\n", b":1\r\n", b"#t\r\n"),
-    (b"#f\r\n", b":0\r\n", b"#f\r\n"),
-    (
-        b"=15\r\ntxt:Some string\r\n",
-        b"$11\r\nSome string\r\n",
-        b"=15\r\ntxt:Some string\r\n",
-    ),
+    (b",1.23\r\n", b"$4\r\n1.23\r\n"),
+    (b",-inf\r\n", b"$4\r\n-inf\r\n"),
+    (b"#t\r\n", b":1\r\n"),
+    (b"#f\r\n", b":0\r\n"),
+    (b"=15\r\ntxt:Some string\r\n", b"$11\r\nSome string\r\n"),
     (
         b"(3492890328409238509324850943850943825024385\r\n",
         b"$43\r\n3492890328409238509324850943850943825024385\r\n",
-        b"(3492890328409238509324850943850943825024385\r\n",
     ),
     (
         b">3\r\n$7\r\nmessage\r\n$6\r\nsecond\r\n$5\r\nHello\r\n",
         b"*3\r\n$7\r\nmessage\r\n$6\r\nsecond\r\n$5\r\nHello\r\n",
-        b">3\r\n$7\r\nmessage\r\n$6\r\nsecond\r\n$5\r\nHello\r\n",
     ),
+    // An error whose text has the end of a line, as no example has one.
+    (b"!10\r\nERR a\r\nb c\r\n", b"-ERR a  b c\r\n"),
+];
+
+// Those that neither writes as they come: what RESP2 writes, and RESP3.
+const OTHERS: &[(&[u8], &[u8], &[u8])] = &[
+    (b"$-1\r\n", b"$-1\r\n", b"_\r\n"),
     (
-        b"-ERR unknown command 'asdf'\r\n",
-        b"-ERR unknown command 'asdf'\r\n",
-        b"-ERR unknown command 'asdf'\r\n",
+        b"*3\r\n$5\r\nhello\r\n$-1\r\n$5\r\nworld\r\n",
+        b"*3\r\n$5\r\nhello\r\n$-1\r\n$5\r\nworld\r\n",
+        b"*3\r\n$5\r\nhello\r\n_\r\n$5\r\nworld\r\n",
     ),
     (
         b"!21\r\nSYNTAX invalid syntax\r\n",
         b"-SYNTAX invalid syntax\r\n",
         b"-SYNTAX invalid syntax\r\n",
     ),
-    // An error whose text has the end of a line, as no example has one.
-    (
-        b"!10\r\nERR a\r\nb c\r\n",
-        b"-ERR a  b c\r\n",
-        b"!10\r\nERR a\r\nb c\r\n",
-    ),
 ];
+
+fn is_reply_written<R: Abort>(
+    rt: &R,
+    bytes: &[u8],
+    two: &[u8],
+    three: &[u8],
+    alloc: Global,
+) -> Result<(), Fail> {
+    let value = parse_redis_value(alloc, bytes)?;
+    is_written(rt, &value, Protocol::Resp2, two, alloc)?;
+    is_written(rt, &value, Protocol::Resp3, three, alloc)?;
+    assert!(rt; parse_redis_value(alloc, three)? == value);
+    Ok(())
+}
 
 #[test]
 fn replies(rt: HostRuntime) -> Result<(), Fail> {
     let alloc = rt.alloc();
-    for (bytes, two, three) in REPLIES {
-        let value = parse_redis_value(alloc, bytes)?;
-        is_written(&rt, &value, Protocol::Resp2, two, alloc)?;
-        is_written(&rt, &value, Protocol::Resp3, three, alloc)?;
-        assert!(rt; parse_redis_value(alloc, three)? == value);
+    for bytes in SAME {
+        is_reply_written(&rt, bytes, bytes, bytes, alloc)?;
+    }
+    for (bytes, two) in PLAINER {
+        is_reply_written(&rt, bytes, two, bytes, alloc)?;
+    }
+    for (bytes, two, three) in OTHERS {
+        is_reply_written(&rt, bytes, two, three, alloc)?;
     }
     Ok(())
 }

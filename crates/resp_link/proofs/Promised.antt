@@ -18,7 +18,7 @@ faults_have_a_cause old new bytes wanted refusal reads writes (receiving fails) 
     | inl refused ↦ absurd (subst (λ p. MayRefuse p new.counts.reads) reads refused.1)
     | inr (inl ended) ↦ bytes_ended ended.1 stops.1
     | inr (inr seeks) ↦
-        let given = given_in (Awaits old.limit fails.lacks.ends.trees) (at_start old) (record { left = new.left; held = fails.lacks.held; counts = new.counts; allowed = fails.lacks.allowed; limit = old.limit }) seeks.0.takes.got seeks.0.needed in
+        let given = given_in (Awaits old.limit fails.lacks.ends.trees) (at_start old) (record { unread = new.unread; held = fails.lacks.held; counts = new.counts; allowed = fails.lacks.allowed; limit = old.limit }) seeks.0.takes.got seeks.0.needed in
         reads_ran_out seeks.0.takes.got seeks.0.takes.consumed (omega (arith, given.1, given.2.0, seeks.1)) stops.1
   ]
   | inr (inl meets) ↦ bytes_faulty fails.lacks.held meets.0.faulty meets.1

@@ -10,7 +10,7 @@ use Rattle.resp_link.specs.TwoCalls as two
 use Rattle.resp_link.specs.TwoCalls.{ComesToOwe, TakesOwed, LacksOwed, SendRefused, ReceiveRefused, TwoCallsAreOne, RefusedSendsAreRefusedCalls}
 
 same_start : {old mid : Seen} {bytes : List ℕ} → ComesToOwe old mid bytes → at_start mid ≡ at_start old
-same_start p = rw p.left (rw p.held (rw p.counts (rw p.limit refl)))
+same_start p = rw p.unread (rw p.held (rw p.counts (rw p.limit refl)))
 
 sent_by : {old mid new : Seen} {bytes : List ℕ} → ComesToOwe old mid bytes → two.StaysSent mid new → SentAll old.sent new.sent old.write_counts new.write_counts bytes
 sent_by p q = rw q.sent (rw q.write_counts p.sent)
@@ -36,8 +36,8 @@ lacks_in_two {old} {mid} {new} {bytes} {wanted} {refusal} p q = record {
   flushed = q.writes.flushed ∙ p.flushed;
   sent = sent_by p q.writes;
   limit = q.limit ∙ p.limit;
-  lacks = subst (λ start. LacksReplies start new.left new.counts old.pushes new.pushes wanted refusal) (same_start p)
-      (subst (λ pushes. LacksReplies (at_start mid) new.left new.counts pushes new.pushes wanted refusal) p.pushes q.lacks);
+  lacks = subst (λ start. LacksReplies start new.unread new.counts old.pushes new.pushes wanted refusal) (same_start p)
+      (subst (λ pushes. LacksReplies (at_start mid) new.unread new.counts pushes new.pushes wanted refusal) p.pushes q.lacks);
 }
 
 pub fails_in_two : {old mid new : Seen} {bytes : List ℕ} {wanted : ℕ} {refusal : Refusal} → ComesToOwe old mid bytes → ReceiveRefused mid new wanted refusal

@@ -15,8 +15,8 @@ pub data WhyRefused (old new : Seen) (refusal : Refusal) : Type 0 where
   was_closed : old.usable ≡ false → new ≡ old → refusal ≡ by_cause NoLink → WhyRefused old new refusal
   no_room_to_write : new.write_counts.no_room ≡ counted old.write_counts.no_room → refusal ≡ by_cause Io
       → WhyRefused old new refusal
-  bytes_ended : IsAtEnd new.left → refusal ≡ by_cause Io → WhyRefused old new refusal
-  reads_ran_out : (got : List ℕ) → Consumes old.left new.left got → 2 ^ 32 ≤ length got
+  bytes_ended : IsAtEnd new.unread → refusal ≡ by_cause Io → WhyRefused old new refusal
+  reads_ran_out : (got : List ℕ) → Consumes old.unread new.unread got → 2 ^ 32 ≤ length got
       → refusal ≡ by_cause Io → WhyRefused old new refusal
   bytes_faulty : (held : List ℕ) → BeginsFaulty old.limit held → refusal ≡ by_cause Parse
       → WhyRefused old new refusal

@@ -22,7 +22,7 @@ pub record ComesToOwe (old new : Seen) (bytes : List ℕ) : Type 0 where
   pub owes : new.owes ≡ true
   pub flushed : new.flushed ≡ true
   pub sent : SentAll old.sent new.sent old.write_counts new.write_counts bytes
-  pub left : new.left ≡ old.left
+  pub unread : new.unread ≡ old.unread
   pub held : new.held ≡ old.held
   pub pushes : new.pushes ≡ old.pushes
   pub counts : new.counts ≡ old.counts
@@ -65,7 +65,7 @@ pub record LacksOwed (old new : Seen) (wanted : ℕ) (refusal : Refusal) : Type 
   pub owes : new.owes ≡ false
   pub writes : StaysSent old new
   pub limit : new.limit ≡ old.limit
-  pub lacks : LacksReplies (at_start old) new.left new.counts old.pushes new.pushes wanted refusal
+  pub lacks : LacksReplies (at_start old) new.unread new.counts old.pushes new.pushes wanted refusal
 
 -- how a refused taking went
 pub data ReceiveRefused (old new : Seen) (wanted : ℕ) (refusal : Refusal) : Type 0 where

@@ -65,60 +65,25 @@ impl Write for FailsOnce {
 
 // Which call of the writer and which of the reader fails, none where it is 0; then how many calls there were: of
 // the writer, of these flushes, and of the reader.
-struct Row {
-    write: usize,
-    read: usize,
-    calls: (usize, usize, usize),
-}
+type Row = (usize, usize, (usize, usize, usize));
 
 // Two writes of a byte and a flush send the request, and four reads of a byte take the reply.
 const ROWS: [Row; 8] = [
-    Row {
-        write: 0,
-        read: 0,
-        calls: (3, 1, 4),
-    },
-    Row {
-        write: 1,
-        read: 0,
-        calls: (1, 0, 0),
-    },
-    Row {
-        write: 2,
-        read: 0,
-        calls: (2, 0, 0),
-    },
-    Row {
-        write: 3,
-        read: 0,
-        calls: (3, 1, 0),
-    },
-    Row {
-        write: 0,
-        read: 1,
-        calls: (3, 1, 1),
-    },
-    Row {
-        write: 0,
-        read: 2,
-        calls: (3, 1, 2),
-    },
-    Row {
-        write: 0,
-        read: 3,
-        calls: (3, 1, 3),
-    },
-    Row {
-        write: 0,
-        read: 4,
-        calls: (3, 1, 4),
-    },
+    (0, 0, (3, 1, 4)),
+    (1, 0, (1, 0, 0)),
+    (2, 0, (2, 0, 0)),
+    (3, 0, (3, 1, 0)),
+    (0, 1, (3, 1, 1)),
+    (0, 2, (3, 1, 2)),
+    (0, 3, (3, 1, 3)),
+    (0, 4, (3, 1, 4)),
 ];
 
 // Whether a call that fails so is refused where it fails, and the closed link calls nothing more.
-fn holds(alloc: Global, row: &Row) -> bool {
-    let reader = FromRead::new(FailsOnce::new(row.read));
-    let writer = FromWrite::new(FailsOnce::new(row.write));
+fn holds(alloc: Global, row: Row) -> bool {
+    let (write, read, calls) = row;
+    let reader = FromRead::new(FailsOnce::new(read));
+    let writer = FromWrite::new(FailsOnce::new(write));
     let mut link = ByteLink::new(alloc, reader, writer);
     let answer = int_of(link.req_packed_command(alloc, b"ab"));
     let is_open = link.is_open();
@@ -127,16 +92,16 @@ fn holds(alloc: Global, row: &Row) -> bool {
     }
     let (reader, writer) = link.into_parts();
     let (reader, writer) = (reader.into_inner(), writer.into_inner());
-    let is_whole = row.write == 0 && row.read == 0;
+    let is_whole = write == 0 && read == 0;
     is_open == is_whole
         && answer == if is_whole { Some(7) } else { None }
-        && (writer.calls, writer.flushes, reader.calls) == row.calls
+        && (writer.calls, writer.flushes, reader.calls) == calls
 }
 
 #[test]
 fn nothing_is_called_behind_a_refused_call(rt: HostRuntime) {
     let alloc = rt.alloc();
-    for row in &ROWS {
-        assert!(rt; holds(alloc, row), "write {}, read {}", row.write, row.read);
+    for row in ROWS {
+        assert!(rt; holds(alloc, row), "write {}, read {}", row.0, row.1);
     }
 }

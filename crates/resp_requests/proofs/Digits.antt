@@ -1,10 +1,11 @@
 -- Digits, one after another.
-use Rattle.std.proofs.Common.{◌≡◌, ℕ, ◌+◌, ◌*◌, ◌-◌, ◌^◌, ◌<◌, ◌≤◌, ◌==◌, ◌&&◌, Bool, true, false, not, nat_le, if◌then◌else◌, List, [], ◌∷◌, length, get_or, take, Option, Some, None, refl, sym, ap, subst, ◌∙◌, arith}
+use Rattle.std.proofs.Common.{◌≡◌, ℕ, ◌+◌, ◌*◌, ◌-◌, ◌^◌, ◌<◌, ◌≤◌, ◌==◌, ◌&&◌, Bool, true, false, not, nat_le, if◌then◌else◌, List, [], ◌∷◌, length, get_or, take, Option, Some, None, refl, sym, arith}
 use Rattle.std.specs.Char.{is_ascii_digit, digit_value}
 use Rattle.std.specs.Str.{all_ascii_digits}
 use Rattle.std.specs.Str.Parse.{AllDigits, digits_value}
 use Rattle.std.specs.Int.{IsInRange}
 use Rattle.std.proofs.lemmas.Bool.Decides.{nat_tests}
+use Rattle.std.proofs.lemmas.List.{length-take-le}
 use Rattle.std.proofs.lemmas.Int.Digits.{digits_value_more, digits_more}
 use Rattle.std.proofs.lemmas.Str.Parse.{IsNumeralModel, numerals_by_value, tells_all_ascii_digits, digit_at, digits_value_short}
 use Rattle.resp_requests.specs.Numbers.{is_well_led, number_in}
@@ -21,10 +22,10 @@ more_value bs i n lt is digit =
     let one : digit_value (get_or bs i 0) ≡ get_or bs i 0 - 48 = grind (arith, nat_tests, digit) in
     rw (is, ← one) (sym (digits_value_more 10 bs i lt))
 
-pub digits_below : (ds : List ℕ) (k : ℕ) → AllDigits 10 ds → length ds ≤ k → digits_value 10 ds < 10 ^ k
+digits_below : (ds : List ℕ) (k : ℕ) → AllDigits 10 ds → length ds ≤ k → digits_value 10 ds < 10 ^ k
 digits_below ds k h le = digits_value_short own ds k (own.from ds h) le
 
-pub well_led_short : (ds : List ℕ) → is_well_led ds ≡ true → length ds ≤ 19
+well_led_short : (ds : List ℕ) → is_well_led ds ≡ true → length ds ≤ 19
 well_led_short [] e = omega arith
 well_led_short (c ∷ []) e = omega arith
 well_led_short (c ∷ d ∷ ds) e = go (not (c == 48)) e
@@ -32,6 +33,12 @@ well_led_short (c ∷ d ∷ ds) e = go (not (c == 48)) e
     go : (b : Bool) → (b && nat_le (length ds) 17) ≡ true → length (c ∷ d ∷ ds) ≤ 19
     go true h = grind (arith, nat_tests, h)
     go false h = absurd cc
+
+-- the digits before one more are so few that it fits
+pub room_for_more : (ds : List ℕ) (i : ℕ) → is_well_led ds ≡ true → i < length ds → AllDigits 10 (take i ds) → digits_value 10 (take i ds) < 1_000_000_000_000_000_000
+room_for_more ds i e lt h =
+    let short : length (take i ds) ≤ 18 = omega (arith, well_led_short ds e, length-take-le i ds (omega arith)) in
+    digits_below (take i ds) 18 h short
 
 pub not_led : (ds : List ℕ) → is_well_led ds ≡ false → number_in ds ≡ None
 unfolding number_in

@@ -1,13 +1,15 @@
 -- What a reader reads next, behind a count or an argument that it took.
-use Rattle.std.proofs.Common.{◌≡◌, ℕ, zero, suc, ◌+◌, ◌-◌, ◌<◌, ◌≤◌, ◌==◌, false, List, [], ◌∷◌, ◌++◌, length, take, drop, Result, Ok, Err, refl, sym, ap, subst, ◌∙◌, append_assoc, append-nil, length-append, arith, length-drop}
-use Rattle.std.proofs.lemmas.List.{drop_at, drop-drop, take-append-drop}
+use Rattle.std.proofs.Common.{◌≡◌, ℕ, zero, suc, ◌+◌, ◌-◌, ◌<◌, ◌≤◌, ◌==◌, false, List, [], ◌∷◌, ◌++◌, length, drop, Ok, Err, refl, sym, ap, ◌∙◌, append_assoc, append-nil, length-append, arith, length-drop}
+use Rattle.std.proofs.lemmas.List.{drop_at, drop-drop}
+use Rattle.std.specs.Vec.{vec_len}
 use Rattle.resp_requests.specs.declared.fault.Fault.{Fault}
 use Rattle.resp_requests.specs.declared.limits.Limits.{Limits}
-use Rattle.resp_requests.specs.Gaps.{Gap, short, fault, Read, ◌>>=◌}
+use Rattle.resp_requests.specs.declared.reader.RequestReader.{RequestReader}
+use Rattle.resp_requests.specs.Gaps.{Gap, fault, Read, ◌>>=◌}
 use Rattle.resp_requests.specs.Arrays.{count_at, argument_at, arguments_at, array_at}
 use Rattle.resp_requests.specs.Requests.{Command, inline_at, request_at}
-use Rattle.resp_requests.specs.Standing.{open_at}
-use Rattle.resp_requests.proofs.Readings.{Extends, Behind}
+use Rattle.resp_requests.specs.Standing.{waiting, open_at}
+use Rattle.resp_requests.proofs.Readings.{Extends, Behind, Took, took_is}
 use Rattle.resp_requests.proofs.Parts.{count_extends, argument_extends, inline_extends}
 
 abbrev pub onto_taken : List (List ℕ) → List (List ℕ) × List ℕ → Read Command
@@ -138,10 +140,31 @@ line_is_bad l waits b behind g first other e =
     ap (request_at l) (append-nil waits ∙ first) ∙ other_reads l b behind other ∙ ap (inline_at l) (sym first) ∙ e
 
 -- what waits once so many bytes less are behind the front
-pub left_behind : (items : List ℕ) (front : ℕ) (rest : List ℕ) → front ≤ length items → Behind (drop front items) rest
+left_behind : (items : List ℕ) (front : ℕ) (rest : List ℕ) → front ≤ length items → Behind (drop front items) rest
     → (drop (length items - length rest) items ≡ rest) × (front < length items - length rest) × (length items - length rest ≤ length items) × (length rest ≤ length items)
 left_behind items front rest within p =
     let total : length items - front ≡ length p.used + length rest = sym (length-drop front items) ∙ ap length p.parts ∙ length-append p.used rest in
     let place : length items - length rest ≡ front + length p.used = omega (arith, total, within, p.some) in
     let behind : drop (front + length p.used) items ≡ rest = sym (drop-drop (length p.used) front items) ∙ ap (drop (length p.used)) p.parts ∙ drop_at p.used rest (length p.used) refl in
     (ap (λ (n : ℕ). drop n items) place ∙ behind, omega (arith, place, p.some), omega arith, omega (arith, total))
+
+-- what was read of the bytes that wait, and the place behind it, where so many bytes are in the buffer
+pub record ReadOf {A : Type 0} (r : RequestReader) (part : Read A) (x : A) (rest : List ℕ) (all : ℕ) : Type 0 where
+  pub is : part ≡ Ok (x, rest)
+  pub waits : drop (all - length rest) r.buffer.items ≡ rest
+  pub moves : r.front < all - length rest
+  pub within : all - length rest ≤ vec_len r.buffer
+  pub enough : length rest ≤ all
+
+pub read_of : {A : Type 0} (r : RequestReader) (part : List ℕ → Read A) (x : A) (rest bytes : List ℕ) (all : ℕ) → ((bs : List ℕ) → Took bs (part bs))
+    → bytes ≡ waiting r → all ≡ length r.buffer.items → part bytes ≡ Ok (x, rest) → ReadOf r (part (waiting r)) x rest all
+read_of r part x rest bytes all took same total e =
+    let read : part (waiting r) ≡ Ok (x, rest) = ap part (sym same) ∙ e in
+    let left = left_behind r.buffer.items r.front rest (omega (arith, r.front_within, r.buffer.ok.0)) (took_is (waiting r) (part (waiting r)) x rest read (took (waiting r))) in
+    record {
+      is = read;
+      waits = ap (λ (n : ℕ). drop (n - length rest) r.buffer.items) total ∙ left.0;
+      moves = omega (arith, left.1, total);
+      within = omega (arith, left.2, total, r.buffer.ok.0);
+      enough = omega (arith, left.3, total);
+    }

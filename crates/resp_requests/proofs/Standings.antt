@@ -1,5 +1,5 @@
 -- How a reader stands once it took a part of a request, or stopped.
-use Rattle.std.proofs.Common.{◌≡◌, ℕ, zero, suc, ◌+◌, ◌-◌, ◌<◌, ◌≤◌, ◌==◌, true, false, is_ok, OnOk, List, [], ◌∷◌, ◌++◌, length, take, drop, Option, Some, None, Result, Ok, Err, Vec, refl, sym, ap, subst, ◌∙◌, append-nil, append_assoc, arith}
+use Rattle.std.proofs.Common.{◌≡◌, ℕ, zero, suc, ◌-◌, ◌<◌, ◌≤◌, true, is_ok, OnOk, List, [], ◌∷◌, ◌++◌, length, take, drop, Option, Some, None, Result, Ok, Err, Vec, refl, sym, ap, subst, ◌∙◌, append-nil, append_assoc, arith}
 use Rattle.std.proofs.lemmas.List.{take_rest}
 use Rattle.std.specs.Global.{Global}
 use Rattle.resp_requests.specs.declared.fault.Fault.{Fault}
@@ -11,9 +11,9 @@ use Rattle.resp_requests.specs.Gaps.{Gap, short, fault, Read}
 use Rattle.resp_requests.specs.Given.{Fails, texts}
 use Rattle.resp_requests.specs.Arrays.{count_at, argument_at}
 use Rattle.resp_requests.specs.Lines.{head_at, line_at}
-use Rattle.resp_requests.specs.Requests.{Command, Ending, faulty, Requests, as_command, inline_at, request_at, requests}
+use Rattle.resp_requests.specs.Requests.{Command, as_command, inline_at, request_at}
 use Rattle.resp_requests.specs.Standing.{waiting, open_at, going, GoesOn, StandsIn, Stands, IsNext, AreAll, AreBeforeFault}
-use Rattle.resp_requests.specs.Advancing.{SameNext, Ends, Halts, Stops, SameStanding, StarWaits, OtherWaits, FollowsStop}
+use Rattle.resp_requests.specs.Advancing.{SameNext, Ends, Stops, SameStanding, StarWaits, OtherWaits, FollowsStop}
 use Rattle.resp_requests.proofs.Goings.{goes_same, goes_behind, goes_fed, are_all, are_before, is_next, begins, fault_stays}
 use Rattle.resp_requests.proofs.ReaderSteps.{array_is_empty, array_goes, array_is_bad, argument_goes, argument_ends, argument_is_bad, line_reads, line_is_bad}
 
@@ -89,6 +89,10 @@ fails_as : {A : Type 0} (e : Stop) (part : Read A) (all : Read Command) → ((g 
 fails_as stops.Short part all same h = same short h
 fails_as (stops.Fault f) part all same h = same (fault f) h
 fails_as stops.Memory part all same h = tt
+
+-- a reader of parts was handed what waits
+pub fails_there : {A : Type 0} (e : Stop) (part : List ℕ → Read A) (bytes waits : List ℕ) → bytes ≡ waits → Fails e (part bytes) → Fails e (part waits)
+fails_there e part bytes waits same h = subst (λ (bs : List ℕ). Fails e (part bs)) same h
 
 pub array_stops : (e : Stop) (r : RequestReader) → r.missing ≡ 0 → StarWaits r → Fails e (count_at r.limits (waiting r)) → Stops e r r
 array_stops e r none star h =
@@ -214,8 +218,8 @@ texts_more [] word = refl
 texts_more (w ∷ words) word = ap (λ (c : Command). w.items ∷ c) (texts_more words word)
 
 -- the bytes that the code hands to a reader of parts
-pub sliced : (bytes items : List ℕ) (front : ℕ) → bytes ≡ items → take (length bytes - front) (drop front bytes) ≡ drop front items
-sliced bytes items front same = take_rest bytes front ∙ ap (drop front) same
+pub handed : (r : RequestReader) (bytes : List ℕ) → bytes ≡ r.buffer.items → take (length bytes - r.front) (drop r.front bytes) ≡ waiting r
+handed r bytes same = take_rest bytes r.front ∙ ap (drop r.front) same
 
 pub is_between : (r : RequestReader) → r.missing ≤ 0 → r.missing ≡ 0
 is_between r h = omega arith

@@ -1,8 +1,8 @@
 -- Words, byte by byte.
-use Rattle.std.proofs.Common.{◌≡◌, ℕ, zero, suc, ◌<◌, ◌≤◌, ◌==◌, ◌&&◌, ◌||◌, nat_le, Bool, true, false, if◌then◌else◌, List, [], ◌∷◌, ◌++◌, Option, Some, None, refl, sym, ap, ◌∙◌, append_assoc, append-nil, arith, ◌+◌, ◌-◌, length, get_or, take, drop, length-drop}
+use Rattle.std.proofs.Common.{◌≡◌, ℕ, zero, ◌<◌, ◌≤◌, ◌==◌, true, false, List, [], ◌∷◌, ◌++◌, Option, Some, None, refl, sym, ap, ◌∙◌, append_assoc, append-nil, arith, ◌-◌, length, get_or, take, drop, length-drop}
 use Rattle.std.proofs.lemmas.List.{take_rest}
 use Rattle.std.proofs.lemmas.Bool.Decides.{nat_tests}
-use Rattle.resp_requests.specs.Words.{is_space, ends_word, Place, between, plain, double, single, Effect, nothing, more, ended, open_quote, Step, on, closes, in_word, is_escaped_quote, step, onto, does, split}
+use Rattle.resp_requests.specs.Words.{is_space, ends_word, Place, between, plain, double, single, Effect, nothing, more, ended, Step, on, in_word, is_escaped_quote, step, does, split}
 use Rattle.resp_requests.specs.WordRuns.{put_before, worded, after_words}
 
 -- a byte more of the word
@@ -138,25 +138,32 @@ shorter k bs some within = omega (arith, ap length (take_rest bs k), length-drop
 tail_is : (b : ℕ) (bs : List ℕ) → bs ≡ tail_of 1 (b ∷ bs)
 tail_is b bs = sym (take_rest (b ∷ bs) 1)
 
+begins_with : (b : ℕ) (bs : List ℕ) → 1 ≤ length bs → get_or bs 0 0 ≡ b → bs ≡ b ∷ tail_of 1 bs
+begins_with b [] h e = absurd (omega arith)
+begins_with b (c ∷ bs) h e = ap (λ (x : ℕ). x ∷ bs) e ∙ ap (λ (l : List ℕ). b ∷ l) (tail_is c bs)
+
+-- what is split behind a byte of the front
+at_byte : (p : Place) (b : ℕ) (bs : List ℕ) (r : Option (List (List ℕ))) → 1 ≤ length bs → get_or bs 0 0 ≡ b → split p zero (b ∷ tail_of 1 bs) ≡ r
+    → (split p zero bs ≡ r) × (length (tail_of 1 bs) < length bs)
+at_byte p b bs r h e is = (ap (split p zero) (begins_with b bs h e) ∙ is, shorter 1 bs (omega arith) h)
+
+at_end : (p : Place) (bs : List ℕ) (r : Option (List (List ℕ))) → length bs < 1 → split p zero [] ≡ r → split p zero bs ≡ r
+at_end p [] r h is = is
+at_end p (b ∷ bs) r h is = absurd (omega arith)
+
 pub double_byte_at : (bs : List ℕ) → 1 ≤ length bs → (get_or bs 0 0 == 34) ≡ false → (get_or bs 0 0 == 92) ≡ false
     → (split double zero bs ≡ does (more (get_or bs 0 0)) (split double zero (tail_of 1 bs))) × (length (tail_of 1 bs) < length bs)
-double_byte_at [] h p q = absurd (omega arith)
-double_byte_at (b ∷ bs) h p q =
-    (double_more b bs p q ∙ ap (λ (l : List ℕ). does (more b) (split double zero l)) (tail_is b bs), shorter 1 (b ∷ bs) (omega arith) h)
+double_byte_at bs h p q = at_byte double _ bs _ h refl (double_more _ _ p q)
 
 pub double_end_at : (bs : List ℕ) → length bs < 1 → split double zero bs ≡ None
-double_end_at [] h = double_at_end
-double_end_at (b ∷ bs) h = absurd (omega arith)
+double_end_at bs h = at_end double bs _ h double_at_end
 
 pub single_byte_at : (bs : List ℕ) → 1 ≤ length bs → (get_or bs 0 0 == 39) ≡ false → is_escaped_quote bs ≡ false
     → (split single zero bs ≡ does (more (get_or bs 0 0)) (split single zero (tail_of 1 bs))) × (length (tail_of 1 bs) < length bs)
-single_byte_at [] h p q = absurd (omega arith)
-single_byte_at (b ∷ bs) h p q =
-    (single_more b bs p q ∙ ap (λ (l : List ℕ). does (more b) (split single zero l)) (tail_is b bs), shorter 1 (b ∷ bs) (omega arith) h)
+single_byte_at bs h p q = at_byte single _ bs _ h refl (single_more _ _ p (ap is_escaped_quote (sym (begins_with _ bs h refl)) ∙ q))
 
 pub single_end_at : (bs : List ℕ) → length bs < 1 → split single zero bs ≡ None
-single_end_at [] h = single_at_end
-single_end_at (b ∷ bs) h = absurd (omega arith)
+single_end_at bs h = at_end single bs _ h single_at_end
 
 pub escaped_is_two : (bs : List ℕ) → is_escaped_quote bs ≡ true → 2 ≤ length bs
 escaped_is_two [] e = absurd cc
@@ -186,40 +193,26 @@ plain_stops_at (b ∷ bs) h e = plain_ends b bs e
 
 pub plain_byte_at : (bs : List ℕ) → 1 ≤ length bs → (get_or bs 0 0 == 34) ≡ false → (get_or bs 0 0 == 39) ≡ false → ends_word (get_or bs 0 0) ≡ false
     → (split plain zero bs ≡ does (more (get_or bs 0 0)) (split plain zero (tail_of 1 bs))) × (length (tail_of 1 bs) < length bs)
-plain_byte_at [] h p q e = absurd (omega arith)
-plain_byte_at (b ∷ bs) h p q e =
-    (plain_more b bs e p q ∙ ap (λ (l : List ℕ). does (more b) (split plain zero l)) (tail_is b bs), shorter 1 (b ∷ bs) (omega arith) h)
+plain_byte_at bs h p q e = at_byte plain _ bs _ h refl (plain_more _ _ e p q)
 
 pub plain_double_at : (bs : List ℕ) → 1 ≤ length bs → get_or bs 0 0 ≡ 34 → (split plain zero bs ≡ split double zero (tail_of 1 bs)) × (length (tail_of 1 bs) < length bs)
-plain_double_at [] h e = absurd (omega arith)
-plain_double_at (b ∷ bs) h e =
-    (ap (λ (x : ℕ). split plain zero (x ∷ bs)) e ∙ plain_double bs ∙ ap (split double zero) (tail_is b bs), shorter 1 (b ∷ bs) (omega arith) h)
+plain_double_at bs h e = at_byte plain 34 bs _ h e (plain_double _)
 
 pub plain_single_at : (bs : List ℕ) → 1 ≤ length bs → get_or bs 0 0 ≡ 39 → (split plain zero bs ≡ split single zero (tail_of 1 bs)) × (length (tail_of 1 bs) < length bs)
-plain_single_at [] h e = absurd (omega arith)
-plain_single_at (b ∷ bs) h e =
-    (ap (λ (x : ℕ). split plain zero (x ∷ bs)) e ∙ plain_single bs ∙ ap (split single zero) (tail_is b bs), shorter 1 (b ∷ bs) (omega arith) h)
+plain_single_at bs h e = at_byte plain 39 bs _ h e (plain_single _)
 
 pub between_end_at : (bs : List ℕ) → length bs < 1 → split between zero bs ≡ Some []
-between_end_at [] h = none_at_end
-between_end_at (b ∷ bs) h = absurd (omega arith)
+between_end_at bs h = at_end between bs _ h none_at_end
 
 pub between_space_at : (bs : List ℕ) → 1 ≤ length bs → is_space (get_or bs 0 0) ≡ true → (split between zero bs ≡ split between zero (tail_of 1 bs)) × (length (tail_of 1 bs) < length bs)
-between_space_at [] h e = absurd (omega arith)
-between_space_at (b ∷ bs) h e = (space_goes b bs e ∙ ap (split between zero) (tail_is b bs), shorter 1 (b ∷ bs) (omega arith) h)
+between_space_at bs h e = at_byte between _ bs _ h refl (space_goes _ _ e)
 
 pub between_byte_at : (bs : List ℕ) → 1 ≤ length bs → (get_or bs 0 0 == 34) ≡ false → (get_or bs 0 0 == 39) ≡ false → is_space (get_or bs 0 0) ≡ false
     → (split between zero bs ≡ put_before (get_or bs 0 0 ∷ []) (split plain zero (tail_of 1 bs))) × (length (tail_of 1 bs) < length bs)
-between_byte_at [] h p q e = absurd (omega arith)
-between_byte_at (b ∷ bs) h p q e =
-    (word_begins_plain b bs e p q ∙ ap (λ (l : List ℕ). put_before (b ∷ []) (split plain zero l)) (tail_is b bs), shorter 1 (b ∷ bs) (omega arith) h)
+between_byte_at bs h p q e = at_byte between _ bs _ h refl (word_begins_plain _ _ e p q)
 
 pub between_double_at : (bs : List ℕ) → 1 ≤ length bs → get_or bs 0 0 ≡ 34 → (split between zero bs ≡ split double zero (tail_of 1 bs)) × (length (tail_of 1 bs) < length bs)
-between_double_at [] h e = absurd (omega arith)
-between_double_at (b ∷ bs) h e =
-    (ap (λ (x : ℕ). split between zero (x ∷ bs)) e ∙ word_begins_double bs ∙ ap (split double zero) (tail_is b bs), shorter 1 (b ∷ bs) (omega arith) h)
+between_double_at bs h e = at_byte between 34 bs _ h e (word_begins_double _)
 
 pub between_single_at : (bs : List ℕ) → 1 ≤ length bs → get_or bs 0 0 ≡ 39 → (split between zero bs ≡ split single zero (tail_of 1 bs)) × (length (tail_of 1 bs) < length bs)
-between_single_at [] h e = absurd (omega arith)
-between_single_at (b ∷ bs) h e =
-    (ap (λ (x : ℕ). split between zero (x ∷ bs)) e ∙ word_begins_single bs ∙ ap (split single zero) (tail_is b bs), shorter 1 (b ∷ bs) (omega arith) h)
+between_single_at bs h e = at_byte between 39 bs _ h e (word_begins_single _)

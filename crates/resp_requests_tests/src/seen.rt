@@ -7,6 +7,13 @@ use std::alloc::Global;
 use std::process::Abort;
 use std::test::*;
 
+// Refusals that many rows have.
+const BAD_COUNT: &[u8] = b"-ERR Protocol error: invalid multibulk length\r\n";
+
+const BAD_LENGTH: &[u8] = b"-ERR Protocol error: invalid bulk length\r\n";
+
+const OPEN_QUOTE: &[u8] = b"-ERR Protocol error: unbalanced quotes in request\r\n";
+
 // Arrays of bulks, and what stands between them.
 const ARRAYS: [(&[u8], &[u8]); 19] = [
     (b"*1\r\n$4\r\nPING\r\n", b"+PONG\r\n"),
@@ -38,62 +45,20 @@ const ARRAYS: [(&[u8], &[u8]); 19] = [
 
 // Counts and lengths that are none.
 const COUNTS: [(&[u8], &[u8]); 30] = [
-    (
-        b"*\r\n",
-        b"-ERR Protocol error: invalid multibulk length\r\n",
-    ),
-    (
-        b"*x\r\n",
-        b"-ERR Protocol error: invalid multibulk length\r\n",
-    ),
-    (
-        b"* 1\r\n",
-        b"-ERR Protocol error: invalid multibulk length\r\n",
-    ),
-    (
-        b"*1 \r\n",
-        b"-ERR Protocol error: invalid multibulk length\r\n",
-    ),
-    (
-        b"*+1\r\n",
-        b"-ERR Protocol error: invalid multibulk length\r\n",
-    ),
-    (
-        b"*-0\r\n",
-        b"-ERR Protocol error: invalid multibulk length\r\n",
-    ),
-    (
-        b"*-\r\n",
-        b"-ERR Protocol error: invalid multibulk length\r\n",
-    ),
-    (
-        b"*00\r\n",
-        b"-ERR Protocol error: invalid multibulk length\r\n",
-    ),
-    (
-        b"*01\r\n",
-        b"-ERR Protocol error: invalid multibulk length\r\n",
-    ),
-    (
-        b"*-01\r\n",
-        b"-ERR Protocol error: invalid multibulk length\r\n",
-    ),
-    (
-        b"*2147483648\r\n",
-        b"-ERR Protocol error: invalid multibulk length\r\n",
-    ),
-    (
-        b"*-9223372036854775809\r\n",
-        b"-ERR Protocol error: invalid multibulk length\r\n",
-    ),
-    (
-        b"*99999999999999999999\r\n",
-        b"-ERR Protocol error: invalid multibulk length\r\n",
-    ),
-    (
-        b"*-99999999999999999999\r\n",
-        b"-ERR Protocol error: invalid multibulk length\r\n",
-    ),
+    (b"*\r\n", BAD_COUNT),
+    (b"*x\r\n", BAD_COUNT),
+    (b"* 1\r\n", BAD_COUNT),
+    (b"*1 \r\n", BAD_COUNT),
+    (b"*+1\r\n", BAD_COUNT),
+    (b"*-0\r\n", BAD_COUNT),
+    (b"*-\r\n", BAD_COUNT),
+    (b"*00\r\n", BAD_COUNT),
+    (b"*01\r\n", BAD_COUNT),
+    (b"*-01\r\n", BAD_COUNT),
+    (b"*2147483648\r\n", BAD_COUNT),
+    (b"*-9223372036854775809\r\n", BAD_COUNT),
+    (b"*99999999999999999999\r\n", BAD_COUNT),
+    (b"*-99999999999999999999\r\n", BAD_COUNT),
     (
         b"*1\r\nPING\r\n",
         b"-ERR Protocol error: expected '$', got 'P'\r\n",
@@ -122,42 +87,15 @@ const COUNTS: [(&[u8], &[u8]); 30] = [
         b"*2\r\n$4\r\nECHO\r\na\r\n",
         b"-ERR Protocol error: expected '$', got 'a'\r\n",
     ),
-    (
-        b"*1\r\n$\r\n",
-        b"-ERR Protocol error: invalid bulk length\r\n",
-    ),
-    (
-        b"*1\r\n$-1\r\n",
-        b"-ERR Protocol error: invalid bulk length\r\n",
-    ),
-    (
-        b"*1\r\n$x\r\n",
-        b"-ERR Protocol error: invalid bulk length\r\n",
-    ),
-    (
-        b"*1\r\n$04\r\nPING\r\n",
-        b"-ERR Protocol error: invalid bulk length\r\n",
-    ),
-    (
-        b"*1\r\n$ 4\r\n",
-        b"-ERR Protocol error: invalid bulk length\r\n",
-    ),
-    (
-        b"*1\r\n$+4\r\n",
-        b"-ERR Protocol error: invalid bulk length\r\n",
-    ),
-    (
-        b"*1\r\n$536870913\r\n",
-        b"-ERR Protocol error: invalid bulk length\r\n",
-    ),
-    (
-        b"*1\r\n$9223372036854775808\r\n",
-        b"-ERR Protocol error: invalid bulk length\r\n",
-    ),
-    (
-        b"*1\r\n$99999999999999999999\r\n",
-        b"-ERR Protocol error: invalid bulk length\r\n",
-    ),
+    (b"*1\r\n$\r\n", BAD_LENGTH),
+    (b"*1\r\n$-1\r\n", BAD_LENGTH),
+    (b"*1\r\n$x\r\n", BAD_LENGTH),
+    (b"*1\r\n$04\r\nPING\r\n", BAD_LENGTH),
+    (b"*1\r\n$ 4\r\n", BAD_LENGTH),
+    (b"*1\r\n$+4\r\n", BAD_LENGTH),
+    (b"*1\r\n$536870913\r\n", BAD_LENGTH),
+    (b"*1\r\n$9223372036854775808\r\n", BAD_LENGTH),
+    (b"*1\r\n$99999999999999999999\r\n", BAD_LENGTH),
 ];
 
 // Inline requests.
@@ -269,50 +207,17 @@ const QUOTES: [(&[u8], &[u8]); 26] = [
         b"-ERR unknown command 'X', with args beginning with: 'a' \r\n",
     ),
     (b"X \"a", b""),
-    (
-        b"X \"a\r\n",
-        b"-ERR Protocol error: unbalanced quotes in request\r\n",
-    ),
-    (
-        b"X 'a\r\n",
-        b"-ERR Protocol error: unbalanced quotes in request\r\n",
-    ),
-    (
-        b"X \"a\"b\r\n",
-        b"-ERR Protocol error: unbalanced quotes in request\r\n",
-    ),
-    (
-        b"X 'a'b\r\n",
-        b"-ERR Protocol error: unbalanced quotes in request\r\n",
-    ),
-    (
-        b"X \"a\"\"b\"\r\n",
-        b"-ERR Protocol error: unbalanced quotes in request\r\n",
-    ),
-    (
-        b"X \"a\"'b'\r\n",
-        b"-ERR Protocol error: unbalanced quotes in request\r\n",
-    ),
-    (
-        b"X \"a\\\"\r\n",
-        b"-ERR Protocol error: unbalanced quotes in request\r\n",
-    ),
-    (
-        b"X 'a\\'\r\n",
-        b"-ERR Protocol error: unbalanced quotes in request\r\n",
-    ),
-    (
-        b"X 'a\\\\'\r\n",
-        b"-ERR Protocol error: unbalanced quotes in request\r\n",
-    ),
-    (
-        b"X \"a\\\r\n",
-        b"-ERR Protocol error: unbalanced quotes in request\r\n",
-    ),
-    (
-        b"X a\"\r\n",
-        b"-ERR Protocol error: unbalanced quotes in request\r\n",
-    ),
+    (b"X \"a\r\n", OPEN_QUOTE),
+    (b"X 'a\r\n", OPEN_QUOTE),
+    (b"X \"a\"b\r\n", OPEN_QUOTE),
+    (b"X 'a'b\r\n", OPEN_QUOTE),
+    (b"X \"a\"\"b\"\r\n", OPEN_QUOTE),
+    (b"X \"a\"'b'\r\n", OPEN_QUOTE),
+    (b"X \"a\\\"\r\n", OPEN_QUOTE),
+    (b"X 'a\\'\r\n", OPEN_QUOTE),
+    (b"X 'a\\\\'\r\n", OPEN_QUOTE),
+    (b"X \"a\\\r\n", OPEN_QUOTE),
+    (b"X a\"\r\n", OPEN_QUOTE),
     (
         b"PING\r\nX \"a\r\nPING\r\n",
         b"+PONG\r\n-ERR Protocol error: unbalanced quotes in request\r\n",

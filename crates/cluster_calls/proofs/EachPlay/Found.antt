@@ -1,8 +1,6 @@
 -- GET a: n2 has none.
-use Rattle.std.proofs.Common.{◌≡◌, true, [], ◌∷◌, None, refl, arith, codes}
-use Rattle.std.proofs.lemmas.Bool.{false≢true}
+use Rattle.std.proofs.Common.{[], refl, codes, lit≤}
 use Rattle.std.specs.Fmt.{digits}
-use Rattle.resp_core.specs.Incoming.{SpelledInOrder}
 use Rattle.resp_core.specs.Parts.{first_error}
 use Rattle.resp_core.specs.Trees.{nil}
 use Rattle.resp_core.proofs.Computing.{reading}
@@ -11,84 +9,20 @@ use Rattle.cluster_routing.specs.HashSlot.{hash_slot}
 use Rattle.cluster_routing.specs.Routing.{destination}
 use Rattle.cluster_routing.specs.Split.{splitting_of}
 use Rattle.cluster_routing.specs.Table.{rule_of, table}
-use Rattle.cluster_calls.specs.Calls.Task.{task_of}
 use Rattle.cluster_calls.specs.Links.Events.{Runs}
-use Rattle.cluster_calls.specs.Links.Happened.{Happened, Answered, CallMade}
 use Rattle.cluster_calls.specs.Links.Request.{bytes_of}
-use Rattle.cluster_calls.specs.Links.Run.{with_log}
-use Rattle.cluster_calls.specs.Links.World.{World}
 use Rattle.cluster_calls.specs.WholeCalls.Base.{plain}
-use Rattle.cluster_calls.specs.WholeCalls.EachPlay.{to_n2, n1_1, n2_1, n2_2, one_lost, at_last, by_get}
+use Rattle.cluster_calls.specs.WholeCalls.EachPlay.{one_lost, at_last, by_get}
 use Rattle.cluster_calls.specs.WholeCalls.KeyRuns.{get_a}
 use Rattle.cluster_calls.specs.WholeCalls.MixedEach.{no_a_found, first_to_n2}
-use Rattle.cluster_calls.specs.WholeCalls.MixedPlay.{world}
-use Rattle.cluster_calls.proofs.LinkLaws.LinkCalls.{link_calls_made}
-use Rattle.cluster_calls.proofs.LinkLaws.Played.{played}
-use Rattle.cluster_calls.proofs.MixedPlay.LinksEnd.{answers_by_one_read}
-use Rattle.cluster_calls.proofs.MixedPlay.Spelled.{spells_one}
+use Rattle.cluster_calls.proofs.WholePlay.LinkCalled.{replied}
+use Rattle.cluster_calls.proofs.WholePlay.OneCall.{IsMade, made}
+use Rattle.cluster_calls.proofs.WholePlay.Spelled.{reads_one}
 
--- the client behind the call, before its log is moved out
-abbrev here : World
-here = with_log at_last no_a_found.log []
+runs : Runs one_lost.nodes at_last.nodes by_get
+unfolding reading digits
+runs = (at_last.nodes, replied one_lost.nodes at_last.nodes n2 (bytes_of first_to_n2) [] (codes "$-1\r\n") 1 (plain n2 get_a) [] nil [] refl refl (refl, tt) refl (reads_one _ _ refl (lit≤ tt, lit≤ tt, refl, refl, refl)), refl)
 
-from_n2 : SpelledInOrder 100 (codes "$-1\r\n") (nil ∷ [])
-unfolding reading
-from_n2 = spells_one _ _ refl
-
-runs : Runs one_lost.nodes here.nodes by_get
-unfolding digits
-runs = (
-  (world n1_1 n2_2 true).nodes,
-  record {
-    before = n2_1;
-    after = n2_2;
-    found = refl;
-    now = refl;
-    some = λ none. cc;
-    to_node = (refl, tt);
-    ends = answers_by_one_read (bytes_of first_to_n2) (bytes_of to_n2) (bytes_of (plain n2 get_a ∷ [])) (codes "$-1\r\n") ([]) (codes "$-1\r\n") 1
-        nil [] refl refl from_n2 (omega arith) (omega arith) (record { none = refl; all = refl; settled = refl });
-  },
-  refl,
-)
-
-happened : Happened None one_lost here no_a_found.call
+pub get_a_made : IsMade one_lost at_last no_a_found by_get
 unfolding destination rule_of table hash_slot splitting_of digits first_error
-happened = record {
-  events = by_get;
-  runs = runs;
-  stops = λ e. (λ lacks. refl, tt);
-  logged = refl;
-  calls = link_calls_made one_lost.nodes here.nodes by_get (task_of no_a_found.call) runs ((plain n2 get_a, refl), tt);
-  picks = λ some. refl;
-  begins = λ some place. record { later = []; legal = (refl, refl) };
-  settings = refl;
-  map_stays = λ no. refl;
-  flag = λ no. refl;
-}
-
-answer : Answered None one_lost here no_a_found.call by_get no_a_found.answer
-unfolding destination rule_of table hash_slot splitting_of digits first_error
-answer = record {
-  memory = λ e. refl;
-  logged = refl;
-  picks = refl;
-  legal = λ place. (refl, refl);
-  answered = λ faults agree place. refl;
-  entries = λ place. refl;
-  flag = λ place. refl;
-}
-
-pub get_a_made : (made : CallMade None one_lost here no_a_found.call no_a_found.answer) × (made.happened.events ≡ by_get)
-unfolding happened
-get_a_made = (
-  record {
-    happened = happened;
-    answered = λ had. answer;
-    played = λ told. played None one_lost here no_a_found.call no_a_found.answer happened answer told;
-    memory = λ lacks refreshes. absurd (false≢true refreshes);
-    unpicked = λ lacks none. refl;
-    room = λ lacks some. cc;
-  },
-  refl,
-)
+get_a_made = made one_lost at_last no_a_found by_get runs ((plain n2 get_a, refl), tt) (record { settings = refl; entries = refl; flag = refl; logged = refl; picks = refl; plain = refl; memory = refl }) (λ place. (refl, refl)) (λ e. cc) (λ faults agree place. refl)

@@ -1,11 +1,11 @@
 -- The pipeline GET b, SET a 1, SET d 1, DEL a b: n1's link ends before a reply, and n2 is asked all the same.
-use Rattle.std.proofs.Common.{◌≡◌, true, false, [], ◌∷◌, None, Ok, refl, arith, codes}
+use Rattle.std.proofs.Common.{false, [], ◌∷◌, None, Ok, refl, codes, lit≤}
 use Rattle.std.specs.Fmt.{digits}
 use Rattle.resp_core.specs.Errors.{server_kind}
-use Rattle.resp_core.specs.Incoming.{SpelledInOrder}
 use Rattle.resp_core.specs.Parts.{first_error}
 use Rattle.resp_core.specs.Trees.{okay, server_error}
 use Rattle.resp_core.proofs.Computing.{reading}
+use Rattle.cluster_routing.specs.Examples.{first_node as n1, second_node as n2}
 use Rattle.cluster_routing.specs.HashSlot.{hash_slot}
 use Rattle.cluster_routing.specs.Routing.{destination}
 use Rattle.cluster_routing.specs.Split.{splitting_of}
@@ -15,54 +15,30 @@ use Rattle.cluster_calls.specs.Calls.InParts.{in_parts, splits_in}
 use Rattle.cluster_calls.specs.Calls.Task.{positions_of}
 use Rattle.cluster_calls.specs.Links.EachMade.{EachAnswered, EachHappened, EachMade}
 use Rattle.cluster_calls.specs.Links.Events.{Runs}
-use Rattle.cluster_calls.specs.Links.Happened.{CallMade}
-use Rattle.cluster_calls.specs.Links.Request.{bytes_of}
 use Rattle.cluster_calls.specs.Links.Run.{with_log}
 use Rattle.cluster_calls.specs.Links.World.{World}
-use Rattle.cluster_calls.specs.WholeCalls.Base.{one}
-use Rattle.cluster_calls.specs.WholeCalls.EachPlay.{n1_0, n1_1, n2_0, n2_1, at_first, one_lost, by_each, each_dispatches}
-use Rattle.cluster_calls.specs.WholeCalls.MixedEach.{moved_d, each_entries, each_outcomes, each_told, to_n1, first_to_n2}
+use Rattle.cluster_calls.specs.WholeCalls.Base.{plain, one}
+use Rattle.cluster_calls.specs.WholeCalls.EachPlay.{n1_1, n2_0, at_first, one_lost, by_each, each_dispatches}
+use Rattle.cluster_calls.specs.WholeCalls.EachSplits.{del_a, del_b}
+use Rattle.cluster_calls.specs.WholeCalls.KeyRuns.{get_b, set_a}
+use Rattle.cluster_calls.specs.WholeCalls.MixedEach.{moved_d, set_d, each_entries, each_outcomes, each_told}
 use Rattle.cluster_calls.specs.WholeCalls.MixedPlay.{world}
 use Rattle.cluster_calls.proofs.LinkLaws.EachCall.{each_made, each_events}
 use Rattle.cluster_calls.proofs.LinkLaws.LinkCalls.{link_calls_made}
-use Rattle.cluster_calls.proofs.MixedPlay.LinksEnd.{answers_by_one_read, fails_by_no_bytes}
-use Rattle.cluster_calls.proofs.MixedPlay.Spelled.{spells_three}
+use Rattle.cluster_calls.proofs.WholePlay.LinkCalled.{lost, replied}
+use Rattle.cluster_calls.proofs.WholePlay.OneCall.{IsMade}
+use Rattle.cluster_calls.proofs.WholePlay.Spelled.{reads_three}
 
 -- the client behind the call, before its log is moved out
 abbrev here : World
 here = with_log one_lost each_told.log []
 
-from_n2 : SpelledInOrder 100 (codes "+OK\r\n-MOVED 11298 n1:7001\r\n:1\r\n") (okay ∷ server_error moved_d ∷ one ∷ [])
-unfolding reading
-from_n2 = spells_three _ _ _ _ _ _ refl refl refl
-
 runs : Runs at_first.nodes here.nodes by_each
-unfolding digits
+unfolding reading digits
 runs = (
   (world n1_1 n2_0 false).nodes,
-  record {
-    before = n1_0;
-    after = n1_1;
-    found = refl;
-    now = refl;
-    some = λ none. cc;
-    to_node = (refl, (refl, tt));
-    ends = fails_by_no_bytes [] (bytes_of to_n1) (bytes_of to_n1) 0 2 refl (omega arith);
-  },
-  (
-    (world n1_1 n2_1 true).nodes,
-    record {
-      before = n2_0;
-      after = n2_1;
-      found = refl;
-      now = refl;
-      some = λ none. cc;
-      to_node = (refl, (refl, (refl, tt)));
-      ends = answers_by_one_read [] (bytes_of first_to_n2) (bytes_of first_to_n2) (codes "+OK\r\n-MOVED 11298 n1:7001\r\n:1\r\n$-1\r\n") (codes "$-1\r\n") (codes "+OK\r\n-MOVED 11298 n1:7001\r\n:1\r\n") 0
-          okay (server_error moved_d ∷ one ∷ []) refl refl from_n2 (omega arith) (omega arith) (record { none = refl; all = refl; settled = refl });
-    },
-    refl,
-  ),
+  lost at_first.nodes (world n1_1 n2_0 false).nodes n1 [] 0 (plain n1 get_b) (plain n1 del_b ∷ []) refl refl (refl, (refl, tt)),
+  (here.nodes, replied (world n1_1 n2_0 false).nodes here.nodes n2 [] (codes "$-1\r\n") (codes "+OK\r\n-MOVED 11298 n1:7001\r\n:1\r\n") 0 (plain n2 set_a) (plain n2 set_d ∷ plain n2 del_a ∷ []) okay (server_error moved_d ∷ one ∷ []) refl refl (refl, (refl, (refl, tt))) refl (reads_three _ _ _ _ _ _ refl refl refl (lit≤ tt, lit≤ tt, refl, refl, refl)), refl),
 )
 
 happened : EachHappened at_first here
@@ -92,6 +68,6 @@ made : EachMade None at_first here each_entries (Ok each_outcomes)
 unfolding happened
 made = record { happened = happened; told = answer }
 
-pub each_is_made : (made : CallMade None at_first here each_told.call each_told.answer) × (made.happened.events ≡ by_each)
+pub each_is_made : IsMade at_first one_lost each_told by_each
 unfolding happened made
 each_is_made = (each_made None at_first here each_entries (Ok each_outcomes) made, each_events None at_first here each_entries (Ok each_outcomes) made)

@@ -16,7 +16,7 @@ use Rattle.cluster_calls.specs.Links.Faults.{LinkFault, refusal_by_fault}
 use Rattle.cluster_calls.specs.Links.Log.{Exchange, is_moved, is_moved_reply}
 use Rattle.cluster_calls.specs.Links.Places.{IsOpenAt}
 use Rattle.cluster_calls.specs.Links.Request.{Request, bytes_of, skipped, exec}
-use Rattle.cluster_calls.specs.Links.World.{Node, Called, Calls, link_at, is_usable, open_links}
+use Rattle.cluster_calls.specs.Links.World.{Node, Called, CallsLink, link_at, is_usable, open_links}
 use Rattle.cluster_calls.proofs.LinkLaws.EndLaws.{answered_pairs, ends_pairs, ends_usable, ends_was_open}
 use Rattle.cluster_calls.proofs.LinkLaws.LinkEnds.{ending_of, ending_refusal, ended_refusal, had_memory_by, refusal_agrees, link_called_at}
 use Rattle.cluster_calls.proofs.LinkLaws.LinkPlaces.{found, linked, set_open}
@@ -140,22 +140,22 @@ told_by : (old new : Seen) (hop : Hop) (commands : List (List (List ℕ))) (resu
 told_by old new hop commands (Ok trees) open' called = called.takes.taken_count
 told_by old new hop commands (Err e) open' called = ended_refusal old new (attempt hop commands) (skipped hop.asking) (size commands) e (whole_count hop commands) open' called
 
-pub attempt_made : (old new : List Node) (which : ℕ) (hop : Hop) (commands : List (List (List ℕ))) (result : Result (List Tree) Refusal) → IsOpenAt old hop.node which
-    → Calls old new which (λ before after. Called before after (bytes_of (attempt hop commands)) (skipped hop.asking) (size commands) result) → AttemptMade old new hop commands result
-attempt_made old new which hop commands result at calls =
-    let s = link_called_at old new hop.node which (attempt hop commands) (skipped hop.asking) (size commands) result at (some_attempt hop commands) (attempt_to hop commands) (whole_count hop commands) calls in
-    let f = found old hop.node which at.place in
+pub attempt_made : (old new : List Node) (index : ℕ) (hop : Hop) (commands : List (List (List ℕ))) (result : Result (List Tree) Refusal) → IsOpenAt old hop.node index
+    → CallsLink old new index (λ before after. Called before after (bytes_of (attempt hop commands)) (skipped hop.asking) (size commands) result) → AttemptMade old new hop commands result
+attempt_made old new index hop commands result at calls =
+    let s = link_called_at old new hop.node index (attempt hop commands) (skipped hop.asking) (size commands) result at (some_attempt hop commands) (attempt_to hop commands) (whole_count hop commands) calls in
+    let f = found old hop.node index at.place in
     let same : f.node ≡ calls.before = let a = f.at in let b = calls.found in cc in
     let there : link_at old hop.node ≡ Some calls.before.link = f.link ∙ ap (λ (n : Node). Some n.link) same in
     let open' : calls.before.link.usable ≡ true = sym (ap is_usable there) ∙ sym (linked old hop.node) ∙ at.linked in
     record { taken = s.0; called = s.1; told = told_by calls.before.link calls.after.link hop commands result open' calls.call }
 
 -- nothing was done for want of memory, or the requests stand in the log and the link call was made
-pub attempt_exchanged : (old new : List Node) (which : ℕ) (before after : List Request) (hop : Hop) (commands : List (List (List ℕ))) (result : Result (List Tree) Refusal) → IsOpenAt old hop.node which
-    → Exchanges old new which before after (attempt hop commands) (skipped hop.asking) (size commands) result
+pub attempt_exchanged : (old new : List Node) (link : ℕ) (before after : List Request) (hop : Hop) (commands : List (List (List ℕ))) (result : Result (List Tree) Refusal) → IsOpenAt old hop.node link
+    → Exchanges old new link before after (attempt hop commands) (skipped hop.asking) (size commands) result
     → ((new ≡ old) × (after ≡ before) × (result ≡ Err (by_cause Memory))) ⊎ ((after ≡ before ++ attempt hop commands) × AttemptMade old new hop commands result)
-attempt_exchanged old new which before after hop commands result at (not_begun same log is) = inl (same, log, is)
-attempt_exchanged old new which before after hop commands result at (made log calls) = inr (log, attempt_made old new which hop commands result at calls)
+attempt_exchanged old new link before after hop commands result at (not_begun same log is) = inl (same, log, is)
+attempt_exchanged old new link before after hop commands result at (made log calls) = inr (log, attempt_made old new link hop commands result at calls)
 
 -- ---- its replies
 

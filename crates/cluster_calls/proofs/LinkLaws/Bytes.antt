@@ -21,9 +21,9 @@ Appends-append (Some a) None c xs ys p q = absurd p
 Appends-append (Some a) (Some b) None xs ys p q = absurd q
 Appends-append (Some a) (Some b) (Some c) xs ys p q = q ∙ ap (λ s. s ++ ys) p ∙ append_assoc a xs ys
 
-Consumes-held : (left left' : Option (List ℕ)) (held held' got bytes : List ℕ) → Consumes left left' got → held ++ got ≡ bytes ++ held'
-    → Consumes (prepend_known held left) (prepend_known held' left') bytes
-Consumes-held None left' held held' got bytes c j = tt
+Consumes-held : (unread unread' : Option (List ℕ)) (held held' got bytes : List ℕ) → Consumes unread unread' got → held ++ got ≡ bytes ++ held'
+    → Consumes (prepend_known held unread) (prepend_known held' unread') bytes
+Consumes-held None unread' held held' got bytes c j = tt
 Consumes-held (Some xs) None held held' got bytes c j = absurd c
 Consumes-held (Some xs) (Some ys) held held' got bytes c j =
     ap (λ s. held ++ s) c ∙ sym (append_assoc held got ys) ∙ ap (λ s. s ++ ys) j ∙ append_assoc bytes held' ys
@@ -44,7 +44,7 @@ SpelledInOrder-append limit xs ys (v ∷ vs) ws p q =
     (p.0, p.1 ++ ys, ap (λ s. s ++ ys) p.2 ∙ append_assoc p.0 p.1 ys, p.3, SpelledInOrder-append limit p.1 ys vs ws p.4 q)
 
 -- nothing was taken, and what was held is unread
-pub Came-none : (a b : Seen) → b.left ≡ a.left → b.pushes ≡ a.pushes → b.limit ≡ a.limit → (b.usable ≡ true → a.held ≡ b.held) → SamePromises a b → Came a b []
+pub Came-none : (a b : Seen) → b.unread ≡ a.unread → b.pushes ≡ a.pushes → b.limit ≡ a.limit → (b.usable ≡ true → a.held ≡ b.held) → SamePromises a b → Came a b []
 Came-none a b l p m k same = record {
   bytes = [];
   unread = a.held;
@@ -57,16 +57,16 @@ Came-none a b l p m k same = record {
 }
 
 -- a reading of a link, whatever is unread behind it
-pub came : (a b : Seen) (r r' : Reading) (values : List Tree) → Takes r r' values → r.left ≡ a.left → r.held ≡ a.held → r.limit ≡ a.limit → b.limit ≡ a.limit → r'.left ≡ b.left
+pub came : (a b : Seen) (r r' : Reading) (values : List Tree) → Takes r r' values → r.unread ≡ a.unread → r.held ≡ a.held → r.limit ≡ a.limit → b.limit ≡ a.limit → r'.unread ≡ b.unread
     → (b.usable ≡ true → r'.held ≡ b.held) → b.pushes ≡ a.pushes ++ filter is_push values → SamePromises a b → Came a b values
 came a b r r' values t l h m m' l' k p same = record {
   bytes = t.bytes;
   unread = r'.held;
   spells = subst (λ n. SpelledInOrder n t.bytes values) m t.spells;
   consumed =
-      let c = Consumes-held r.left r'.left r.held r'.held t.got t.bytes t.consumed t.joins in
-      let e1 : prepend_known r.held r.left ≡ coming a = cc in
-      subst (λ left. Consumes (coming a) (prepend_known r'.held left) t.bytes) l' (subst (λ k. Consumes k (prepend_known r'.held r'.left) t.bytes) e1 c);
+      let c = Consumes-held r.unread r'.unread r.held r'.held t.got t.bytes t.consumed t.joins in
+      let e1 : prepend_known r.held r.unread ≡ coming a = cc in
+      subst (λ left. Consumes (coming a) (prepend_known r'.held left) t.bytes) l' (subst (λ k. Consumes k (prepend_known r'.held r'.unread) t.bytes) e1 c);
   kept = k;
   set_aside = p;
   promises = same;
@@ -79,8 +79,8 @@ Came-append a b c vs ws u p q = record {
   unread = q.unread;
   spells = SpelledInOrder-append a.limit p.bytes q.bytes vs ws p.spells (subst (λ n. SpelledInOrder n q.bytes ws) p.same_limit q.spells);
   consumed =
-      let first : Consumes (coming a) (coming b) p.bytes = subst (λ held. Consumes (coming a) (prepend_known held b.left) p.bytes) (p.kept u) p.consumed in
-      Consumes-append (coming a) (coming b) (prepend_known q.unread c.left) p.bytes q.bytes first q.consumed;
+      let first : Consumes (coming a) (coming b) p.bytes = subst (λ held. Consumes (coming a) (prepend_known held b.unread) p.bytes) (p.kept u) p.consumed in
+      Consumes-append (coming a) (coming b) (prepend_known q.unread c.unread) p.bytes q.bytes first q.consumed;
   kept = q.kept;
   set_aside = rw filter-append (q.set_aside ∙ ap (λ x. x ++ filter is_push ws) p.set_aside ∙ append_assoc a.pushes (filter is_push vs) (filter is_push ws));
   promises = (q.promises.0 ∙ p.promises.0, q.promises.1 ∙ p.promises.1);

@@ -1,7 +1,7 @@
 -- Outcomes that are told by what link calls were refused are told by each node's fault; and no node has two link calls.
 use Rattle.std.specs.Prelude.{◌||◌}
 use Rattle.std.specs.List.{list_any}
-use Rattle.std.proofs.Common.{◌≡◌, ◌≢◌, ◌≤◌, ℕ, ◌+◌, Bool, true, false, cond, List, [], ◌∷◌, map, length, Ok, Err, refl, sym, ap, ◌∙◌, subst, arith}
+use Rattle.std.proofs.Common.{◌≡◌, ◌≤◌, ℕ, ◌+◌, Bool, true, false, cond, List, [], ◌∷◌, map, length, Ok, Err, refl, sym, ap, ◌∙◌, subst, arith}
 use Rattle.std.proofs.lemmas.Bool.{false≢true}
 use Rattle.resp_core.specs.Errors.{Refusal}
 use Rattle.resp_link.specs.Replies.{replies_of}
@@ -10,7 +10,7 @@ use Rattle.cluster_routing.specs.Lists.{concat, IsDistinct}
 use Rattle.cluster_calls.specs.Links.EachMade.{refusal_by, refusals_of}
 use Rattle.cluster_calls.specs.Links.Events.{Event, Ending, answers, fails, EndsBy, LinkCalled, Runs, log_of, calls_of, exchanges_at, exchanges_of, Agrees, AgreesAt}
 use Rattle.cluster_calls.specs.Links.Faults.{LinkFault, refusal_by_fault}
-use Rattle.cluster_calls.specs.Links.Log.{Exchange, requests, has_lost}
+use Rattle.cluster_calls.specs.Links.Log.{Exchange, has_lost}
 use Rattle.cluster_calls.specs.Links.Nodes.{in_one}
 use Rattle.cluster_calls.specs.Links.Request.{Request, requests_to}
 use Rattle.cluster_calls.specs.Links.World.{Node}

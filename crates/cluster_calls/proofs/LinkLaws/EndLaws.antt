@@ -32,7 +32,7 @@ answered_came old new bytes count taken replies a =
 read_came : (old new : Seen) (bytes : List ℕ) (count : ℕ) (refusal : Refusal) → (r : ReadFails old new bytes count refusal) → Came old new r.lacks.ends.trees
 read_came old new bytes count refusal r =
     let shut : new.usable ≡ false = r.closed in
-    let does : Takes (at_start old) (record { left = new.left; held = r.lacks.held; counts = new.counts; allowed = r.lacks.allowed; limit = old.limit }) r.lacks.ends.trees → Came old new r.lacks.ends.trees =
+    let does : Takes (at_start old) (record { unread = new.unread; held = r.lacks.held; counts = new.counts; allowed = r.lacks.allowed; limit = old.limit }) r.lacks.ends.trees → Came old new r.lacks.ends.trees =
     λ t. came old new _ _ r.lacks.ends.trees t refl refl refl r.limit refl (λ o. absurd (false≢true (sym shut ∙ o))) r.lacks.ends.set_aside (t.promise, r.sent.sound.promise) in
     elim r.lacks.ends.ends as (λ _. Came old new r.lacks.ends.trees) [
       | inl s ↦ does s.0.takes
@@ -42,7 +42,7 @@ read_came old new bytes count refusal r =
 pub failed_came : (old new : Seen) (bytes : List ℕ) (count : ℕ) (taken : List Tree) (refusal : Refusal) → FailsFrom old new bytes count taken refusal → Came old new taken
 failed_came old new bytes count taken refusal (in_sending s is nothing) =
     subst (λ ts. Came old new ts) (sym nothing)
-    (Came-none old new s.left s.pushes s.limit (λ o. absurd (false≢true (sym s.closed ∙ o))) (ap (λ (c : Counts). c.promise) s.counts, s.sent.counted.promise))
+    (Came-none old new s.unread s.pushes s.limit (λ o. absurd (false≢true (sym s.closed ∙ o))) (ap (λ (c : Counts). c.promise) s.counts, s.sent.counted.promise))
 failed_came old new bytes count taken refusal (in_receiving r values) = subst (λ ts. Came old new ts) values (read_came old new bytes count refusal r)
 
 pub ends_came : (old new : Seen) (qs : List Request) (taken : List Tree) (e : Ending) → EndsBy old new qs taken e → Came old new taken

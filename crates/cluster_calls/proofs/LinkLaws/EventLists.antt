@@ -1,8 +1,8 @@
 -- What link calls add up to, those of one run and then those of another.
 use Rattle.std.specs.Prelude.{drop, ◌||◌}
-use Rattle.std.specs.List.{list_any}
 use Rattle.std.proofs.Common.{◌≡◌, ℕ, suc, ◌+◌, Bool, true, false, cond, List, [], ◌∷◌, ◌++◌, length, refl, sym, ap, ◌∙◌, subst, append_assoc, append-nil, length-append, arith}
 use Rattle.std.proofs.lemmas.Bool.{false≢true}
+use Rattle.std.proofs.lemmas.List.Folds.{list_any-append}
 use Rattle.std.proofs.lemmas.List.{map-append}
 use Rattle.resp_core.specs.Trees.{Tree}
 use Rattle.resp_link.specs.Replies.{replies_of}
@@ -49,22 +49,14 @@ exchanges-append (x ∷ xs) ys place =
     ap (λ es. exchanges_at place x ++ es) (exchanges-append xs ys (place + length x.requests) ∙ ap (λ n. exchanges_of (place + length x.requests) xs ++ exchanges_of n ys) p)
     ∙ sym (append_assoc (exchanges_at place x) (exchanges_of (place + length x.requests) xs) (exchanges_of (place + length (x.requests ++ log_of xs)) ys))
 
-any_by : (b c d e : Bool) → c ≡ (d || e) → (b || c) ≡ ((b || d) || e)
-any_by true c d e h = refl
-any_by false c d e h = h
-
-any-append : (p : Event → Bool) (xs ys : List Event) → list_any p (xs ++ ys) ≡ (list_any p xs || list_any p ys)
-any-append p [] ys = refl
-any-append p (x ∷ xs) ys = any_by (p x) (list_any p (xs ++ ys)) (list_any p xs) (list_any p ys) (any-append p xs ys)
-
 pub memory_both : (xs ys : List Event) → lack_memory (xs ++ ys) ≡ (lack_memory xs || lack_memory ys)
-memory_both xs ys = any-append (λ (x : Event). is_memory_ending x.ending) xs ys
+memory_both xs ys = list_any-append (λ (x : Event). is_memory_ending x.ending) xs ys
 
 pub memory-append : (xs ys : List Event) → lack_memory xs ≡ false → lack_memory ys ≡ false → lack_memory (xs ++ ys) ≡ false
 memory-append xs ys m n = memory_both xs ys ∙ ap (λ b. b || lack_memory ys) m ∙ n
 
 pub moved-append : (xs ys : List Event) → answered_moved (xs ++ ys) ≡ (answered_moved xs || answered_moved ys)
-moved-append xs ys = any-append _ xs ys
+moved-append xs ys = list_any-append _ xs ys
 
 -- ---- the log
 

@@ -53,8 +53,8 @@ lacks_behind links xs ys f (inr (inr a)) = inr (inr (f a))
 
 -- ---- redirects
 
-pub going_reply : (links : List Address) (left : ℕ) (reply : Option Tree) (n : Next) → next_of links left reply ≡ n → is_going n ≡ true → is_going (reply_next links reply) ≡ true
-going_reply links left reply n e g = by (left == 0) (ap is_going e ∙ g)
+pub going_reply : (links : List Address) (redirects : ℕ) (reply : Option Tree) (n : Next) → next_of links redirects reply ≡ n → is_going n ≡ true → is_going (reply_next links reply) ≡ true
+going_reply links redirects reply n e g = by (redirects == 0) (ap is_going e ∙ g)
   where
     by : (b : Bool) → is_going (cond b Stays (reply_next links reply)) ≡ true → is_going (reply_next links reply) ≡ true
     by true k = absurd (false≢true k)
@@ -85,11 +85,11 @@ module _ (links : List Address) where
   either_going rs true e k = exec_going rs e
   either_going rs false e k = k
 
-  attempt_going : (left : ℕ) (rs : List (Option Tree)) (f : Fate) → is_going (if_not_done f (next_of links left (redirect_in rs))) ≡ true → list_any Goes_on rs ≡ true
-  attempt_going left rs done e = absurd (false≢true e)
-  attempt_going left rs may_be_done e = absurd (false≢true e)
-  attempt_going left rs not_done e =
-      let first = going_reply links left (redirect_in rs) (next_of links left (redirect_in rs)) refl e in
+  attempt_going : (redirects : ℕ) (rs : List (Option Tree)) (f : Fate) → is_going (if_not_done f (next_of links redirects (redirect_in rs))) ≡ true → list_any Goes_on rs ≡ true
+  attempt_going redirects rs done e = absurd (false≢true e)
+  attempt_going redirects rs may_be_done e = absurd (false≢true e)
+  attempt_going redirects rs not_done e =
+      let first = going_reply links redirects (redirect_in rs) (next_of links redirects (redirect_in rs)) refl e in
       either_going rs (Goes_on (exec_reply rs)) refl (first_going (exec_reply rs ∷ rs) first)
 
   replies_going : (xs : List Exchange) → list_any (λ (x : Exchange). Goes_on x.reply) xs ≡ list_any Goes_on (replies_in xs)
@@ -97,8 +97,8 @@ module _ (links : List Address) where
   replies_going (x ∷ xs) = ap (λ b. Goes_on x.reply || b) (replies_going xs)
 
   -- an attempt that goes on has a reply that sends it on
-  pub attempt_redirected : (left : ℕ) (xs : List Exchange) (rs : List (Option Tree)) (next : Next) → replies_in xs ≡ rs → next_attempt links left rs ≡ next → is_going next ≡ true → list_any (λ (x : Exchange). is_going (reply_next links x.reply)) xs ≡ true
-  attempt_redirected left xs rs next are is g = replies_going xs ∙ ap (list_any Goes_on) are ∙ attempt_going left rs (fate rs) (ap is_going is ∙ g)
+  pub attempt_redirected : (redirects : ℕ) (xs : List Exchange) (rs : List (Option Tree)) (next : Next) → replies_in xs ≡ rs → next_attempt links redirects rs ≡ next → is_going next ≡ true → list_any (λ (x : Exchange). is_going (reply_next links x.reply)) xs ≡ true
+  attempt_redirected redirects xs rs next are is g = replies_going xs ∙ ap (list_any Goes_on) are ∙ attempt_going redirects rs (fate rs) (ap is_going is ∙ g)
 
 -- ---- answers and logs
 

@@ -8,7 +8,7 @@ use Rattle.resp_core.specs.declared.errors.redis_error.Cause.TheVariants.{Io, Pa
 use Rattle.resp_link.specs.Call.{Seen, Answers, Fails, closed, sending, receiving}
 use Rattle.cluster_routing.specs.Address.{Address}
 use Rattle.cluster_calls.specs.Links.Request.{Request, bytes_of}
-use Rattle.cluster_calls.specs.Links.World.{Node, link_at, is_usable, Called, Calls}
+use Rattle.cluster_calls.specs.Links.World.{Node, link_at, is_usable, Called, CallsLink}
 use Rattle.cluster_calls.specs.Links.Places.{IsOpenAt}
 use Rattle.cluster_calls.specs.Links.Faults.{LinkFault, io, grammar, no_memory, refusal_by_fault}
 use Rattle.cluster_calls.specs.Links.Events.{Ending, answers, fails, AnswersFrom, FailsFrom, in_sending, in_receiving, EndsBy, reply_count, AllTo, LinkCalled, AgreesAt, is_memory_ending}
@@ -90,10 +90,10 @@ refusal_agrees faults node (fails fault) refusal is agrees =
 
 -- ---- a call at an open place, among the nodes
 
-pub link_called_at : (old new : List Node) (node : Address) (which : ℕ) (qs : List Request) (offset size : ℕ) (result : Result (List Tree) Refusal) → IsOpenAt old node which → qs ≢ [] → AllTo node qs → offset + size ≡ reply_count qs
-    → Calls old new which (λ before after. Called before after (bytes_of qs) offset size result) → (taken : List Tree) × LinkCalled old new (record { node = node; requests = qs; taken = taken; ending = ending_of result })
-link_called_at old new node which qs offset size result at some to_node whole calls =
-    let f = found old node which at.place in
+pub link_called_at : (old new : List Node) (node : Address) (index : ℕ) (qs : List Request) (offset size : ℕ) (result : Result (List Tree) Refusal) → IsOpenAt old node index → qs ≢ [] → AllTo node qs → offset + size ≡ reply_count qs
+    → CallsLink old new index (λ before after. Called before after (bytes_of qs) offset size result) → (taken : List Tree) × LinkCalled old new (record { node = node; requests = qs; taken = taken; ending = ending_of result })
+link_called_at old new node index qs offset size result at some to_node whole calls =
+    let f = found old node index at.place in
     let same : f.node ≡ calls.before = let a = f.at in let b = calls.found in cc in
     let there : link_at old node ≡ Some calls.before.link = f.link ∙ ap (λ (n : Node). Some n.link) same in
     let open' : calls.before.link.usable ≡ true = sym (ap is_usable there) ∙ sym (linked old node) ∙ at.linked in
@@ -103,7 +103,7 @@ link_called_at old new node which qs offset size result at some to_node whole ca
         before = calls.before.link;
         after = calls.after.link;
         found = there;
-        now = calls.others ∙ ap (λ k. slice_set old which (record { address = k; link = calls.after.link })) (calls.address ∙ ap (λ (n : Node). n.address) (sym same)) ∙ sym (f.set calls.after.link);
+        now = calls.others ∙ ap (λ k. slice_set old index (record { address = k; link = calls.after.link })) (calls.address ∙ ap (λ (n : Node). n.address) (sym same)) ∙ sym (f.set calls.after.link);
         some = some;
         to_node = to_node;
         ends = e.1;

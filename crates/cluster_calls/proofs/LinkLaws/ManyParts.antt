@@ -1,6 +1,6 @@
 -- A call of one command, from the run of its parts and the reply that is made of theirs.
 use Rattle.std.specs.Prelude.{filter}
-use Rattle.std.proofs.Common.{◌≡◌, ◌≢◌, ℕ, false, List, [], ◌∷◌, ◌++◌, map, length, inr, Option, Some, None, option_and_then, refl, sym, ap, ◌∙◌, subst, Result, Ok, Err}
+use Rattle.std.proofs.Common.{◌≡◌, ◌≢◌, ℕ, false, List, [], ◌∷◌, map, length, Option, Some, None, option_and_then, refl, sym, ap, ◌∙◌, subst, Result, Ok, Err}
 use Rattle.std.proofs.lemmas.List.{length-map}
 use Rattle.resp_core.specs.Trees.{Tree, nil}
 use Rattle.resp_core.specs.Errors.{Refusal, by_cause}
@@ -14,9 +14,9 @@ use Rattle.cluster_routing.specs.Policies.{or_bad_reply}
 use Rattle.cluster_calls.specs.Links.Log.{Exchange, is_answered, behind_answers}
 use Rattle.cluster_calls.specs.Links.World.{World}
 use Rattle.cluster_calls.specs.Links.Faults.{LinkFault}
-use Rattle.cluster_calls.specs.Links.Events.{exchanges_of, faults_of}
+use Rattle.cluster_calls.specs.Links.Events.{faults_of}
 use Rattle.cluster_calls.specs.Links.Happened.{client_of, is_refresh, Answered, Happened}
-use Rattle.cluster_calls.specs.Links.Lacking.{MayLack, follows_redirects}
+use Rattle.cluster_calls.specs.Links.Lacking.{MayLack}
 use Rattle.cluster_calls.specs.Links.Run.{with_log}
 use Rattle.cluster_calls.specs.Links.Converted.{value_answer}
 use Rattle.cluster_calls.specs.Links.PartRuns.{ArePartResults, PartsMade, replies_with_slots, IsMadeOfParts}
@@ -25,15 +25,12 @@ use Rattle.cluster_calls.specs.Calls.Task.{one_command, task_of}
 use Rattle.cluster_calls.specs.Calls.Parts.{unless}
 use Rattle.cluster_calls.specs.Calls.Plan.{Client, Dispatch, plan}
 use Rattle.cluster_calls.specs.Calls.Picks.{ArePicks}
-use Rattle.cluster_calls.specs.Calls.Legal.{PartByPart, IsLegalCall}
 use Rattle.cluster_calls.specs.Calls.Replies.{exchange_slot, reply_or_nil, part_replies, reply_of_parts}
 use Rattle.cluster_calls.specs.Calls.Refusals.{part_refusal}
 use Rattle.cluster_calls.specs.Calls.Answer.{Value, answer_in}
 use Rattle.cluster_calls.proofs.LinkLaws.FaultsAgree.{agrees}
-use Rattle.cluster_calls.proofs.LinkLaws.LackingLists.{may_lack, some_events}
-use Rattle.cluster_calls.proofs.LinkLaws.LinkCalls.{AreLinkCalls, link_calls_made}
-use Rattle.cluster_calls.proofs.LinkLaws.PlainAnswers.{by_task, plain_answer}
-use Rattle.cluster_calls.proofs.LinkLaws.MovedLaws.{answered_plain}
+use Rattle.cluster_calls.proofs.LinkLaws.PlainAnswers.{by_task}
+use Rattle.cluster_calls.proofs.LinkLaws.PartedCalls.{parts_answered, parts_happened, parts_room, plans}
 
 -- ---- the parts' replies
 
@@ -93,49 +90,18 @@ module _ (strategy : Option Strategy) (old new : World) (call : Call) (command :
     (value : (tree : Tree) → answer_in call tree ≡ Some (Value tree)) (plain : is_refresh call ≡ false) (ds : List Dispatch) (picks : List Address) (result : Result (List Tree) Refusal) (reply : Result Tree Refusal)
     (planned : plan (client_of old) picks call ≡ Ok ds) (picked : ArePicks strategy (client_of old) call picks)
     (m : PartsMade (with_log old [] picks) new ds result) (made : IsMadeOfParts (sent command) ds result reply) where
-  plans : plan (client_of old) new.picked call ≡ Ok ds
-  plans = subst (λ ps. plan (client_of old) ps call ≡ Ok ds) (sym m.picked) planned
-
-  pub are : ArePicks strategy (client_of old) call new.picked
-  are = subst (λ ps. ArePicks strategy (client_of old) call ps) (sym m.picked) picked
-
-  pub legal : (xs : List Exchange) → PartByPart (client_of old) ds xs → IsLegalCall (client_of old) new.picked call xs
-  legal xs parts = rw (plans, task) parts
-
-  pub singles : AreLinkCalls (task_of call) m.events
-  singles = subst (λ t. AreLinkCalls t m.events) (sym task) m.single
-
   abbrev pub happened : Happened strategy old new call
-  happened = record {
-    events = m.events;
-    runs = m.runs;
-    stops = λ e. m.stops;
-    logged = m.logged;
-    calls = λ node. link_calls_made old.nodes new.nodes m.events (task_of call) m.runs singles node;
-    picks = λ some. are;
-    begins = λ some place. record { later = (m.begins place).0; legal = legal (exchanges_of place m.events ++ (m.begins place).0) (m.begins place).1 };
-    settings = m.settings;
-    map_stays = λ n. m.entries;
-    flag = λ n. m.flag;
-  }
+  happened = parts_happened strategy old new call (one_command command number order) task ds picks result planned picked m (λ xs parts. parts) m.single
 
   -- what is answered, unless memory was refused
   pub many_answered : value_answer reply ≢ Err (by_cause Memory) → Answered strategy old new call m.events (value_answer reply)
   many_answered had =
       let there : reply ≢ Err (by_cause Memory) = λ e. had (ap value_answer e) in
-      let a = m.answered (parts_had (sent command) ds result reply made there) in
-      answered_plain strategy old new call (value_answer reply) happened plain singles (λ e. a.memory) m.logged are
-      (λ place. legal (exchanges_of place m.events) (a.parts place))
-      (λ faults agrees place.
-      plain_answer (client_of old) new.picked faults call (exchanges_of place m.events) (value_answer reply) (by_task call (one_command command number order) task refl)
-      (rw (plans, task) (told call value (sent command) (client_of old) faults ds (exchanges_of place m.events) result reply (a.tells faults agrees place) made there)))
+      parts_answered strategy old new call (one_command command number order) task ds picks result planned picked m (λ xs parts. parts) m.single (value_answer reply) plain (by_task call (one_command command number order) task refl) (parts_had (sent command) ds result reply made there)
+      (λ faults xs are. rw (plans strategy old new call (one_command command number order) task ds picks result planned picked m (λ xs parts. parts) m.single, task) (told call value (sent command) (client_of old) faults ds xs result reply are made there))
 
   -- where memory lacked behind the first byte
   pub many_room : value_answer reply ≡ Err (by_cause Memory) → new.log ≢ [] → MayLack (client_of old) new.picked call m.events
-  many_room lacks some = by result refl made
-    where
-      by : (r : Result (List Tree) Refusal) → result ≡ r → IsMadeOfParts (sent command) ds r reply → MayLack (client_of old) new.picked call m.events
-      by (Ok trees) is all = inr (inr (λ place. legal (exchanges_of place m.events) ((m.answered (λ k. cc)).parts place)))
-      by (Err refusal) is one =
-          let same : refusal ≡ by_cause Memory = let told = sym (ap value_answer one) ∙ lacks in cc in
-          may_lack (client_of old) new.picked call m.events (ap follows_redirects task) (λ parts place. legal (exchanges_of place m.events) (parts place)) (m.room (is ∙ ap (λ k. Err k) same) (some_events new.log m.events m.logged some))
+  many_room lacks =
+      parts_room strategy old new call (one_command command number order) task ds picks result planned picked m (λ xs parts. parts) m.single refl
+      (λ refusal is. let one : reply ≡ Err refusal = subst (λ r. IsMadeOfParts (sent command) ds r reply) is made in let told = sym (ap value_answer one) ∙ lacks in cc)

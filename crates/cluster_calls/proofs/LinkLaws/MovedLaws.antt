@@ -3,6 +3,7 @@ use Rattle.std.specs.Prelude.{◌||◌, ◌&&◌, not, slice_get, drop, suc, is_
 use Rattle.std.specs.List.{list_any, AllByRecursion}
 use Rattle.std.proofs.Common.{◌≡◌, ℕ, ◌+◌, Bool, true, false, List, [], ◌∷◌, ◌++◌, map, length, refl, sym, ap, ◌∙◌, subst, Option, Result, arith}
 use Rattle.std.proofs.lemmas.Bool.{false≢true}
+use Rattle.std.proofs.lemmas.List.Folds.{list_any-append}
 use Rattle.resp_core.specs.Trees.{Tree}
 use Rattle.resp_core.specs.Errors.{Refusal}
 use Rattle.resp_link.specs.Replies.{replies_of}
@@ -21,7 +22,7 @@ use Rattle.cluster_calls.specs.Calls.Legal.{IsLegalCall}
 use Rattle.cluster_calls.specs.Links.Faults.{LinkFault}
 use Rattle.cluster_calls.specs.Calls.Answer.{Answer, IsAnswerOf}
 use Rattle.cluster_calls.specs.Calls.After.{map_after, flag_after, some_moved, is_moved_whole}
-use Rattle.cluster_calls.specs.Links.Events.{Event, Ending, answers, fails, EndsBy, AllTo, Runs, log_of, pair_up, exchanges_at, exchanges_of, Agrees, is_memory_ending, lack_memory, is_answer_ending, answered_moved, LinkCalled}
+use Rattle.cluster_calls.specs.Links.Events.{Event, Ending, answers, fails, EndsBy, AllTo, Runs, log_of, pair_up, exchanges_at, exchanges_of, Agrees, lack_memory, is_answer_ending, answered_moved, LinkCalled}
 use Rattle.cluster_calls.specs.Links.Happened.{client_of, is_each, is_refresh, Happened, Answered}
 use Rattle.cluster_calls.specs.Links.Chains.{IsSingle}
 use Rattle.cluster_calls.specs.Calls.OneSlot.{args_of}
@@ -29,12 +30,13 @@ use Rattle.cluster_calls.specs.Calls.Transactions.{in_sizes, size}
 use Rattle.cluster_calls.specs.Links.AttemptRuns.{IsAttempt}
 use Rattle.cluster_calls.proofs.LogLaws.StreamTasks.{stream_tasks}
 use Rattle.cluster_calls.proofs.LinkLaws.OpenLinks.{swapped}
-use Rattle.cluster_calls.proofs.LinkLaws.Pairing.{some_lost, other_lost, has_lost-append, any-append}
+use Rattle.cluster_calls.proofs.LinkLaws.Pairing.{some_lost, other_lost, has_lost-append}
 use Rattle.cluster_calls.proofs.LinkLaws.EndLaws.{ends_pairs, single_failed}
 use Rattle.cluster_calls.proofs.LinkLaws.NodeLaws.{lost_here}
-use Rattle.cluster_calls.proofs.LinkLaws.LinkRuns.{had_memory, or_parts}
+use Rattle.cluster_calls.proofs.LinkLaws.LinkRuns.{or_parts}
 use Rattle.cluster_calls.proofs.LinkLaws.LinkCalls.{AreLinkCalls}
 use Rattle.cluster_calls.proofs.LinkLaws.Addresses.{same_refl}
+use Rattle.cluster_calls.proofs.Lists.{or_none}
 use Rattle.cluster_calls.proofs.LogLaws.Attempts.{size_of}
 use Rattle.cluster_calls.proofs.LogLaws.Sizes.{in_sizes_are}
 
@@ -57,7 +59,7 @@ moved_singles old new (x ∷ xs) place r h =
     subst (λ qs. EndsBy s.before s.after qs x.taken x.ending → (is_answer_ending x.ending && list_any is_moved (pair_up (replies_of x.taken) 0 qs)) ≡ list_any is_moved (pair_up (replies_of x.taken) place qs)) (sym h.0.1) (λ d. moved_single s.before s.after h.0.0 x.taken x.ending place d) s.ends in
     ap (λ b. b || answered_moved xs) here
     ∙ ap (λ b. list_any is_moved (exchanges_at place x) || b) (moved_singles r.0 new xs (place + length x.requests) r.2 h.1)
-    ∙ sym (any-append is_moved (exchanges_at place x) (exchanges_of (place + length x.requests) xs))
+    ∙ sym (list_any-append is_moved (exchanges_at place x) (exchanges_of (place + length x.requests) xs))
 
 -- ---- no node with two link calls
 
@@ -72,10 +74,6 @@ spread true true n = or_same n
     or_same true = refl
     or_same false = refl
 spread true false n = or_none n
-  where
-    or_none : (b : Bool) → (b || false) ≡ b
-    or_none true = refl
-    or_none false = refl
 spread false r n = refl
 
 counted_to : (lost : Address → Bool) (node : Address) (qs : List Request) (trees : List Tree) (place : ℕ) → AllTo node qs → counted lost (pair_up trees place qs) ≡ (list_any is_moved (pair_up trees place qs) && not (lost node))
@@ -106,7 +104,7 @@ moved_counted lost old new (x ∷ xs) place r h =
     ∙ sym (counted_to lost x.node x.requests (replies_of x.taken) place r.1.to_node) in
     ap (λ b. b || answered_moved xs) here
     ∙ ap (λ b. counted lost (exchanges_at place x) || b) (moved_counted lost r.0 new xs (place + length x.requests) r.2 h.1)
-    ∙ sym (any-append (λ (e : Exchange). is_moved e && not (lost e.request.node)) (exchanges_at place x) (exchanges_of (place + length x.requests) xs))
+    ∙ sym (list_any-append (λ (e : Exchange). is_moved e && not (lost e.request.node)) (exchanges_at place x) (exchanges_of (place + length x.requests) xs))
 
 lost_uncalled : (old new : List Node) (xs : List Event) (place : ℕ) → Runs old new xs → (a : Address) → list_any (λ k. same_address a k) (map (λ (x : Event). x.node) xs) ≡ false → has_lost a (exchanges_of place xs) ≡ false
 lost_uncalled old new [] place r a n = refl
@@ -119,10 +117,6 @@ lost_uncalled old new (x ∷ xs) place r a n =
 lost_called : (b a : Seen) (node : Address) (qs : List Request) (taken : List Tree) (e : Ending) (place : ℕ) → (qs ≡ [] → ⊥) → AllTo node qs → EndsBy b a qs taken e → has_lost node (pair_up (replies_of taken) place qs) ≡ not (is_answer_ending e)
 lost_called b a node qs taken (answers replies) place some all d = lost_here node qs (replies_of taken) replies place (ends_pairs b a qs taken (answers replies) some d)
 lost_called b a node qs taken (fails fault) place some all d = some_lost node qs (replies_of taken) place all (ends_pairs b a qs taken (fails fault) some d)
-
-or_none : (b : Bool) → (b || false) ≡ b
-or_none true = refl
-or_none false = refl
 
 -- another node's link call before them
 lost_behind : (x : Event) (place : ℕ) (es : List Exchange) (ys : List Event) → AllTo x.node x.requests → list_any (λ k. same_address x.node k) (map (λ (y : Event). y.node) ys) ≡ false
@@ -202,14 +196,7 @@ moved_attempts old new commands xs place r h =
 
 plain_map : (call : Call) (entries : SlotEntries) (xs : List Exchange) → is_refresh call ≡ false → map_after entries call xs ≡ entries
 plain_map (Refresh node) entries xs n = absurd (false≢true (sym n))
-plain_map (Query command number) entries xs n = refl
-plain_map (Ordered command order number) entries xs n = refl
-plain_map (Pipeline commands) entries xs n = refl
-plain_map (Each commands) entries xs n = refl
-plain_map (FanOut command) entries xs n = refl
-plain_map (At node command) entries xs n = refl
-plain_map (Transaction commands) entries xs n = refl
-plain_map (OnStreams call) entries xs n = refl
+plain_map call entries xs n = refl
 
 plain_flag : (old new : List Node) (xs : List Event) (place : ℕ) (call : Call) (flag : Bool) → is_refresh call ≡ false → Runs old new xs → AreLinkCalls (task_of call) xs
     → (flag || answered_moved xs) ≡ flag_after flag call (exchanges_of place xs)

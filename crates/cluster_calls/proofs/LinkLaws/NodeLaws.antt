@@ -11,7 +11,7 @@ use Rattle.cluster_calls.specs.Links.Request.{Request, bytes_of}
 use Rattle.cluster_calls.specs.Links.Log.{has_lost}
 use Rattle.cluster_calls.specs.Links.Faults.{LinkFault, refusal_by_fault}
 use Rattle.cluster_calls.specs.Links.Events.{Ending, answers, fails, FailsFrom, in_sending, in_receiving, EndsBy, AllTo, reply_count, pair_up, fault_by}
-use Rattle.cluster_calls.specs.Links.Nodes.{LostBy, NodeMade}
+use Rattle.cluster_calls.specs.Links.Nodes.{LostBy, NodeMade, is_in_sending}
 use Rattle.cluster_calls.proofs.LinkLaws.Bytes.{Appends-none, Appends-append, Came-none, Came-append, bytes_of-append, IsSentFor-cons}
 use Rattle.cluster_calls.proofs.LinkLaws.EndLaws.{failed_came, answered_came, Pairs, ends_pairs, ends_usable}
 use Rattle.cluster_calls.proofs.LinkLaws.Pairing.{none_lost, some_lost}
@@ -65,6 +65,21 @@ NodeMade-ok a b c qs calls t ts replies l f d n = record {
 
 -- ---- a failed link call, the last one to its node
 
+lost_alone : (a b : Seen) (qs : List Request) (t : List Tree) (f : LinkFault) (d : FailsFrom a b (bytes_of qs) (reply_count qs) t (refusal_by_fault f)) → LostBy a b (qs ∷ []) t f (is_in_sending d)
+lost_alone a b qs t f d = record {
+  mid = a;
+  before = [];
+  last = qs;
+  earlier = [];
+  later = t;
+  in_order = refl;
+  values = refl;
+  sent = Appends-none a.sent;
+  came = Came-none a a refl refl refl (λ o. refl) (refl, refl);
+  fails = d;
+  by_write = refl;
+}
+
 NodeMade-last : (a b : Seen) (qs : List Request) (t : List Tree) (f : LinkFault) → FailsFrom a b (bytes_of qs) (reply_count qs) t (refusal_by_fault f) → NodeMade a b (qs ∷ []) t true f
 NodeMade-last a b qs t f (in_sending s is nothing) = record {
   write_failed = true;
@@ -73,22 +88,7 @@ NodeMade-last a b qs t f (in_sending s is nothing) = record {
   are = ([], qs, s.sent.front, s.sent.rest, refl, sym s.sent.joins, refl);
   came = failed_came a b (bytes_of qs) (reply_count qs) t (refusal_by_fault f) (in_sending s is nothing);
   kept = λ e. absurd (false≢true (sym e));
-  failed = λ e. (
-    s.closed,
-    record {
-      mid = a;
-      before = [];
-      last = qs;
-      earlier = [];
-      later = t;
-      in_order = refl;
-      values = refl;
-      sent = Appends-none a.sent;
-      came = Came-none a a refl refl refl (λ o. refl) (refl, refl);
-      fails = in_sending s is nothing;
-      by_write = refl;
-    },
-  );
+  failed = λ e. (s.closed, lost_alone a b qs t f (in_sending s is nothing));
   was_open = λ some. s.was_open;
   untouched = λ e. cc e;
 }
@@ -99,22 +99,7 @@ NodeMade-last a b qs t f (in_receiving r values) = record {
   are = ap bytes_of (sym (append-nil qs));
   came = failed_came a b (bytes_of qs) (reply_count qs) t (refusal_by_fault f) (in_receiving r values);
   kept = λ e. absurd (false≢true (sym e));
-  failed = λ e. (
-    r.closed,
-    record {
-      mid = a;
-      before = [];
-      last = qs;
-      earlier = [];
-      later = t;
-      in_order = refl;
-      values = refl;
-      sent = Appends-none a.sent;
-      came = Came-none a a refl refl refl (λ o. refl) (refl, refl);
-      fails = in_receiving r values;
-      by_write = refl;
-    },
-  );
+  failed = λ e. (r.closed, lost_alone a b qs t f (in_receiving r values));
   was_open = λ some. r.was_open;
   untouched = λ e. cc e;
 }

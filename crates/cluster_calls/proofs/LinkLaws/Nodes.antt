@@ -10,31 +10,31 @@ use Rattle.resp_link.specs.Call.{Seen}
 use Rattle.cluster_routing.specs.Address.{Address, same_address}
 use Rattle.cluster_routing.specs.Seen.{address}
 use Rattle.cluster_routing.specs.declared.address.NodeAddress.{NodeAddress}
-use Rattle.cluster_calls.specs.Links.World.{Node, nodes, place_at, Calls}
+use Rattle.cluster_calls.specs.Links.World.{Node, nodes, place_at, CallsLink}
 
-pub calls_one : {L : Type 0} (seen : L → Seen) (links : List (NodeAddress × L)) (which : ℕ) (pair : NodeAddress × L) (new : L) (Call : Seen → Seen → Type 0)
-    → which < length links → pair ≡ get_or links which pair → Call (seen pair.1) (seen new)
-    → Calls (nodes seen links) (nodes seen (set links which (pair.0, new))) which Call
-calls_one seen links which pair new Call within is call =
+pub calls_one : {L : Type 0} (seen : L → Seen) (links : List (NodeAddress × L)) (index : ℕ) (pair : NodeAddress × L) (new : L) (Call : Seen → Seen → Type 0)
+    → index < length links → pair ≡ get_or links index pair → Call (seen pair.1) (seen new)
+    → CallsLink (nodes seen links) (nodes seen (set links index (pair.0, new))) index Call
+calls_one seen links index pair new Call within is call =
     let node : NodeAddress × _ → Node = λ p. record { address = address p.0; link = seen p.1 } in
     record {
       before = node pair;
       after = node (pair.0, new);
-      found = slice_get-map node links which ∙ ap (λ o. option_map node o) (slice_get_read links (length links) which pair refl within is);
-      others = map-set node links which (pair.0, new);
+      found = slice_get-map node links index ∙ ap (λ o. option_map node o) (slice_get_read links (length links) index pair refl within is);
+      others = map-set node links index (pair.0, new);
       address = refl;
       call = call;
     }
 
 -- the node at an index is the one that was read there
-pub node_there : {L : Type 0} (seen : L → Seen) (links : List (NodeAddress × L)) (which : ℕ) (pair : NodeAddress × L)
-    → which < length links → pair ≡ get_or links which pair → slice_get (nodes seen links) which ≡ Some (record { address = address pair.0; link = seen pair.1 })
-node_there seen links which pair within is =
+pub node_there : {L : Type 0} (seen : L → Seen) (links : List (NodeAddress × L)) (index : ℕ) (pair : NodeAddress × L)
+    → index < length links → pair ≡ get_or links index pair → slice_get (nodes seen links) index ≡ Some (record { address = address pair.0; link = seen pair.1 })
+node_there seen links index pair within is =
     let node : NodeAddress × _ → Node = λ p. record { address = address p.0; link = seen p.1 } in
-    slice_get-map node links which ∙ ap (λ o. option_map node o) (slice_get_read links (length links) which pair refl within is)
+    slice_get-map node links index ∙ ap (λ o. option_map node o) (slice_get_read links (length links) index pair refl within is)
 
 -- whatever the call was
-pub calls_any : {old new : List Node} {which : ℕ} {Call : Seen → Seen → Type 0} → Calls old new which Call → Calls old new which (λ link link'. ⊤)
+pub calls_any : {old new : List Node} {index : ℕ} {Call : Seen → Seen → Type 0} → CallsLink old new index Call → CallsLink old new index (λ link link'. ⊤)
 calls_any c = record { before = c.before; after = c.after; found = c.found; others = c.others; address = c.address; call = tt }
 
 -- ---- the first link with an address

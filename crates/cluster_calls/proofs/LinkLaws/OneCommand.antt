@@ -1,5 +1,5 @@
 -- A call of which nothing was sent.
-use Rattle.std.specs.Prelude.{◌&&◌, ◌||◌, not}
+use Rattle.std.specs.Prelude.{◌&&◌, not}
 use Rattle.std.proofs.Common.{◌≡◌, ◌≢◌, Bool, true, false, List, [], Option, refl, sym, ◌∙◌, Result, Err, arith}
 use Rattle.std.proofs.lemmas.Bool.{false≢true}
 use Rattle.resp_core.specs.Errors.{Refusal, by_cause}
@@ -25,6 +25,7 @@ use Rattle.cluster_calls.proofs.LinkLaws.LinkCalls.{AreLinkCalls}
 use Rattle.cluster_calls.proofs.LinkLaws.MovedLaws.{answered_plain}
 use Rattle.cluster_calls.proofs.LinkLaws.PlainAnswers.{refused_answer}
 use Rattle.cluster_calls.proofs.LinkLaws.Played.{call_made}
+use Rattle.cluster_calls.proofs.Lists.{or_none}
 use Rattle.cluster_calls.proofs.LogLaws.ExecAnswers.{none_unanswered}
 use Rattle.cluster_calls.proofs.LogLaws.Sizes.{in_sizes_are}
 
@@ -44,19 +45,24 @@ relogged old log picked e f = λ i. with_log old (e i) (f i)
 pub relogged_untouched : (old new : World) (picks : List Address) → new ≡ with_log old [] picks → Untouched old new
 relogged_untouched old new picks e = rw e (record { nodes = refl; log = refl; entries = refl; settings = refl; flag = refl })
 
-pub or_none : (b : Bool) → (b || false) ≡ b
-or_none true = refl
-or_none false = refl
+-- no requests are no link calls, and have no reply
+pub nothing_of : (task : Task) → ([] ≡ link_calls task []) × AreLinkCalls task [] × (has_reply task [] ≡ false)
+nothing_of (slot_map_of node) = (refl, tt, refl)
+nothing_of (one_command command number order) = (refl, tt, none_of (not (has_split_word command.args)))
+  where
+    none_of : (b : Bool) → (b && false) ≡ false
+    none_of true = refl
+    none_of false = refl
+nothing_of (pipeline_of entries) = (refl, tt, refl)
+nothing_of (positions_of entries) = (refl, tt, refl)
+nothing_of (several_nodes command) = (refl, tt, refl)
+nothing_of (one_node node command) = (refl, tt, refl)
+nothing_of (transaction_of commands) = (sym (in_sizes_are (size (args_of commands)) [] (omega arith) tt), tt, none_unanswered (args_of commands))
+nothing_of (read_of options streams) = (refl, tt, refl)
 
-pub no_link_calls : (task : Task) → [] ≡ link_calls task []
-no_link_calls (slot_map_of node) = refl
-no_link_calls (one_command command number order) = refl
-no_link_calls (pipeline_of entries) = refl
-no_link_calls (positions_of entries) = refl
-no_link_calls (several_nodes command) = refl
-no_link_calls (one_node node command) = refl
-no_link_calls (transaction_of commands) = sym (in_sizes_are (size (args_of commands)) [] (omega arith) tt)
-no_link_calls (read_of options streams) = refl
+-- of a call that sent nothing no reply is there
+pub no_reply : (task : Task) → has_reply task [] ≡ false
+no_reply task = (nothing_of task).2
 
 abbrev pub nothing_happened : (strategy : Option Strategy) (old new : World) (call : Call) → Untouched old new → Happened strategy old new call
 nothing_happened strategy old new call u = record {
@@ -64,28 +70,13 @@ nothing_happened strategy old new call u = record {
   runs = u.nodes;
   stops = λ e. tt;
   logged = u.log;
-  calls = λ node. no_link_calls (task_of call);
+  calls = λ node. (nothing_of (task_of call)).0;
   picks = λ some. absurd (some u.log);
   begins = λ some place. absurd (some u.log);
   settings = u.settings;
   map_stays = λ n. u.entries;
   flag = λ n. u.flag ∙ sym (or_none old.needs_refresh);
 }
-
--- of a call that sent nothing no reply is there
-pub no_reply : (task : Task) → has_reply task [] ≡ false
-no_reply (slot_map_of node) = refl
-no_reply (one_command command number order) = none_of (not (has_split_word command.args))
-  where
-    none_of : (b : Bool) → (b && false) ≡ false
-    none_of true = refl
-    none_of false = refl
-no_reply (pipeline_of entries) = refl
-no_reply (positions_of entries) = refl
-no_reply (several_nodes command) = refl
-no_reply (one_node node command) = refl
-no_reply (transaction_of commands) = none_unanswered (args_of commands)
-no_reply (read_of options streams) = refl
 
 -- memory was refused before anything was sent
 pub not_begun : (strategy : Option Strategy) (old new : World) (call : Call) → Untouched old new → new.picked ≡ [] → CallMade strategy old new call (Err (by_cause Memory))
@@ -102,18 +93,8 @@ pub unsent_answered : (strategy : Option Strategy) (old new : World) (call : Cal
     → Answered strategy old new call [] (Err refusal)
 unsent_answered strategy old new call refusal n u why m =
     let told = why m in
-    answered_plain strategy old new call (Err refusal) (nothing_happened strategy old new call u) n (no_calls (task_of call)) (λ e. refl) u.log told.1 (λ place. rw told.0 refl)
+    answered_plain strategy old new call (Err refusal) (nothing_happened strategy old new call u) n (nothing_of (task_of call)).1 (λ e. refl) u.log told.1 (λ place. rw told.0 refl)
     (λ faults agrees place. refused_answer (client_of old) new.picked faults call [] refusal (rw told.0 refl))
-  where
-    no_calls : (task : Task) → AreLinkCalls task []
-    no_calls (slot_map_of node) = tt
-    no_calls (one_command command number order) = tt
-    no_calls (pipeline_of entries) = tt
-    no_calls (positions_of entries) = tt
-    no_calls (several_nodes command) = tt
-    no_calls (one_node node command) = tt
-    no_calls (transaction_of commands) = tt
-    no_calls (read_of options streams) = tt
 
 -- a check before sending was not met, or memory was refused before anything was sent
 pub not_sent : (strategy : Option Strategy) (old new : World) (call : Call) (refusal : Refusal) → is_refresh call ≡ false → Untouched old new → new.picked ≡ []

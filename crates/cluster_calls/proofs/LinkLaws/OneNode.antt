@@ -28,9 +28,10 @@ use Rattle.cluster_calls.specs.Calls.Replies.{unless_error, reply_error}
 use Rattle.cluster_calls.specs.Calls.Task.{one_node}
 use Rattle.cluster_calls.proofs.LinkLaws.LinkCalls.{link_calls_made}
 use Rattle.cluster_calls.proofs.LinkLaws.MovedLaws.{answered_plain}
-use Rattle.cluster_calls.proofs.LinkLaws.OneCommand.{Untouched, or_none, refused_by, reply_not_begun, reply_not_sent}
+use Rattle.cluster_calls.proofs.LinkLaws.OneCommand.{Untouched, refused_by, reply_not_begun, reply_not_sent}
 use Rattle.cluster_calls.proofs.LinkLaws.OneRequest.{exchanged_one, reply_in, single, OneMade, one_reply_is, one_had_memory, one_fault, one_moved, single_moved}
 use Rattle.cluster_calls.proofs.LinkLaws.Played.{call_made}
+use Rattle.cluster_calls.proofs.Lists.{or_none}
 
 abbrev there : Address → Command → Dispatch
 there node command = record { node = node; args = sent command }
@@ -182,11 +183,11 @@ module _ (strategy : Option Strategy) (old new : World) (node : Address) (comman
   -- ---- the same from what the code says of its exchange
 
   pub at_made : (result : Result Tree Refusal) → new.needs_refresh ≡ (old.needs_refresh || one_moved result)
-      → (which : ℕ) → IsOpenAt old.nodes node which → (before : List Request) → before ≡ [] → (p : Request) → p ≡ q → Exchanges old.nodes new.nodes which before new.log (p ∷ []) (skipped p.asking) 1 (one_reply result)
+      → (link : ℕ) → IsOpenAt old.nodes node link → (before : List Request) → before ≡ [] → (p : Request) → p ≡ q → Exchanges old.nodes new.nodes link before new.log (p ∷ []) (skipped p.asking) 1 (one_reply result)
       → (reply : Result Tree Refusal) → Ends result reply → ReplyMade strategy old new (At node command) reply
-  at_made result flag which at before empty p is x reply ends =
-      let asked = subst (λ k. Exchanges old.nodes new.nodes which before new.log (k ∷ []) (skipped k.asking) 1 (one_reply result)) is x in
-      elim (exchanged_one old.nodes new.nodes which before new.log q result at asked) as (λ _. ReplyMade strategy old new (At node command) reply) [
+  at_made result flag link at before empty p is x reply ends =
+      let asked = subst (λ k. Exchanges old.nodes new.nodes link before new.log (k ∷ []) (skipped k.asking) 1 (one_reply result)) is x in
+      elim (exchanged_one old.nodes new.nodes link before new.log q result at asked) as (λ _. ReplyMade strategy old new (At node command) reply) [
         | inl same ↦ unsent same.0 (same.1 ∙ empty) (one_reply_lacks result same.2) ends
         | inr made ↦ called_reply result flag (made.0 ∙ ap (λ qs. qs ++ q ∷ []) empty) made.1 reply ends
       ]

@@ -10,7 +10,7 @@ use Rattle.resp_link.specs.Replies.{replies_of}
 use Rattle.cluster_routing.specs.Address.{Address}
 use Rattle.cluster_calls.specs.Links.Request.{Request, bytes_of, skipped}
 use Rattle.cluster_calls.specs.Links.Log.{is_moved, is_moved_reply}
-use Rattle.cluster_calls.specs.Links.World.{Node, Called, Calls, one_reply, link_at, is_usable, open_links}
+use Rattle.cluster_calls.specs.Links.World.{Node, Called, CallsLink, one_reply, link_at, is_usable, open_links}
 use Rattle.cluster_calls.specs.Links.Places.{IsOpenAt}
 use Rattle.cluster_calls.specs.Links.Faults.{LinkFault, refusal_by_fault}
 use Rattle.cluster_calls.specs.Links.Events.{Event, Ending, answers, fails, EndsBy, LinkCalled, AgreesAt, is_memory_ending, is_answer_ending, exchanges_at}
@@ -18,6 +18,7 @@ use Rattle.cluster_calls.specs.Links.Exchanges.{Exchanges, not_begun, made}
 use Rattle.cluster_calls.proofs.LinkLaws.LinkEnds.{ending_of, ending_refusal, ended_refusal, had_memory_by, refusal_agrees, link_called_at}
 use Rattle.cluster_calls.proofs.LinkLaws.EndLaws.{single_answered, single_failed, ends_usable, ends_was_open}
 use Rattle.cluster_calls.proofs.LinkLaws.LinkPlaces.{found, linked, set_open}
+use Rattle.cluster_calls.proofs.Lists.{or_none}
 
 abbrev pub reply_in : Result Tree Refusal → Option Tree
 reply_in (Ok tree) = Some tree
@@ -41,22 +42,22 @@ refused_by : (old new : Seen) (q : Request) (result : Result Tree Refusal) → o
 refused_by old new q (Ok tree) open' called = tt
 refused_by old new q (Err e) open' called = ended_refusal old new (q ∷ []) (skipped q.asking) 1 e (omega arith) open' called
 
-pub one_made : (old new : List Node) (which : ℕ) (q : Request) (result : Result Tree Refusal) → IsOpenAt old q.node which
-    → Calls old new which (λ before after. Called before after (bytes_of (q ∷ [])) (skipped q.asking) 1 (one_reply result)) → OneMade old new q result
-one_made old new which q result at calls =
-    let s = link_called_at old new q.node which (q ∷ []) (skipped q.asking) 1 (one_reply result) at (λ e. cc e) (refl, tt) (omega arith) calls in
-    let f = found old q.node which at.place in
+pub one_made : (old new : List Node) (index : ℕ) (q : Request) (result : Result Tree Refusal) → IsOpenAt old q.node index
+    → CallsLink old new index (λ before after. Called before after (bytes_of (q ∷ [])) (skipped q.asking) 1 (one_reply result)) → OneMade old new q result
+one_made old new index q result at calls =
+    let s = link_called_at old new q.node index (q ∷ []) (skipped q.asking) 1 (one_reply result) at (λ e. cc e) (refl, tt) (omega arith) calls in
+    let f = found old q.node index at.place in
     let same : f.node ≡ calls.before = let a = f.at in let b = calls.found in cc in
     let there : link_at old q.node ≡ Some calls.before.link = f.link ∙ ap (λ (n : Node). Some n.link) same in
     let open' : calls.before.link.usable ≡ true = sym (ap is_usable there) ∙ sym (linked old q.node) ∙ at.linked in
     record { taken = s.0; called = s.1; refused = refused_by calls.before.link calls.after.link q result open' calls.call }
 
 -- nothing was done for want of memory, or the request stands in the log and its link call was made
-pub exchanged_one : (old new : List Node) (which : ℕ) (before after : List Request) (q : Request) (result : Result Tree Refusal) → IsOpenAt old q.node which
-    → Exchanges old new which before after (q ∷ []) (skipped q.asking) 1 (one_reply result)
+pub exchanged_one : (old new : List Node) (link : ℕ) (before after : List Request) (q : Request) (result : Result Tree Refusal) → IsOpenAt old q.node link
+    → Exchanges old new link before after (q ∷ []) (skipped q.asking) 1 (one_reply result)
     → ((new ≡ old) × (after ≡ before) × (one_reply result ≡ Err (by_cause Memory))) ⊎ ((after ≡ before ++ q ∷ []) × OneMade old new q result)
-exchanged_one old new which before after q result at (not_begun same log is) = inl (same, log, is)
-exchanged_one old new which before after q result at (made log calls) = inr (log, one_made old new which q result at calls)
+exchanged_one old new link before after q result at (not_begun same log is) = inl (same, log, is)
+exchanged_one old new link before after q result at (made log calls) = inr (log, one_made old new link q result at calls)
 
 -- ---- its reply
 
@@ -89,10 +90,6 @@ not_answered : (e : Ending) (refusal : Refusal) → ending_refusal e ≡ Some re
 not_answered (answers replies) refusal is = cc
 not_answered (fails fault) refusal is = refl
 
-or_false : (b : Bool) → (b || false) ≡ b
-or_false true = refl
-or_false false = refl
-
 -- whether the link call of one request was answered by MOVED
 abbrev pub one_moved : Result Tree Refusal → Bool
 one_moved result = is_moved_reply (reply_in result)
@@ -100,5 +97,5 @@ one_moved result = is_moved_reply (reply_in result)
 pub single_moved : (old new : List Node) (q : Request) (result : Result Tree Refusal) (o : OneMade old new q result)
     → (is_answer_ending (ending_of (one_reply result)) && list_any is_moved (exchanges_at 0 (single q o.taken result))) ≡ one_moved result
 single_moved old new q (Ok tree) o =
-    ap (λ r. is_moved_reply r || false) (single_answered o.called.before o.called.after q o.taken tree o.called.ends) ∙ or_false (is_moved_reply (Some tree))
+    ap (λ r. is_moved_reply r || false) (single_answered o.called.before o.called.after q o.taken tree o.called.ends) ∙ or_none (is_moved_reply (Some tree))
 single_moved old new q (Err e) o = ap (λ b. b && list_any is_moved (exchanges_at 0 (single q o.taken (Err e)))) (not_answered (ending_of (Err e)) e o.refused)

@@ -6,18 +6,12 @@ use Rattle.std.proofs.lemmas.Bool.{false≢true, and_parts, not-true}
 use Rattle.std.proofs.lemmas.List.{drop_all, length-map}
 use Rattle.std.proofs.lemmas.Option.{slice_get-map}
 use Rattle.cluster_routing.specs.Lists.{among, is_distinct, is_permutation, numbers_below}
+use Rattle.cluster_calls.proofs.Lists.{set_other}
 use Rattle.cluster_calls.specs.Calls.Parts.{fits_order}
 use Rattle.cluster_calls.specs.Calls.Plan.{in_order}
 use Rattle.cluster_calls.specs.Links.Taken.{there, there_at}
 
 -- ---- another item at one place
-
-set_other : {X : Type 0} (xs : List X) (n m : ℕ) (a : X) → (n ≡ m → ⊥) → slice_get (slice_set xs n a) m ≡ slice_get xs m
-set_other [] n m a ne = refl
-set_other (x ∷ xs) zero zero a ne = absurd (ne refl)
-set_other (x ∷ xs) zero (suc m) a ne = refl
-set_other (x ∷ xs) (suc n) zero a ne = refl
-set_other (x ∷ xs) (suc n) (suc m) a ne = set_other xs n m a (λ e. ne (ap suc e))
 
 set_length : {X : Type 0} (xs : List X) (n : ℕ) (a : X) → length (slice_set xs n a) ≡ length xs
 set_length [] n a = refl

@@ -1,7 +1,7 @@
 -- Requests of one node and the replies that they take.
 use Rattle.std.specs.Prelude.{slice_get, drop, is_none, ◌&&◌, ◌||◌}
-use Rattle.std.specs.List.{list_any}
 use Rattle.std.proofs.Common.{◌≡◌, ℕ, zero, suc, ◌+◌, ◌-◌, ◌<◌, ◌≤◌, Bool, true, false, cond, List, [], ◌∷◌, ◌++◌, length, None, refl, sym, ap, ◌∙◌, subst, length-drop, inl, inr, ◌⊎◌, arith}
+use Rattle.std.proofs.lemmas.List.Folds.{list_any-append}
 use Rattle.std.proofs.lemmas.List.{drop-drop}
 use Rattle.resp_core.specs.Trees.{Tree}
 use Rattle.cluster_routing.specs.Address.{Address, same_address}
@@ -89,16 +89,8 @@ other_lost node a (q ∷ qs) rs place t ne =
     let e : same_address q.node a ≡ false = subst (λ k. same_address k a ≡ false) (sym t.0) ne in
     rw e (other_lost node a qs (drop (skipped q.asking + 1) rs) (suc place) t.1 ne)
 
-pub any-append : (p : Exchange → Bool) (xs ys : List Exchange) → list_any p (xs ++ ys) ≡ (list_any p xs || list_any p ys)
-any-append p [] ys = refl
-any-append p (x ∷ xs) ys = rw (any-append p xs ys) (or_assoc (p x) (list_any p xs) (list_any p ys))
-  where
-    or_assoc : (a b c : Bool) → (a || (b || c)) ≡ ((a || b) || c)
-    or_assoc true b c = refl
-    or_assoc false b c = refl
-
 pub has_lost-append : (a : Address) (xs ys : List Exchange) → has_lost a (xs ++ ys) ≡ (has_lost a xs || has_lost a ys)
-has_lost-append a xs ys = any-append (λ (x : Exchange). same_address x.request.node a && is_unanswered x) xs ys
+has_lost-append a xs ys = list_any-append (λ (x : Exchange). same_address x.request.node a && is_unanswered x) xs ys
 
 -- ---- replies of later requests
 

@@ -5,6 +5,7 @@ use Rattle.std.proofs.Common.{◌≡◌, ◌≢◌, ◌<◌, ℕ, zero, suc, ◌
 use Rattle.std.proofs.lemmas.Bool.{false≢true}
 use Rattle.std.proofs.lemmas.List.{length-map, map-append}
 use Rattle.std.proofs.lemmas.List.Elements.{filter-append, filter_agree}
+use Rattle.std.proofs.lemmas.List.Folds.{list_any-append}
 use Rattle.resp_core.specs.Trees.{Tree}
 use Rattle.resp_core.specs.Errors.{Refusal, by_cause}
 use Rattle.resp_core.specs.declared.errors.redis_error.Cause.TheVariants.{Memory}
@@ -12,7 +13,7 @@ use Rattle.cluster_routing.specs.Address.{Address, same_address}
 use Rattle.cluster_calls.specs.Links.Log.{Exchange, is_answered, is_unanswered, is_data_reply, has_lost, behind_answers}
 use Rattle.cluster_calls.specs.Links.World.{World, Node, addresses_of, place_at, is_linked, open_links, one_reply}
 use Rattle.cluster_calls.specs.Links.Places.{IsOpenAt}
-use Rattle.cluster_calls.specs.Links.Events.{Event, Runs, log_of, exchanges_of, lack_memory, answered_moved, faults_of}
+use Rattle.cluster_calls.specs.Links.Events.{Event, Runs, log_of, exchanges_of, lack_memory, faults_of, StopsAtMemory}
 use Rattle.cluster_calls.specs.Links.Chains.{IsSingle, IsChain, IsUnanswered, ChainMade}
 use Rattle.cluster_calls.specs.Links.Lacking.{LacksWhere}
 use Rattle.cluster_calls.specs.Links.PartRuns.{PartsAnswered, PartsMade}
@@ -23,20 +24,21 @@ use Rattle.cluster_calls.specs.Calls.Legal.{PartByPart, first_hop, direct}
 use Rattle.cluster_calls.specs.Calls.Replies.{reply_or_nil}
 use Rattle.cluster_calls.specs.Calls.Refusals.{part_refusal}
 use Rattle.cluster_calls.proofs.LinkLaws.LinkPlaces.{found}
-use Rattle.cluster_calls.proofs.LinkLaws.Pairing.{any-append}
-use Rattle.cluster_calls.proofs.LinkLaws.LinkRuns.{Runs-append, or_parts, addresses}
-use Rattle.cluster_calls.proofs.LinkLaws.EventLists.{log-append, exchanges-append, memory-append, moved-append, stops-had, stops-append}
+use Rattle.cluster_calls.proofs.LinkLaws.LinkRuns.{or_parts, addresses}
+use Rattle.cluster_calls.proofs.LinkLaws.EventLists.{exchanges-append, memory-append, stops-had, stops-append}
 use Rattle.cluster_calls.proofs.LinkLaws.FaultsAgree.{agrees, Agrees-back}
 use Rattle.cluster_calls.proofs.LinkLaws.OpenLinks.{filter_all, links_behind}
-use Rattle.cluster_calls.proofs.LinkLaws.ChainLoop.{filter-none, next_none, or_assoc, or_none}
+use Rattle.cluster_calls.proofs.LinkLaws.ChainLoop.{filter-none, next_none}
+use Rattle.cluster_calls.proofs.LinkLaws.Grown.{Grown, grown_more, grown_none, same_client}
 use Rattle.cluster_calls.proofs.LinkLaws.LackingLists.{lacks_behind}
+use Rattle.cluster_calls.proofs.Lists.{all-append}
 
 -- ---- behind the answers
 
 behind_by : (x : Exchange) (xs ys : List Exchange) (b : Bool) → list_any is_answered (x ∷ xs) ≡ b → cond b (behind_answers xs) (x ∷ xs) ≡ []
     → (behind_answers xs ≡ [] → behind_answers (xs ++ ys) ≡ behind_answers ys) → behind_answers (x ∷ (xs ++ ys)) ≡ behind_answers ys
 behind_by x xs ys true t e f =
-    let some : list_any is_answered ((x ∷ xs) ++ ys) ≡ true = any-append is_answered (x ∷ xs) ys ∙ ap (λ b. b || list_any is_answered ys) t in
+    let some : list_any is_answered ((x ∷ xs) ++ ys) ≡ true = list_any-append is_answered (x ∷ xs) ys ∙ ap (λ b. b || list_any is_answered ys) t in
     ap (λ b. cond b (behind_answers (xs ++ ys)) (x ∷ (xs ++ ys))) some ∙ f e
 behind_by x xs ys false t e f = cc
 
@@ -82,11 +84,11 @@ goes_by Lost x xs more Later F G h e l f = stops_there x xs more Later h e l
 goes_by (Goes next) x xs more Later F G h e l f = f next h (later_answered x xs e)
 
 -- behind an answered chain the later parts stand
-goes_on : (links : List Address) (left : ℕ) (hop : Hop) (args : List (List ℕ)) (Later : List Exchange → Type 0) (xs more : List Exchange) → FollowsRedirects links left hop args Ends xs → behind_answers xs ≡ [] → Later more
-    → FollowsRedirects links left hop args (Then Later) (xs ++ more)
-goes_on links left hop args Later [] more f e l = absurd f
-goes_on links left hop args Later (x ∷ xs) more f e l =
-    (f.0, goes_by (next_of links left x.reply) x xs more Later _ _ f.1 e l (λ next h k. goes_on links (left - 1) next args Later xs more h k l))
+goes_on : (links : List Address) (redirects : ℕ) (hop : Hop) (args : List (List ℕ)) (Later : List Exchange → Type 0) (xs more : List Exchange) → FollowsRedirects links redirects hop args Ends xs → behind_answers xs ≡ [] → Later more
+    → FollowsRedirects links redirects hop args (Then Later) (xs ++ more)
+goes_on links redirects hop args Later [] more f e l = absurd f
+goes_on links redirects hop args Later (x ∷ xs) more f e l =
+    (f.0, goes_by (next_of links redirects x.reply) x xs more Later _ _ f.1 e l (λ next h k. goes_on links (redirects - 1) next args Later xs more h k l))
 
 ends_by : (n : Next) (x : Exchange) (xs : List Exchange) (Later : List Exchange → Type 0) (F G : Hop → Type 0) → MatchNext n (xs ≡ []) F → is_answered x ≡ false → ((next : Hop) → F next → G next) → MatchNext n (Then Later x xs) G
 ends_by Stays x xs Later F G h e f = rw e h
@@ -94,12 +96,12 @@ ends_by Lost x xs Later F G h e f = rw e h
 ends_by (Goes next) x xs Later F G h e f = f next h
 
 -- behind a chain without an answer nothing stands
-ends_here : (links : List Address) (left : ℕ) (hop : Hop) (args : List (List ℕ)) (Later : List Exchange → Type 0) (xs : List Exchange) → FollowsRedirects links left hop args Ends xs → list_any is_answered xs ≡ false
-    → FollowsRedirects links left hop args (Then Later) xs
-ends_here links left hop args Later [] f e = absurd f
-ends_here links left hop args Later (x ∷ xs) f e =
+ends_here : (links : List Address) (redirects : ℕ) (hop : Hop) (args : List (List ℕ)) (Later : List Exchange → Type 0) (xs : List Exchange) → FollowsRedirects links redirects hop args Ends xs → list_any is_answered xs ≡ false
+    → FollowsRedirects links redirects hop args (Then Later) xs
+ends_here links redirects hop args Later [] f e = absurd f
+ends_here links redirects hop args Later (x ∷ xs) f e =
     let none = or_parts (is_answered x) (list_any is_answered xs) e in
-    (f.0, ends_by (next_of links left x.reply) x xs Later _ _ f.1 none.0 (λ next h. ends_here links (left - 1) next args Later xs h none.1))
+    (f.0, ends_by (next_of links redirects x.reply) x xs Later _ _ f.1 none.0 (λ next h. ends_here links (redirects - 1) next args Later xs h none.1))
 
 -- ---- what completes a run
 
@@ -121,12 +123,12 @@ extends_by Lost x xs Later F G anyway h f = extends_there x xs Later anyway h
 extends_by (Goes next) x xs Later F G anyway h f = f next h
 
 -- something completes a chain and the later parts, however it ended
-extends : (links : List Address) (left : ℕ) (hop : Hop) (args : List (List ℕ)) (Later : List Exchange → Type 0) → Possible Later → (xs : List Exchange) → FollowsRedirects links left hop args Ends xs
-    → Possible (λ more. FollowsRedirects links left hop args (Then Later) (xs ++ more))
-extends links left hop args Later anyway [] f = absurd f
-extends links left hop args Later anyway (x ∷ xs) f =
-    let more = extends_by (next_of links left x.reply) x xs Later (λ next. FollowsRedirects links (left - 1) next args Ends xs) (λ next ys. FollowsRedirects links (left - 1) next args (Then Later) ys) anyway f.1
-    (λ next h. extends links (left - 1) next args Later anyway xs h) in
+extends : (links : List Address) (redirects : ℕ) (hop : Hop) (args : List (List ℕ)) (Later : List Exchange → Type 0) → Possible Later → (xs : List Exchange) → FollowsRedirects links redirects hop args Ends xs
+    → Possible (λ more. FollowsRedirects links redirects hop args (Then Later) (xs ++ more))
+extends links redirects hop args Later anyway [] f = absurd f
+extends links redirects hop args Later anyway (x ∷ xs) f =
+    let more = extends_by (next_of links redirects x.reply) x xs Later (λ next. FollowsRedirects links (redirects - 1) next args Ends xs) (λ next ys. FollowsRedirects links (redirects - 1) next args (Then Later) ys) anyway f.1
+    (λ next h. extends links (redirects - 1) next args Later anyway xs h) in
     (more.0, (f.0, more.1))
 
 -- some exchanges are a run of parts: a request to the first of them, without a reply
@@ -136,9 +138,9 @@ some_parts client (d ∷ ds) = (record { request = direct d; place = 0; reply = 
 
 -- ---- an answered chain
 
-pub replied_next : (links : List Address) (left : ℕ) (reply : Option Tree) (next : Hop) → next_of links left reply ≡ Goes next → is_none reply ≡ false
-replied_next links left None next e = let stays = next_none links left in cc
-replied_next links left (Some tree) next e = refl
+pub replied_next : (links : List Address) (redirects : ℕ) (reply : Option Tree) (next : Hop) → next_of links redirects reply ≡ Goes next → is_none reply ≡ false
+replied_next links redirects None next e = let stays = next_none links redirects in cc
+replied_next links redirects (Some tree) next e = refl
 
 replied_data : (reply : Option Tree) → is_data_reply reply ≡ true → is_none reply ≡ false
 replied_data None e = absurd (false≢true e)
@@ -152,18 +154,18 @@ lost_last : (x : Exchange) (xs : List Exchange) (a : Address) → xs ≡ [] → 
 lost_last x [] a h e = lost_none (same_address x.request.node a) (is_unanswered x) false (replied_data x.reply (last_answered x e)) refl
 lost_last x (y ∷ ys) a h e = cc
 
-lost_by : (links : List Address) (left : ℕ) (x : Exchange) (xs : List Exchange) (a : Address) (F : Hop → Type 0) (n : Next) → next_of links left x.reply ≡ n → MatchNext n (xs ≡ []) F → behind_answers (x ∷ xs) ≡ []
+lost_by : (links : List Address) (redirects : ℕ) (x : Exchange) (xs : List Exchange) (a : Address) (F : Hop → Type 0) (n : Next) → next_of links redirects x.reply ≡ n → MatchNext n (xs ≡ []) F → behind_answers (x ∷ xs) ≡ []
     → ((next : Hop) → F next → behind_answers xs ≡ [] → has_lost a xs ≡ false) → has_lost a (x ∷ xs) ≡ false
-lost_by links left x xs a F Stays is h e f = lost_last x xs a h e
-lost_by links left x xs a F Lost is h e f = lost_last x xs a h e
-lost_by links left x xs a F (Goes next) is h e f =
-    lost_none (same_address x.request.node a) (is_unanswered x) (has_lost a xs) (replied_next links left x.reply next is) (f next h (later_answered x xs e))
+lost_by links redirects x xs a F Stays is h e f = lost_last x xs a h e
+lost_by links redirects x xs a F Lost is h e f = lost_last x xs a h e
+lost_by links redirects x xs a F (Goes next) is h e f =
+    lost_none (same_address x.request.node a) (is_unanswered x) (has_lost a xs) (replied_next links redirects x.reply next is) (f next h (later_answered x xs e))
 
 -- none of its requests is without a reply
-none_lost : (links : List Address) (left : ℕ) (hop : Hop) (args : List (List ℕ)) (xs : List Exchange) → FollowsRedirects links left hop args Ends xs → behind_answers xs ≡ [] → (a : Address) → has_lost a xs ≡ false
-none_lost links left hop args [] f e a = absurd f
-none_lost links left hop args (x ∷ xs) f e a =
-    lost_by links left x xs a (λ next. FollowsRedirects links (left - 1) next args Ends xs) (next_of links left x.reply) refl f.1 e (λ next h k. none_lost links (left - 1) next args xs h k a)
+none_lost : (links : List Address) (redirects : ℕ) (hop : Hop) (args : List (List ℕ)) (xs : List Exchange) → FollowsRedirects links redirects hop args Ends xs → behind_answers xs ≡ [] → (a : Address) → has_lost a xs ≡ false
+none_lost links redirects hop args [] f e a = absurd f
+none_lost links redirects hop args (x ∷ xs) f e a =
+    lost_by links redirects x xs a (λ next. FollowsRedirects links (redirects - 1) next args Ends xs) (next_of links redirects x.reply) refl f.1 e (λ next h k. none_lost links (redirects - 1) next args xs h k a)
 
 -- so its links stay open
 links_stay : (old new : List Node) (events : List Event) → Runs old new events → ((a : Address) → has_lost a (exchanges_of 0 events) ≡ false) → open_links new ≡ open_links old
@@ -179,10 +181,10 @@ args_by args Lost xs F h f = subst (λ ys. HaveArgs args ys) (sym h) tt
 args_by args (Goes next) xs F h f = f next h
 
 -- all of its requests have the part's arguments
-have_args : (links : List Address) (left : ℕ) (hop : Hop) (args : List (List ℕ)) (xs : List Exchange) → FollowsRedirects links left hop args Ends xs → HaveArgs args xs
-have_args links left hop args [] f = absurd f
-have_args links left hop args (x ∷ xs) f =
-    (ap (λ q. q.args) f.0, args_by args (next_of links left x.reply) xs _ f.1 (λ next h. have_args links (left - 1) next args xs h))
+have_args : (links : List Address) (redirects : ℕ) (hop : Hop) (args : List (List ℕ)) (xs : List Exchange) → FollowsRedirects links redirects hop args Ends xs → HaveArgs args xs
+have_args links redirects hop args [] f = absurd f
+have_args links redirects hop args (x ∷ xs) f =
+    (ap (λ q. q.args) f.0, args_by args (next_of links redirects x.reply) xs _ f.1 (λ next h. have_args links (redirects - 1) next args xs h))
 
 abbrev args_sent : List Exchange → List (List (List ℕ))
 args_sent xs = map (λ (x : Exchange). x.request.args) (filter is_answered xs)
@@ -206,15 +208,10 @@ only_args args (y ∷ z ∷ ys) tree e = cc
 
 -- ---- the run
 
-pub all-append : (xs ys : List Event) → AllByRecursion IsSingle xs → AllByRecursion IsSingle ys → AllByRecursion IsSingle (xs ++ ys)
-all-append [] ys h k = k
-all-append (x ∷ xs) ys h k = (h.0, all-append xs ys h.1 k)
-
 -- what the loop over parts keeps: those before `rest` were answered with `trees`
 pub record PartLoop (old now : World) (ds rest : List Dispatch) (trees : List Tree) : Type 0 where
   pub events : List Event
-  pub runs : Runs old.nodes now.nodes events
-  pub logged : now.log ≡ old.log ++ log_of events
+  pub grown : Grown old now events
   pub single : AllByRecursion IsSingle events
   pub memory : lack_memory events ≡ false
   pub leads : (p : ℕ) (more : List Exchange) → PartByPart (client_of old) rest more → PartByPart (client_of old) ds (exchanges_of p events ++ more)
@@ -222,75 +219,35 @@ pub record PartLoop (old now : World) (ds rest : List Dispatch) (trees : List Tr
   pub sent : (p : ℕ) → args_sent (exchanges_of p events) ++ args_of rest ≡ args_of ds
   pub replied : (p : ℕ) → map reply_or_nil (filter is_answered (exchanges_of p events)) ≡ trees
   pub opens : open_links now.nodes ≡ open_links old.nodes
-  pub flag : now.needs_refresh ≡ (old.needs_refresh || answered_moved events)
-  pub entries : now.entries ≡ old.entries
-  pub settings : now.settings ≡ old.settings
-  pub picked : now.picked ≡ old.picked
 
 pub parts_start : (old : World) (ds : List Dispatch) → PartLoop old old ds ds []
-parts_start old ds = record {
-  events = [];
-  runs = refl;
-  logged = sym (append-nil old.log);
-  single = tt;
-  memory = refl;
-  leads = λ p more h. h;
-  behind = λ p. refl;
-  sent = λ p. refl;
-  replied = λ p. refl;
-  opens = refl;
-  flag = sym (or_none old.needs_refresh);
-  entries = refl;
-  settings = refl;
-  picked = refl;
-}
+parts_start old ds = record { events = []; grown = grown_none old; single = tt; memory = refl; leads = λ p more h. h; behind = λ p. refl; sent = λ p. refl; replied = λ p. refl; opens = refl }
+
+module _ (old new : World) (ds : List Dispatch) (result : Result (List Tree) Refusal) where
+  -- what these link calls come to
+  parts_by : (events : List Event) → Grown old new events → StopsAtMemory events → AllByRecursion IsSingle events → ((p : ℕ) → (later : List Exchange) × PartByPart (client_of old) ds (exchanges_of p events ++ later)) → (result ≢ Err (by_cause Memory) → PartsAnswered old new ds events result)
+      → (result ≡ Err (by_cause Memory) → events ≢ [] → LacksWhere (client_of old).links events ((p : ℕ) → PartByPart (client_of old) ds (exchanges_of p events)) × ((p : ℕ) → length (filter is_answered (exchanges_of p events)) < length ds)) → PartsMade old new ds result
+  parts_by events g stops single begins answered lacking = record { events = events; runs = g.runs; stops = stops; logged = g.logged; single = single; begins = begins; flag = g.flag; entries = g.keeps.entries; settings = g.keeps.settings; picked = g.keeps.picked; answered = answered; room = λ lacks some. (lacking lacks some).0; unanswered = λ lacks some. (lacking lacks some).1 }
 
 -- nothing was done, for want of memory
 pub parts_unsent : (old : World) (ds : List Dispatch) → PartsMade old old ds (Err (by_cause Memory))
-parts_unsent old ds = record {
-  events = [];
-  runs = refl;
-  stops = tt;
-  logged = sym (append-nil old.log);
-  single = tt;
-  begins = λ p. some_parts (client_of old) ds;
-  flag = sym (or_none old.needs_refresh);
-  entries = refl;
-  settings = refl;
-  picked = refl;
-  answered = λ m. absurd (m refl);
-  room = λ lacks some. absurd (some refl);
-  unanswered = λ lacks some. absurd (some refl);
-}
+parts_unsent old ds = parts_by old old ds (Err (by_cause Memory)) [] (grown_none old) tt tt (λ p. some_parts (client_of old) ds) (λ m. absurd (m refl)) (λ lacks some. absurd (some refl))
 
 -- all parts were answered
 pub parts_done : (old now : World) (ds : List Dispatch) (trees : List Tree) → PartLoop old now ds [] trees → PartsMade old now ds (Ok trees)
-parts_done old now ds trees l = record {
-  events = l.events;
-  runs = l.runs;
-  stops = stops-had l.events l.memory;
-  logged = l.logged;
-  single = l.single;
-  begins = λ p. ([], l.leads p [] refl);
-  flag = l.flag;
-  entries = l.entries;
-  settings = l.settings;
-  picked = l.picked;
-  answered = λ m. record {
-    memory = l.memory;
-    parts = λ p. subst (λ xs. PartByPart (client_of old) ds xs) (append-nil (exchanges_of p l.events)) (l.leads p [] refl);
-    tells = λ faults agrees p. (l.behind p, sym (append-nil (args_sent (exchanges_of p l.events))) ∙ l.sent p, l.replied p);
-  };
-  room = λ lacks some. cc;
-  unanswered = λ lacks some. cc;
-}
+parts_done old now ds trees l = parts_by old now ds (Ok trees) l.events l.grown (stops-had l.events l.memory) l.single (λ p. ([], l.leads p [] refl)) (λ m. record {
+  memory = l.memory;
+  parts = λ p. subst (λ xs. PartByPart (client_of old) ds xs) (append-nil (exchanges_of p l.events)) (l.leads p [] refl);
+  tells = λ faults agrees p. (l.behind p, sym (append-nil (args_sent (exchanges_of p l.events))) ∙ l.sent p, l.replied p);
+})
+    (λ lacks some. cc)
 
 module _ (old now new : World) (ds : List Dispatch) (d : Dispatch) (rest : List Dispatch) (trees : List Tree) (l : PartLoop old now ds (d ∷ rest) trees) where
   abbrev client : Client
   client = client_of old
 
-  same_client : client_of now ≡ client
-  same_client = let s = l.settings in let e = l.entries in let o = l.opens in λ i. record { settings = s i; entries = e i; links = o i }
+  same : client_of now ≡ client
+  same = same_client old now l.events l.grown l.opens
 
   abbrev PartMade : Result Tree Refusal → Type 0
   PartMade r = ChainMade now new (first_hop d) d.args r
@@ -309,27 +266,17 @@ module _ (old now new : World) (ds : List Dispatch) (d : Dispatch) (rest : List 
     both : (p : ℕ) → exchanges_of p more_events ≡ before p ++ here p
     both p = exchanges-append l.events m.events p
 
-    runs_more : Runs old.nodes new.nodes more_events
-    runs_more = Runs-append old.nodes now.nodes new.nodes l.events m.events l.runs m.runs
-
-    logged_more : new.log ≡ old.log ++ log_of more_events
-    logged_more =
-        m.logged ∙ ap (λ qs. qs ++ log_of m.events) l.logged ∙ append_assoc old.log (log_of l.events) (log_of m.events)
-        ∙ ap (λ qs. old.log ++ qs) (sym (log-append l.events m.events))
-
-    flag_more : new.needs_refresh ≡ (old.needs_refresh || answered_moved more_events)
-    flag_more =
-        m.flag ∙ ap (λ b. b || answered_moved m.events) l.flag ∙ sym (or_assoc old.needs_refresh (answered_moved l.events) (answered_moved m.events))
-        ∙ ap (λ b. old.needs_refresh || b) (sym (moved-append l.events m.events))
+    grown_here : Grown old new more_events
+    grown_here = grown_more old now new l.events m.events l.grown (record { runs = m.runs; logged = m.logged; flag = m.flag; keeps = record { entries = m.entries; settings = m.settings; picked = m.picked } })
 
     begins_more : (p : ℕ) → (later : List Exchange) × PartByPart client ds (exchanges_of p more_events ++ later)
     begins_more p =
         let begun = m.begins (p + length (log_of l.events)) in
-        let chain = subst (λ c. IsChain c (first_hop d) d.args (here p ++ begun.0)) same_client begun.1 in
+        let chain = subst (λ c. IsChain c (first_hop d) d.args (here p ++ begun.0)) same begun.1 in
         let more = extends client.links client.settings.budget (first_hop d) d.args (PartByPart client rest) (some_parts client rest) (here p ++ begun.0) chain in
-        let same : before p ++ ((here p ++ begun.0) ++ more.0) ≡ exchanges_of p more_events ++ (begun.0 ++ more.0) =
+        let joined : before p ++ ((here p ++ begun.0) ++ more.0) ≡ exchanges_of p more_events ++ (begun.0 ++ more.0) =
         ap (λ xs. before p ++ xs) (append_assoc (here p) begun.0 more.0) ∙ sym (append_assoc (before p) (here p) (begun.0 ++ more.0)) ∙ ap (λ xs. xs ++ (begun.0 ++ more.0)) (sym (both p)) in
-        (begun.0 ++ more.0, subst (λ xs. PartByPart client ds xs) same (l.leads p ((here p ++ begun.0) ++ more.0) more.1))
+        (begun.0 ++ more.0, subst (λ xs. PartByPart client ds xs) joined (l.leads p ((here p ++ begun.0) ++ more.0) more.1))
 
     -- with a part that is not answered nothing more is to be sent
     unanswered_parts : ((p : ℕ) → IsUnanswered client (first_hop d) d.args (exchanges_of p m.events)) → (p : ℕ) → PartByPart client ds (exchanges_of p more_events)
@@ -340,35 +287,23 @@ module _ (old now new : World) (ds : List Dispatch) (d : Dispatch) (rest : List 
     room_more : r ≡ Err (by_cause Memory) → LacksWhere client.links more_events ((p : ℕ) → PartByPart client ds (exchanges_of p more_events))
     room_more lacks =
         lacks_behind client.links l.events m.events unanswered_parts
-        (subst (λ c. LacksWhere c.links m.events ((p : ℕ) → IsUnanswered c (first_hop d) d.args (exchanges_of p m.events))) same_client (m.room lacks))
+        (subst (λ c. LacksWhere c.links m.events ((p : ℕ) → IsUnanswered c (first_hop d) d.args (exchanges_of p m.events))) same (m.room lacks))
 
     -- the parts before this one were answered, and no other
     fewer : r ≡ Err (by_cause Memory) → (p : ℕ) → length (filter is_answered (exchanges_of p more_events)) < length ds
     fewer lacks p =
         let answered : filter is_answered (exchanges_of p more_events) ≡ filter is_answered (before p) =
         ap (λ xs. filter is_answered xs) (both p) ∙ filter-append is_answered (before p) (here p) ∙ ap (λ xs. filter is_answered (before p) ++ xs) (filter-none (here p) (m.unanswered lacks (p + length (log_of l.events)))) ∙ append-nil (filter is_answered (before p)) in
-        let same : length (filter is_answered (exchanges_of p more_events)) ≡ length (filter is_answered (before p)) = ap length answered in
+        let sized : length (filter is_answered (exchanges_of p more_events)) ≡ length (filter is_answered (before p)) = ap length answered in
         let counted : length (args_sent (before p)) ≡ length (filter is_answered (before p)) = length-map _ _ in
         let all : length (args_sent (before p) ++ args_of (d ∷ rest)) ≡ length (args_sent (before p)) + length (args_of (d ∷ rest)) = length-append (args_sent (before p)) (args_of (d ∷ rest)) in
         let whole : length (args_sent (before p) ++ args_of (d ∷ rest)) ≡ length ds = ap length (l.sent p) ∙ length-map _ _ in
-        omega (arith, same, counted, all, whole)
+        omega (arith, sized, counted, all, whole)
 
     parts_made : (result : Result (List Tree) Refusal) → (result ≢ Err (by_cause Memory) → PartsAnswered old new ds more_events result) → (result ≡ Err (by_cause Memory) → r ≡ Err (by_cause Memory)) → PartsMade old new ds result
-    parts_made result answered alike = record {
-      events = more_events;
-      runs = runs_more;
-      stops = stops-append l.events m.events l.memory m.stops;
-      logged = logged_more;
-      single = all-append l.events m.events l.single m.single;
-      begins = begins_more;
-      flag = flag_more;
-      entries = m.entries ∙ l.entries;
-      settings = m.settings ∙ l.settings;
-      picked = m.picked ∙ l.picked;
-      answered = answered;
-      room = λ lacks some. room_more (alike lacks);
-      unanswered = λ lacks some p. fewer (alike lacks) p;
-    }
+    parts_made result answered alike =
+        parts_by old new ds result more_events grown_here (stops-append l.events m.events l.memory m.stops) (all-append IsSingle l.events m.events l.single m.single) begins_more answered
+        (λ lacks some. (room_more (alike lacks), λ p. fewer (alike lacks) p))
 
   -- the part was refused, or memory was
   pub parts_refused : (e : Refusal) → PartMade (Err e) → PartsMade old new ds (Err e)
@@ -376,7 +311,7 @@ module _ (old now new : World) (ds : List Dispatch) (d : Dispatch) (rest : List 
       let a = m.answered (λ k. had (ap one_reply k)) in
       let at = λ (p : ℕ). p + length (log_of l.events) in
       let none = λ (p : ℕ). (a.tells (faults_of m.events) (agrees now.nodes new.nodes m.events m.runs) (at p)).0 in
-      let chain = λ (p : ℕ). subst (λ c. IsChain c (first_hop d) d.args (exchanges_of (at p) m.events)) same_client (a.chain (at p)) in
+      let chain = λ (p : ℕ). subst (λ c. IsChain c (first_hop d) d.args (exchanges_of (at p) m.events)) same (a.chain (at p)) in
       record {
         memory = memory-append l.events m.events l.memory a.memory;
         parts = λ p. subst (λ xs. PartByPart client ds xs) (sym (both (Err e) m p)) (l.leads p (exchanges_of (at p) m.events)
@@ -385,7 +320,7 @@ module _ (old now new : World) (ds : List Dispatch) (d : Dispatch) (rest : List 
             let told = a.tells faults (Agrees-back faults l.events m.events agreed) (at p) in
             ap (λ xs. part_refusal client faults (behind_answers xs)) (both (Err e) m p)
             ∙ ap (λ xs. part_refusal client faults xs) (behind_more (exchanges_of p l.events) (exchanges_of (at p) m.events) (l.behind p) ∙ none_behind (exchanges_of (at p) m.events) told.0)
-            ∙ ap (λ c. part_refusal c faults (exchanges_of (at p) m.events)) (sym same_client) ∙ told.1;
+            ∙ ap (λ c. part_refusal c faults (exchanges_of (at p) m.events)) (sym same) ∙ told.1;
       })
       (λ lacks. let memory : e ≡ by_cause Memory = cc in ap (λ k. Err k) memory)
 
@@ -395,15 +330,14 @@ module _ (old now new : World) (ds : List Dispatch) (d : Dispatch) (rest : List 
       let a = m.answered (λ k. cc k) in
       let at = λ (p : ℕ). p + length (log_of l.events) in
       let told = λ (p : ℕ). a.tells (faults_of m.events) (agrees now.nodes new.nodes m.events m.runs) p in
-      let chain = λ (p : ℕ). subst (λ c. IsChain c (first_hop d) d.args (exchanges_of p m.events)) same_client (a.chain p) in
+      let chain = λ (p : ℕ). subst (λ c. IsChain c (first_hop d) d.args (exchanges_of p m.events)) same (a.chain p) in
       let answered = λ (p : ℕ). ap (λ xs. filter is_answered xs) (both (Ok tree) m p) ∙ filter-append is_answered (exchanges_of p l.events) (exchanges_of (at p) m.events) in
       let args_here = λ (p : ℕ). all_same d.args (exchanges_of (at p) m.events) (have_args client.links client.settings.budget (first_hop d) d.args (exchanges_of (at p) m.events) (chain (at p)))
       ∙ only_args d.args (filter is_answered (exchanges_of (at p) m.events)) tree (told (at p)).1 in
       record {
         events = l.events ++ m.events;
-        runs = runs_more (Ok tree) m;
-        logged = logged_more (Ok tree) m;
-        single = all-append l.events m.events l.single m.single;
+        grown = grown_here (Ok tree) m;
+        single = all-append IsSingle l.events m.events l.single m.single;
         memory = memory-append l.events m.events l.memory a.memory;
         leads = λ p more h. subst (λ xs. PartByPart client ds xs) (sym (append_assoc (exchanges_of p l.events) (exchanges_of (at p) m.events) more) ∙ ap (λ xs. xs ++ more) (sym (both (Ok tree) m p)))
             (l.leads p (exchanges_of (at p) m.events ++ more)
@@ -418,10 +352,6 @@ module _ (old now new : World) (ds : List Dispatch) (d : Dispatch) (rest : List 
             ap (λ xs. map reply_or_nil xs) (answered p) ∙ map-append reply_or_nil (filter is_answered (exchanges_of p l.events)) (filter is_answered (exchanges_of (at p) m.events))
             ∙ ap (λ ts. ts ++ map reply_or_nil (filter is_answered (exchanges_of (at p) m.events))) (l.replied p) ∙ ap (λ ts. trees ++ ts) (told (at p)).1;
         opens = links_stay now.nodes new.nodes m.events m.runs (λ k. none_lost client.links client.settings.budget (first_hop d) d.args (exchanges_of 0 m.events) (chain 0) (told 0).0 k) ∙ l.opens;
-        flag = flag_more (Ok tree) m;
-        entries = m.entries ∙ l.entries;
-        settings = m.settings ∙ l.settings;
-        picked = m.picked ∙ l.picked;
       }
 
 -- ---- places stay where they were
@@ -436,9 +366,9 @@ place_same (n ∷ ns) (m ∷ ms) a e =
     ap (λ k. cond (same_address k a) (Some 0) (option_map (λ i. i + 1) (place_at ns a))) first ∙ ap (λ o. cond (same_address m.address a) (Some 0) (option_map (λ i. i + 1) o)) (place_same ns ms a later)
 
 -- a place of an open link is one over a run of parts that were answered
-pub still_placed : {old now : World} {ds rest : List Dispatch} {trees : List Tree} → PartLoop old now ds rest trees → (node : Address) (which : ℕ) → IsOpenAt old.nodes node which → IsOpenAt now.nodes node which
-still_placed {old = old} {now = now} l node which at = record {
-  place = place_same now.nodes old.nodes node (addresses old.nodes now.nodes l.events l.runs) ∙ at.place;
+pub still_placed : {old now : World} {ds rest : List Dispatch} {trees : List Tree} → PartLoop old now ds rest trees → (node : Address) (link : ℕ) → IsOpenAt old.nodes node link → IsOpenAt now.nodes node link
+still_placed {old = old} {now = now} l node link at = record {
+  place = place_same now.nodes old.nodes node (addresses old.nodes now.nodes l.events l.grown.runs) ∙ at.place;
   linked = ap (λ links. is_linked links node) l.opens ∙ at.linked;
 }
 

@@ -175,30 +175,30 @@ module _ (old new : World) (node : Address) (linked : is_linked (open_links old.
 
 -- ---- the same from what the code says of its exchange
 
-module _ (old new : World) (node : Address) (which : ℕ) (at : IsOpenAt old.nodes node which) (before : List Request) (none : before ≡ []) (q : Request) (is : q ≡ slots_to node)
+module _ (old new : World) (node : Address) (link : ℕ) (at : IsOpenAt old.nodes node link) (before : List Request) (none : before ≡ []) (q : Request) (is : q ≡ slots_to node)
     (settings : new.settings ≡ old.settings) (picks : new.picked ≡ []) where
   abbrev pub Exchanged : Result Tree Refusal → Type 0
-  Exchanged result = Exchanges old.nodes new.nodes which before new.log (q ∷ []) (skipped q.asking) 1 (one_reply result)
+  Exchanged result = Exchanges old.nodes new.nodes link before new.log (q ∷ []) (skipped q.asking) 1 (one_reply result)
 
-  asked : (result : Result Tree Refusal) → Exchanged result → Exchanges old.nodes new.nodes which before new.log (slots_to node ∷ []) 0 1 (one_reply result)
-  asked result x = subst (λ p. Exchanges old.nodes new.nodes which before new.log (p ∷ []) (skipped p.asking) 1 (one_reply result)) is x
+  asked : (result : Result Tree Refusal) → Exchanged result → Exchanges old.nodes new.nodes link before new.log (slots_to node ∷ []) 0 1 (one_reply result)
+  asked result x = subst (λ p. Exchanges old.nodes new.nodes link before new.log (p ∷ []) (skipped p.asking) 1 (one_reply result)) is x
 
   logged_one : new.log ≡ before ++ slots_to node ∷ [] → new.log ≡ slots_to node ∷ []
   logged_one log = log ∙ ap (λ qs. qs ++ slots_to node ∷ []) none
 
   pub exchange_err : (e : Refusal) → Exchanged (Err e) → new.entries ≡ old.entries → new.needs_refresh ≡ old.needs_refresh → CallMade None old new (Refresh node) (Err e)
-  exchange_err e x r f = elim (exchanged_one old.nodes new.nodes which before new.log (slots_to node) (Err e) at (asked (Err e) x)) as (λ _. CallMade None old new (Refresh node) (Err e)) [
+  exchange_err e x r f = elim (exchanged_one old.nodes new.nodes link before new.log (slots_to node) (Err e) at (asked (Err e) x)) as (λ _. CallMade None old new (Refresh node) (Err e)) [
     | inl same ↦ let memory : by_cause Memory ≡ e = cc (same.2) in
         subst (λ k. CallMade None old new (Refresh node) (Err k)) memory (not_begun None old new (Refresh node) (record { nodes = same.0; log = same.1 ∙ none; entries = r; settings = settings; flag = f }) picks)
     | inr made ↦ refresh_failed old new node at.linked (logged_one made.0) settings picks e made.1 r f
   ]
 
 -- an answered exchange
-pub exchange_ok : (old new : List Node) (node : Address) (which : ℕ) → IsOpenAt old node which → (before log : List Request) → before ≡ [] → (q : Request) → q ≡ slots_to node → (tree : Tree)
-    → Exchanges old new which before log (q ∷ []) (skipped q.asking) 1 (one_reply (Ok tree)) → (log ≡ slots_to node ∷ []) × OneMade old new (slots_to node) (Ok tree)
-exchange_ok old new node which at before log none q is tree x =
-    let asked = subst (λ p. Exchanges old new which before log (p ∷ []) (skipped p.asking) 1 (one_reply (Ok tree))) is x in
-    elim (exchanged_one old new which before log (slots_to node) (Ok tree) at asked) as (λ _. (log ≡ slots_to node ∷ []) × OneMade old new (slots_to node) (Ok tree)) [
+pub exchange_ok : (old new : List Node) (node : Address) (link : ℕ) → IsOpenAt old node link → (before log : List Request) → before ≡ [] → (q : Request) → q ≡ slots_to node → (tree : Tree)
+    → Exchanges old new link before log (q ∷ []) (skipped q.asking) 1 (one_reply (Ok tree)) → (log ≡ slots_to node ∷ []) × OneMade old new (slots_to node) (Ok tree)
+exchange_ok old new node link at before log none q is tree x =
+    let asked = subst (λ p. Exchanges old new link before log (p ∷ []) (skipped p.asking) 1 (one_reply (Ok tree))) is x in
+    elim (exchanged_one old new link before log (slots_to node) (Ok tree) at asked) as (λ _. (log ≡ slots_to node ∷ []) × OneMade old new (slots_to node) (Ok tree)) [
       | inl same ↦ cc (same.2)
       | inr made ↦ (made.0 ∙ ap (λ qs. qs ++ slots_to node ∷ []) none, made.1)
     ]

@@ -1,22 +1,18 @@
 -- Which nodes are lost in a run of link calls: those whose link call failed.
-use Rattle.std.specs.Prelude.{drop, ◌&&◌, ◌||◌}
-use Rattle.std.proofs.Common.{◌≡◌, ◌≢◌, ℕ, suc, ◌+◌, Bool, true, false, cond, List, [], ◌∷◌, ◌++◌, map, length, length-append, append_assoc, Some, Err, refl, sym, ap, ◌∙◌, subst, arith}
+use Rattle.std.specs.Prelude.{◌||◌}
+use Rattle.std.proofs.Common.{◌≡◌, ℕ, ◌+◌, Bool, true, false, cond, List, [], ◌∷◌, length, Some, Err, refl, sym, ap, ◌∙◌, subst}
 use Rattle.std.proofs.lemmas.Bool.{false≢true}
-use Rattle.std.proofs.lemmas.List.{map-append}
-use Rattle.resp_core.specs.Trees.{Tree}
 use Rattle.resp_core.specs.Errors.{Refusal}
 use Rattle.resp_link.specs.Replies.{replies_of}
 use Rattle.cluster_routing.specs.Address.{Address, same_address}
 use Rattle.cluster_calls.specs.Links.EachMade.{refusal_by, refusals_of}
 use Rattle.cluster_calls.specs.Links.Events.{Event, Ending, answers, fails, EndsBy, LinkCalled, Runs, exchanges_at, exchanges_of, is_answer_ending}
 use Rattle.cluster_calls.specs.Links.Faults.{io, grammar, no_memory}
-use Rattle.cluster_calls.specs.Links.Log.{Exchange, requests, has_lost}
-use Rattle.cluster_calls.specs.Links.Request.{Request, skipped}
+use Rattle.cluster_calls.specs.Links.Log.{has_lost}
 use Rattle.cluster_calls.specs.Links.World.{Node, link_at, is_usable}
 use Rattle.cluster_calls.specs.Calls.Each.{lost, fate_of}
-use Rattle.cluster_calls.proofs.LinkLaws.Addresses.{same_true, same_refl}
+use Rattle.cluster_calls.proofs.LinkLaws.Addresses.{same_true}
 use Rattle.cluster_calls.proofs.LinkLaws.EndLaws.{ends_pairs, ends_usable, ends_was_open}
-use Rattle.cluster_calls.proofs.LinkLaws.EventLists.{exchanged}
 use Rattle.cluster_calls.proofs.LinkLaws.LinkPlaces.{set_other}
 use Rattle.cluster_calls.proofs.LinkLaws.LinkRuns.{link_behind}
 use Rattle.cluster_calls.proofs.LinkLaws.NodeLaws.{lost_here}

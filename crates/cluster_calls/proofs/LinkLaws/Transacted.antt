@@ -21,7 +21,6 @@ use Rattle.cluster_calls.specs.Calls.Plan.{Client, Dispatch, dispatches, plan}
 use Rattle.cluster_calls.specs.Calls.Redirects.{Next, Stays, Lost, Goes}
 use Rattle.cluster_calls.specs.Calls.Refusals.{refusal_in}
 use Rattle.cluster_calls.specs.Calls.Replies.{only_reply, transaction_reply}
-use Rattle.cluster_calls.specs.Calls.Task.{transaction_of}
 use Rattle.cluster_calls.specs.Calls.Transactions.{answers, attempt_answer, attempt_count, commands_answer, dispatches_to, error_or_bad, exec_reply, first_own_error, first_to, is_okay, last_attempt, lost_refusal, multi_reply, next_attempt, replies_in, sent_answer, size, unless_lost}
 use Rattle.cluster_calls.specs.Links.AttemptRuns.{AttemptsMade}
 use Rattle.cluster_calls.specs.Links.Converted.{ReplyMade, value_answer}
@@ -32,9 +31,9 @@ use Rattle.cluster_calls.specs.Links.Request.{exec, multi}
 use Rattle.cluster_calls.specs.Links.Run.{with_log}
 use Rattle.cluster_calls.specs.Links.World.{World, is_linked}
 use Rattle.cluster_calls.proofs.LinkLaws.LackingLists.{may_lack, some_events, value_lacked}
-use Rattle.cluster_calls.proofs.LinkLaws.LinkCalls.{link_calls_made}
 use Rattle.cluster_calls.proofs.LinkLaws.MovedLaws.{answered_plain}
 use Rattle.cluster_calls.proofs.LinkLaws.OneCommand.{Untouched, nothing_happened, refused_by, relogged_untouched, reply_not_sent}
+use Rattle.cluster_calls.proofs.LinkLaws.PartedCalls.{happened_by}
 use Rattle.cluster_calls.proofs.LinkLaws.Played.{call_made}
 
 -- ---- the plan, by the one slot of the commands
@@ -258,18 +257,9 @@ module _ (strategy : Option Strategy) (old new : World) (commands : List Command
   picks = subst (ArePicks strategy (client_of old) (Transaction commands)) (sym none) (no_picks strategy (client_of old) commands)
 
   abbrev happened : Happened strategy old new (Transaction commands)
-  happened = record {
-    events = a.events;
-    runs = a.runs;
-    stops = λ e. a.stops;
-    logged = a.logged;
-    calls = λ b. link_calls_made old.nodes new.nodes a.events (transaction_of commands) a.runs a.attempts b;
-    picks = λ any. picks;
-    begins = λ any place. record { later = (a.begins place).0; legal = rw planned ((a.begins place).1) };
-    settings = a.settings;
-    map_stays = λ n. a.entries;
-    flag = λ n. a.flag;
-  }
+  happened =
+      happened_by strategy old new (Transaction commands) [] a.events (record { runs = a.runs; logged = a.logged; flag = a.flag; keeps = record { entries = a.entries; settings = a.settings; picked = a.picked } }) a.stops a.attempts picks
+      (λ place. record { later = (a.begins place).0; legal = rw planned ((a.begins place).1) })
 
   answered : value_answer reply ≢ Err (by_cause Memory) → Answered strategy old new (Transaction commands) a.events (value_answer reply)
   answered m =

@@ -23,9 +23,9 @@ use Rattle.cluster_calls.specs.Calls.Parts.{Part, fits_order, if_ordered, parts_
 use Rattle.cluster_calls.specs.Calls.Picks.{ArePicks, ArePicksOf}
 use Rattle.cluster_calls.specs.Calls.Plan.{Client, Dispatch, First, call_parts, dispatch_one, dispatches, first_of, in_order, order_of, plan, with_first}
 use Rattle.cluster_calls.specs.Calls.Refusals.{sent_refusal}
-use Rattle.cluster_calls.specs.Calls.Task.{early_refusal, one_command, task_of}
+use Rattle.cluster_calls.specs.Calls.Task.{early_refusal, one_command, task_of, Task}
 use Rattle.cluster_calls.specs.Calls.TaskParts.{task_parts}
-use Rattle.cluster_calls.proofs.LinkLaws.PlainAnswers.{by_task}
+use Rattle.cluster_calls.proofs.LinkLaws.PlainAnswers.{by_task, is_positions}
 use Rattle.cluster_calls.proofs.LinkLaws.Played.{plain_played}
 use Rattle.cluster_calls.proofs.LogLaws.Plans.{IsFor, dispatches_for}
 use Rattle.cluster_calls.proofs.LogLaws.SentOnce.{pair_length}
@@ -79,9 +79,49 @@ no_ordered : (order : Option (List ℕ)) (ds : List Dispatch) → fits_order ord
 no_ordered None ds f e = e
 no_ordered (Some order) ds f e = no_taken ds order f e
 
+-- ---- a call whose parts are sent one after another
+
+module _ (strategy : Option Strategy) (client : Client) (picks : List Address) (call : Call) (task : Task) (is : task_of call ≡ task)
+    (unparted : (parts : List Part) → call_parts client call ≡ Ok parts → result_then (dispatches client picks parts) (λ ds. Ok (in_order (order_of task) ds)) ≡ Ok [] → parts ≡ [])
+    (goes : (ds : List Dispatch) → AreMade client task ds [] → PartByPart client ds []) where
+  no_picks : (s : Option Strategy) → plan client picks call ≡ Ok [] → ArePicks s client call picks → picks ≡ []
+  no_picks None p are = are
+  no_picks (Some admits) p are = by (call_parts client call) refl p are
+    where
+      by : (r : Result (List Part) Refusal) → call_parts client call ≡ r → result_then r (λ parts. result_then (dispatches client picks parts) (λ ds. Ok (in_order (order_of (task_of call)) ds))) ≡ Ok [] → ArePicksOf admits client r picks → picks ≡ []
+      by (Err refusal) e k h = cc
+      by (Ok parts) e k h =
+          let none = unparted parts e (subst (λ t. result_then (dispatches client picks parts) (λ ds. Ok (in_order (order_of t) ds)) ≡ Ok []) is k) in
+          subst (λ ps. ArePicksOf admits client (Ok ps) picks) none h
+
+  unsent_unpicked : (faults : Address → LinkFault) (a : Answer) → IsLegalCall client picks call [] → Ok a ≡ answer_of client picks faults call [] → ArePicks strategy client call picks → picks ≡ []
+  unsent_unpicked faults a legal answered are = by (plan client picks call) refl legal answered
+    where
+      told : List Dispatch → Result Answer Refusal
+      told ds = unless (sent_refusal client faults (task_of call) []) (or_bad_reply (call_answer faults call []))
+
+      made : (ds : List Dispatch) → PartByPart client ds [] → ds ≡ []
+      made [] h = refl
+      made (d ∷ ds) h = absurd h
+
+      by : (r : Result (List Dispatch) Refusal) → plan client picks call ≡ r → MatchResult r (λ ds. AreMade client (task_of call) ds []) (λ refusal. no_exchanges ≡ []) → Ok a ≡ result_then r told → picks ≡ []
+      by (Err refusal) p h k = cc
+      by (Ok ds) p h k = no_picks strategy (p ∙ ap (λ es. Ok es) (made ds (goes ds (subst (λ t. AreMade client t ds []) is h)))) are
+
+-- one that was answered without a request shows no picks
+pub parts_unpicked : (strategy : Option Strategy) (old new : World) (call : Call) (task : Task) → task_of call ≡ task → is_positions task ≡ false
+    → ((parts : List Part) → call_parts (client_of old) call ≡ Ok parts → result_then (dispatches (client_of old) new.picked parts) (λ ds. Ok (in_order (order_of task) ds)) ≡ Ok [] → parts ≡ []) → ((ds : List Dispatch) → AreMade (client_of old) task ds [] → PartByPart (client_of old) ds [])
+    → (a : Answer) → CallMade strategy old new call (Ok a) → new.log ≡ [] → new.picked ≡ []
+parts_unpicked strategy old new call task is plain unparted goes a m none =
+    let p = plain_played strategy old new call (Ok a) (by_task call task is plain) m (λ k. cc k) in
+    unsent_unpicked strategy (client_of old) new.picked call task is unparted goes p.faults a
+    (subst (λ qs. IsLegalCall (client_of old) new.picked call (log_with_replies (taken_of m.happened.events) qs)) none p.legal)
+    (subst (λ qs. Ok a ≡ answer_of (client_of old) new.picked p.faults call (log_with_replies (taken_of m.happened.events) qs)) none p.answered)
+    (m.answered (λ k. cc k)).picks
+
 -- ---- a command
 
-module _ (strategy : Option Strategy) (client : Client) (picks : List Address) (call : Call) (command : Command) (number : ℕ) (order : Option (List ℕ)) (task : task_of call ≡ one_command command number order) where
+module _ (client : Client) (picks : List Address) (call : Call) (command : Command) (number : ℕ) (order : Option (List ℕ)) (task : task_of call ≡ one_command command number order) where
   fits : (parts : List Part) → call_parts client call ≡ Ok parts → fits_order order (length parts) ≡ true
   fits parts e = by_early (early_refusal call) (subst (λ t. unless (early_refusal call) (task_parts client.settings.read_only client.entries t) ≡ Ok parts) task e)
     where
@@ -104,36 +144,9 @@ module _ (strategy : Option Strategy) (client : Client) (picks : List Address) (
       let none = no_ordered order ds (subst (λ n. fits_order order n ≡ true) (pair_length IsFor parts ds (dispatches_for client parts picks ds d)) (fits parts e)) sent in
       no_parts client picks parts (d ∙ ap (λ es. Ok es) none)
 
-  no_picks : (s : Option Strategy) → plan client picks call ≡ Ok [] → ArePicks s client call picks → picks ≡ []
-  no_picks None p are = are
-  no_picks (Some admits) p are = by (call_parts client call) refl p are
-    where
-      by : (r : Result (List Part) Refusal) → call_parts client call ≡ r → result_then r (λ parts. result_then (dispatches client picks parts) (λ ds. Ok (in_order (order_of (task_of call)) ds))) ≡ Ok [] → ArePicksOf admits client r picks → picks ≡ []
-      by (Err refusal) e k h = cc
-      by (Ok parts) e k h =
-          let none = unparted parts e (dispatches client picks parts) refl (subst (λ t. result_then (dispatches client picks parts) (λ ds. Ok (in_order (order_of t) ds)) ≡ Ok []) task k) in
-          subst (λ ps. ArePicksOf admits client (Ok ps) picks) none h
-
-  pub unsent_unpicked : (faults : Address → LinkFault) (a : Answer) → IsLegalCall client picks call [] → Ok a ≡ answer_of client picks faults call [] → ArePicks strategy client call picks → picks ≡ []
-  unsent_unpicked faults a legal answered are = by (plan client picks call) refl legal answered
-    where
-      told : List Dispatch → Result Answer Refusal
-      told ds = unless (sent_refusal client faults (task_of call) []) (or_bad_reply (call_answer faults call []))
-
-      made : (ds : List Dispatch) → PartByPart client ds [] → ds ≡ []
-      made [] h = refl
-      made (d ∷ ds) h = absurd h
-
-      by : (r : Result (List Dispatch) Refusal) → plan client picks call ≡ r → MatchResult r (λ ds. AreMade client (task_of call) ds []) (λ refusal. no_exchanges ≡ []) → Ok a ≡ result_then r told → picks ≡ []
-      by (Err refusal) p h k = cc
-      by (Ok ds) p h k = no_picks strategy (p ∙ ap (λ es. Ok es) (made ds (subst (λ t. AreMade client t ds []) task h))) are
-
 -- a command that was answered without a request shows no picks
 pub answered_unpicked : (strategy : Option Strategy) (old new : World) (call : Call) (command : Command) (number : ℕ) (order : Option (List ℕ)) → task_of call ≡ one_command command number order → (a : Answer)
     → CallMade strategy old new call (Ok a) → new.log ≡ [] → new.picked ≡ []
-answered_unpicked strategy old new call command number order task a m none =
-    let p = plain_played strategy old new call (Ok a) (by_task call (one_command command number order) task refl) m (λ k. cc k) in
-    unsent_unpicked strategy (client_of old) new.picked call command number order task p.faults a
-    (subst (λ qs. IsLegalCall (client_of old) new.picked call (log_with_replies (taken_of m.happened.events) qs)) none p.legal)
-    (subst (λ qs. Ok a ≡ answer_of (client_of old) new.picked p.faults call (log_with_replies (taken_of m.happened.events) qs)) none p.answered)
-    (m.answered (λ k. cc k)).picks
+answered_unpicked strategy old new call command number order task =
+    parts_unpicked strategy old new call (one_command command number order) task refl
+    (λ parts e. unparted (client_of old) new.picked call command number order task parts e (dispatches (client_of old) new.picked parts) refl) (λ ds h. h)

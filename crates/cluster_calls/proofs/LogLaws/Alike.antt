@@ -2,8 +2,7 @@
 use Rattle.std.proofs.Common.{◌≡◌, ℕ, zero, suc, ◌-◌, ◌==◌, ◌||◌, Bool, true, false, cond, List, [], ◌∷◌, map, filter, length, take, drop, Option, Some, None, option_map, Result, Ok, Err, MatchResult, refl, sym, ap, ◌∙◌, subst}
 use Rattle.std.specs.Prelude.{MatchBool, option_and_then, unwrap_or, is_none}
 use Rattle.std.specs.List.{list_any}
-use Rattle.resp_core.specs.Trees.{Tree, nil, int, bulk, array, simple, okay, attribute, set, double, boolean, verbatim, big_number, push, server_error, ErrorText}
-use Rattle.resp_core.specs.Trees.{map as map_tree}
+use Rattle.resp_core.specs.Trees.{Tree, nil, server_error, ErrorText}
 use Rattle.resp_core.specs.Parts.{first_error}
 use Rattle.resp_core.specs.Errors.{Refusal, by_server, server_kind}
 use Rattle.resp_args.specs.Command.{Command}
@@ -40,21 +39,8 @@ sort_by None first = inner_sort first
 
 sort_is : (t : Tree) → sort_of t ≡ sort_by (own_error t) (first_error t)
 unfolding sort_by
-sort_is nil = refl
-sort_is (int n) = refl
-sort_is (bulk b) = refl
-sort_is (array ts) = refl
-sort_is (simple s) = refl
-sort_is okay = refl
-sort_is (map_tree ps) = refl
-sort_is (attribute t ps) = refl
-sort_is (set ts) = refl
-sort_is (double s) = refl
-sort_is (boolean b) = refl
-sort_is (verbatim f s) = refl
-sort_is (big_number b) = refl
-sort_is (push k ts) = refl
 sort_is (server_error err) = refl
+sort_is t = refl
 
 pub record SameErrors (t u : Tree) : Type 0 where
   pub sort : sort_of t ≡ sort_of u

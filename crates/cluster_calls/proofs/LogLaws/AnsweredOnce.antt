@@ -16,19 +16,9 @@ use Rattle.cluster_calls.specs.Links.Log.{behind_answers}
 use Rattle.cluster_calls.specs.Calls.Refusals.{part_refusal, sent_refusal}
 use Rattle.cluster_calls.specs.Calls.Task.{Task, slot_map_of, one_command, pipeline_of, positions_of, several_nodes, one_node, read_of, transaction_of}
 use Rattle.cluster_calls.specs.OneServer.Laws.{is_in_parts, is_redirect_sort, is_redirect_reply, is_redirected}
-use Rattle.cluster_calls.proofs.LogLaws.Repeats.{redirect_reply}
+use Rattle.cluster_calls.proofs.LogLaws.Repeats.{redirect_reply, redirect_no_data}
 use Rattle.cluster_calls.proofs.ServerLaws.Counted.{parts_done}
 use Rattle.cluster_calls.proofs.ServerLaws.Grouping.{filter-same}
-
-redirect_sort : (s : Sort) → is_redirect_sort s ≡ true → is_data s ≡ false
-redirect_sort (Moved e) h = refl
-redirect_sort (Ask e) h = refl
-redirect_sort (Failed e) h = refl
-redirect_sort Data h = absurd (false≢true h)
-
-redirect_no_data : (r : Option Tree) → is_redirect_reply r ≡ true → is_data_reply r ≡ false
-redirect_no_data None h = refl
-redirect_no_data (Some tree) h = redirect_sort (sort_of tree) h
 
 data_sort : (s : Sort) → is_data s ≡ true → is_redirect_sort s ≡ false
 data_sort (Moved e) h = absurd (false≢true h)

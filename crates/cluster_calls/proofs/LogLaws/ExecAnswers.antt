@@ -1,15 +1,15 @@
 -- When the reply to EXEC is not the answer to a transaction.
 use Rattle.std.specs.Prelude.{◌&&◌, ◌||◌, is_none}
-use Rattle.std.proofs.Common.{◌≡◌, ℕ, zero, suc, ◌-◌, Bool, true, false, cond, List, [], ◌∷◌, drop, Option, Some, None, Result, Ok, Err, refl, sym, ap, ◌∙◌}
+use Rattle.std.proofs.Common.{◌≡◌, ℕ, zero, suc, ◌-◌, Bool, true, false, cond, List, [], ◌∷◌, drop, Option, Some, None, Err, refl, sym, ap, ◌∙◌}
 use Rattle.std.proofs.lemmas.Bool.{false≢true}
-use Rattle.resp_core.specs.Errors.{Refusal, by_cause}
+use Rattle.resp_core.specs.Errors.{by_cause}
 use Rattle.resp_core.specs.Parts.{first_error, or_else}
 use Rattle.resp_core.specs.Trees.{Tree, ErrorText, nil, int, bulk, array, simple, okay, map, attribute, set, double, boolean, verbatim, big_number, push, server_error}
 use Rattle.resp_core.specs.declared.errors.redis_error.Cause.TheVariants.{Memory}
 use Rattle.cluster_routing.specs.Address.{Address}
 use Rattle.cluster_routing.specs.Policies.{or_bad_reply}
 use Rattle.cluster_calls.specs.Calls.Redirects.{Hop, Goes, next_of}
-use Rattle.cluster_calls.specs.Calls.Transactions.{Fate, done, not_done, may_be_done, answers, attempt_answer, error_or_bad, exec_answers, exec_reply, fate, fate_by, first_own_error, first_redirect, if_not_done, is_array, is_nil, is_okay, is_redirect, is_redirect_sort, is_refused, last_attempt, multi_reply, next_attempt, own_error, redirect_in, replies_in, size}
+use Rattle.cluster_calls.specs.Calls.Transactions.{done, not_done, may_be_done, answers, attempt_answer, error_or_bad, exec_answers, exec_reply, fate, first_own_error, first_redirect, if_not_done, is_array, is_nil, is_okay, is_redirect, is_redirect_sort, is_refused, last_attempt, multi_reply, next_attempt, own_error, redirect_in, replies_in, size}
 use Rattle.cluster_calls.specs.Links.Log.{Exchange}
 use Rattle.cluster_calls.specs.Links.Reply.{inner_sort}
 use Rattle.cluster_calls.proofs.LinkLaws.PartLoop.{replied_next}
@@ -128,11 +128,11 @@ redirected_unanswered rs f some =
     ∙ ap (λ b. begun && (is_nil exec && b)) (redirected_errs rs some) ∙ no_clean begun (is_nil exec)
 
 -- so has one that goes on
-pub goes_unanswered : (links : List Address) (left : ℕ) (rs : List (Option Tree)) (next : Hop) → next_attempt links left rs ≡ Goes next → exec_answers rs ≡ false
-goes_unanswered links left rs next e =
-    let on = next_of links left (redirect_in rs) in
+pub goes_unanswered : (links : List Address) (redirects : ℕ) (rs : List (Option Tree)) (next : Hop) → next_attempt links redirects rs ≡ Goes next → exec_answers rs ≡ false
+goes_unanswered links redirects rs next e =
+    let on = next_of links redirects (redirect_in rs) in
     let f = goes_by (fate rs) on next e in
-    redirected_unanswered rs f (replied_next links left (redirect_in rs) next (ap (λ g. if_not_done g on) (sym f) ∙ e))
+    redirected_unanswered rs f (replied_next links redirects (redirect_in rs) next (ap (λ g. if_not_done g on) (sym f) ∙ e))
 
 -- ---- want of memory is no answer that replies make
 

@@ -41,8 +41,8 @@ module _ (faults faults' : Address → LinkFault) where
   sent_same : (client : Client) (commands : List (List (List ℕ))) (xs : List Exchange) → AgreeWhereLost xs → sent_answer client faults commands xs ≡ sent_answer client faults' commands xs
   sent_same client commands xs h =
       let ys = last_attempt commands xs in
-      let left = suc client.settings.budget - attempt_count commands xs in
-      ap (λ o. unless o (unless_lost (next_attempt client.links left (replies_in ys)) (attempt_answer (replies_in ys)))) (lost_same ys (drop_agree (length xs - size commands) xs h))
+      let redirects = suc client.settings.budget - attempt_count commands xs in
+      ap (λ o. unless o (unless_lost (next_attempt client.links redirects (replies_in ys)) (attempt_answer (replies_in ys)))) (lost_same ys (drop_agree (length xs - size commands) xs h))
 
   pub commands_same : (client : Client) (commands : List Command) (xs : List Exchange) → AgreeWhereLost xs → commands_answer client faults commands xs ≡ commands_answer client faults' commands xs
   commands_same client [] xs h = refl

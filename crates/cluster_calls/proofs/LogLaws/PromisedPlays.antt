@@ -77,7 +77,7 @@ module _ (a b : Seen) (calls : List (List Request)) (taken : List Tree) (fault :
 
   -- the reading end behind what was read
   abbrev behind : ReadFails l.mid b (bytes_of l.last) (reply_count l.last) (refusal_by_fault fault) → Reading
-  behind r = record { left = b.left; held = r.lacks.held; counts = b.counts; allowed = r.lacks.allowed; limit = l.mid.limit }
+  behind r = record { unread = b.unread; held = r.lacks.held; counts = b.counts; allowed = r.lacks.allowed; limit = l.mid.limit }
 
   abbrev Ends : ℕ → List ℕ → Type 0
   Ends limit rest = ((fault ≡ io) × BeginsUnfinished limit rest) ⊎ ((fault ≡ grammar) × BeginsFaulty limit rest)
@@ -102,10 +102,10 @@ module _ (a b : Seen) (calls : List (List Request)) (taken : List Tree) (fault :
     | inr (inr memory) ↦ absurd (had memory.1)
   ]
     where
-      used : (t : Takes (at_start l.mid) (behind r) r.lacks.ends.trees) → (n : List ℕ) × (b.left ≡ Some n) × (s.bytes ≡ (l.came.bytes ++ t.bytes) ++ (r.lacks.held ++ n)) × (length t.got ≤ length s.bytes)
+      used : (t : Takes (at_start l.mid) (behind r) r.lacks.ends.trees) → (n : List ℕ) × (b.unread ≡ Some n) × (s.bytes ≡ (l.came.bytes ++ t.bytes) ++ (r.lacks.held ++ n)) × (length t.got ≤ length s.bytes)
       used t =
-          let first = subst (λ o. Consumes o (prepend_known l.came.unread l.mid.left) l.came.bytes) s.known l.came.consumed in
-          used_up s.bytes l.came.unread l.mid.held l.came.bytes t.got t.bytes r.lacks.held l.mid.left b.left first (l.came.kept r.was_open) t.consumed t.joins
+          let first = subst (λ o. Consumes o (prepend_known l.came.unread l.mid.unread) l.came.bytes) s.known l.came.consumed in
+          used_up s.bytes l.came.unread l.mid.held l.came.bytes t.got t.bytes r.lacks.held l.mid.unread b.unread first (l.came.kept r.was_open) t.consumed t.joins
 
       spelled : (t : Takes (at_start l.mid) (behind r) r.lacks.ends.trees) → Ends l.mid.limit (r.lacks.held ++ (used t).0) → SpellsAll a.limit s.bytes taken fault
       spelled t ends = record {
@@ -149,10 +149,10 @@ not_lost e h = absurd (false≢true (sym e ∙ h))
 module _ (a b c : Seen) (calls calls' : List (List Request)) (ts us : List Tree) (lost lost' : Bool) (f g : LinkFault) (s : IsPromised a) (room : b.write_counts.no_room ≡ 0) (room' : c.write_counts.no_room ≡ 0)
     (had : refusal_by_fault f ≢ by_cause Memory) (had' : refusal_by_fault g ≢ by_cause Memory) (m : NodeMade a b calls ts lost f) (n : NodeMade a c calls' us lost' g) where
   left : (rest : List ℕ) × (s.bytes ≡ m.came.bytes ++ rest)
-  left = front_of s.bytes m.came.bytes (prepend_known m.came.unread b.left) (subst (λ o. Consumes o (prepend_known m.came.unread b.left) m.came.bytes) s.known m.came.consumed)
+  left = front_of s.bytes m.came.bytes (prepend_known m.came.unread b.unread) (subst (λ o. Consumes o (prepend_known m.came.unread b.unread) m.came.bytes) s.known m.came.consumed)
 
   right : (rest : List ℕ) × (s.bytes ≡ n.came.bytes ++ rest)
-  right = front_of s.bytes n.came.bytes (prepend_known n.came.unread c.left) (subst (λ o. Consumes o (prepend_known n.came.unread c.left) n.came.bytes) s.known n.came.consumed)
+  right = front_of s.bytes n.came.bytes (prepend_known n.came.unread c.unread) (subst (λ o. Consumes o (prepend_known n.came.unread c.unread) n.came.bytes) s.known n.came.consumed)
 
   both_made : Both ts us lost lost' f g
   both_made = by lost lost' refl refl

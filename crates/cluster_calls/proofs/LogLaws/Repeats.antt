@@ -7,7 +7,7 @@ use Rattle.resp_core.specs.Errors.{Refusal}
 use Rattle.cluster_routing.specs.Address.{Address}
 use Rattle.cluster_calls.specs.Links.Request.{Request}
 use Rattle.cluster_calls.specs.Links.Reply.{Sort, Moved, Ask, Failed, Data, sort_of}
-use Rattle.cluster_calls.specs.Links.Log.{Exchange, is_answered}
+use Rattle.cluster_calls.specs.Links.Log.{Exchange, is_answered, is_data, is_data_reply}
 use Rattle.cluster_calls.specs.Calls.Call.{Call}
 use Rattle.cluster_calls.specs.Calls.Task.{Task, slot_map_of, one_command, pipeline_of, positions_of, several_nodes, one_node, read_of, task_of, transaction_of}
 use Rattle.cluster_calls.specs.Calls.Plan.{Client, Dispatch, plan}
@@ -31,6 +31,17 @@ redirect_reply links budget r hop e = by (budget == 0) e
     by : (b : Bool) → cond b Stays (reply_next links r) ≡ Goes hop → is_redirect_reply r ≡ true
     by true f = cc
     by false f = replied r f
+
+-- such a reply is no data
+pub redirect_sort : (s : Sort) → is_redirect_sort s ≡ true → is_data s ≡ false
+redirect_sort (Moved e) h = refl
+redirect_sort (Ask e) h = refl
+redirect_sort (Failed e) h = refl
+redirect_sort Data h = absurd (false≢true h)
+
+pub redirect_no_data : (r : Option Tree) → is_redirect_reply r ≡ true → is_data_reply r ≡ false
+redirect_no_data None h = refl
+redirect_no_data (Some tree) h = redirect_sort (sort_of tree) h
 
 unless_answered : {P : Type 0} (b : Bool) → P → MatchBool b ⊤ P
 unless_answered true p = tt

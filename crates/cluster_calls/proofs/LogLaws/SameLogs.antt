@@ -141,36 +141,36 @@ module _ (links : List Address) (commands : List (List (List ℕ))) where
 
   -- what is there behind an attempt with these exchanges
   abbrev Goes-on : ℕ → List Exchange → List Exchange → Type 0
-  Goes-on left ys zs = MatchNext (next_attempt links (suc left) (replies_in ys)) (zs ≡ []) (λ next. FollowsAttempts links left next commands zs)
+  Goes-on redirects ys zs = MatchNext (next_attempt links (suc redirects) (replies_in ys)) (zs ≡ []) (λ next. FollowsAttempts links redirects next commands zs)
 
   begins : (hop : Hop) (queues : Address → List Tree) (place : ℕ) (log : List Request) → requests (take n (exchanges queues place log)) ≡ attempt hop commands → log ≡ attempt hop commands ++ drop n log
   begins hop queues place log e =
       let front : take n log ≡ attempt hop commands = ap (take n) (sym (asked_again queues place log)) ∙ sym (requests_take n (exchanges queues place log)) ∙ e in
       sym (take-append-drop n log) ∙ ap (λ qs. qs ++ drop n log) front
 
-  behind : (left : ℕ) (hop : Hop) (queues : Address → List Tree) (place : ℕ) (log : List Request) → FollowsAttempts links (suc left) hop commands (exchanges queues place log)
-      → Goes-on left (exchanges queues place (attempt hop commands)) (exchanges (left_after_all queues (attempt hop commands)) (place + length (attempt hop commands)) (drop n log))
-  behind left hop queues place log h =
+  behind : (redirects : ℕ) (hop : Hop) (queues : Address → List Tree) (place : ℕ) (log : List Request) → FollowsAttempts links (suc redirects) hop commands (exchanges queues place log)
+      → Goes-on redirects (exchanges queues place (attempt hop commands)) (exchanges (left_after_all queues (attempt hop commands)) (place + length (attempt hop commands)) (drop n log))
+  behind redirects hop queues place log h =
       let whole = begins hop queues place log h.0 in
       let first : take n (exchanges queues place log) ≡ exchanges queues place (attempt hop commands) =
       ap (λ l. take n (exchanges queues place l)) whole ∙ first_asked queues place n (attempt hop commands) (drop n log) (size_of hop commands) in
       let rest : drop n (exchanges queues place log) ≡ exchanges (left_after_all queues (attempt hop commands)) (place + length (attempt hop commands)) (drop n log) =
       ap (λ l. drop n (exchanges queues place l)) whole ∙ then_asked queues place n (attempt hop commands) (drop n log) (size_of hop commands) in
-      subst (λ zs. Goes-on left (exchanges queues place (attempt hop commands)) zs) rest (subst (λ ys. Goes-on left ys (drop n (exchanges queues place log))) first h.1)
+      subst (λ zs. Goes-on redirects (exchanges queues place (attempt hop commands)) zs) rest (subst (λ ys. Goes-on redirects ys (drop n (exchanges queues place log))) first h.1)
 
-  attempts_log : (left : ℕ) (hop : Hop) → Determines (FollowsAttempts links left hop commands)
+  attempts_log : (redirects : ℕ) (hop : Hop) → Determines (FollowsAttempts links redirects hop commands)
   attempts_log zero hop queues place one other h k = sym (asked_again queues place one) ∙ h ∙ sym k ∙ asked_again queues place other
-  attempts_log (suc left) hop queues place one other h k =
+  attempts_log (suc redirects) hop queues place one other h k =
       begins hop queues place one h.0
-      ∙ ap (λ l. attempt hop commands ++ l) (by (next_attempt links (suc left) (replies_in (exchanges queues place (attempt hop commands)))) (behind left hop queues place one h) (behind left hop queues place other k)
-      (λ next f g. attempts_log left next (left_after_all queues (attempt hop commands)) (place + length (attempt hop commands)) (drop n one) (drop n other) f g))
+      ∙ ap (λ l. attempt hop commands ++ l) (by (next_attempt links (suc redirects) (replies_in (exchanges queues place (attempt hop commands)))) (behind redirects hop queues place one h) (behind redirects hop queues place other k)
+      (λ next f g. attempts_log redirects next (left_after_all queues (attempt hop commands)) (place + length (attempt hop commands)) (drop n one) (drop n other) f g))
       ∙ sym (begins hop queues place other k.0)
     where
       later : Address → List Tree
       later = left_after_all queues (attempt hop commands)
 
       Rest : Next → List Request → Type 0
-      Rest next log = MatchNext next (exchanges later (place + length (attempt hop commands)) log ≡ []) (λ h. FollowsAttempts links left h commands (exchanges later (place + length (attempt hop commands)) log))
+      Rest next log = MatchNext next (exchanges later (place + length (attempt hop commands)) log ≡ []) (λ h. FollowsAttempts links redirects h commands (exchanges later (place + length (attempt hop commands)) log))
 
       by : (next : Next) → Rest next (drop n one) → Rest next (drop n other) → ((hop : Hop) → Rest (Goes hop) (drop n one) → Rest (Goes hop) (drop n other) → drop n one ≡ drop n other) → drop n one ≡ drop n other
       by Stays f g ih = both_none later (place + length (attempt hop commands)) (drop n one) (drop n other) f g

@@ -7,7 +7,7 @@ use Rattle.cluster_routing.specs.Address.{Address}
 use Rattle.cluster_routing.specs.Lists.{concat, Pairwise}
 use Rattle.cluster_calls.specs.Links.Faults.{LinkFault}
 use Rattle.cluster_calls.specs.Links.Log.{Exchange}
-use Rattle.cluster_calls.specs.Calls.Call.{Call, Refresh, Query, Ordered, Pipeline, Each, FanOut, At, OnStreams, Transaction}
+use Rattle.cluster_calls.specs.Calls.Call.{Call, Refresh}
 use Rattle.cluster_calls.specs.Calls.Plan.{Client}
 use Rattle.cluster_calls.specs.Calls.Task.{task_of}
 use Rattle.cluster_calls.specs.Calls.Answer.{Answer}
@@ -27,47 +27,19 @@ turned t = record { call = in_any_order t.call; picks = t.picks; answer = t.answ
 
 same_done : (done : ℕ → Bool) (call : Call) (xs : List Exchange) → task_done done (task_of (in_any_order call)) xs ≡ task_done done (task_of call) xs
 same_done done (Refresh node) xs = refl
-same_done done (Query command number) xs = refl
-same_done done (Ordered command order number) xs = refl
-same_done done (Pipeline entries) xs = refl
-same_done done (Each entries) xs = refl
-same_done done (FanOut command) xs = refl
-same_done done (At node command) xs = refl
-same_done done (Transaction commands) xs = refl
-same_done done (OnStreams call) xs = refl
+same_done done call xs = refl
 
 same_answer : (done : ℕ → Bool) (call : Call) (xs : List Exchange) (a : Answer) (rs : List Response) → IsTaskAnswer done call (task_of call) xs a rs → IsTaskAnswer done (in_any_order call) (task_of (in_any_order call)) xs a rs
 same_answer done (Refresh node) xs a rs h = h
-same_answer done (Query command number) xs a rs h = h
-same_answer done (Ordered command order number) xs a rs h = h
-same_answer done (Pipeline entries) xs a rs h = h
-same_answer done (Each entries) xs a rs h = h
-same_answer done (FanOut command) xs a rs h = h
-same_answer done (At node command) xs a rs h = h
-same_answer done (Transaction commands) xs a rs h = h
-same_answer done (OnStreams call) xs a rs h = h
+same_answer done call xs a rs h = h
 
 same_whole : (done : ℕ → Bool) (call : Call) (xs : List Exchange) → CountsWhole done (task_of call) xs → CountsWhole done (task_of (in_any_order call)) xs
 same_whole done (Refresh node) xs h = h
-same_whole done (Query command number) xs h = h
-same_whole done (Ordered command order number) xs h = h
-same_whole done (Pipeline entries) xs h = h
-same_whole done (Each entries) xs h = h
-same_whole done (FanOut command) xs h = h
-same_whole done (At node command) xs h = h
-same_whole done (Transaction commands) xs h = h
-same_whole done (OnStreams call) xs h = h
+same_whole done call xs h = h
 
 same_slots : (call : Call) → is_on_slots (in_any_order call) ≡ is_on_slots call
 same_slots (Refresh node) = refl
-same_slots (Query command number) = refl
-same_slots (Ordered command order number) = refl
-same_slots (Pipeline entries) = refl
-same_slots (Each entries) = refl
-same_slots (FanOut command) = refl
-same_slots (At node command) = refl
-same_slots (Transaction commands) = refl
-same_slots (OnStreams call) = refl
+same_slots call = refl
 
 same_counting : (done : ℕ → Bool) (t : RepliedCall) → IsAnswered t → counting done (in_any_order t.call) t.answer t.log ≡ counting done t.call t.answer t.log
 same_counting done t h =

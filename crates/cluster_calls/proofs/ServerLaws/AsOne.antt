@@ -53,14 +53,14 @@ module _ (links : List Address) (commands : List (List (List ℕ))) where
   all_there : (xs : List Exchange) → length xs ≡ size commands → last_attempt commands xs ≡ xs
   all_there xs e = let none : length xs - size commands ≡ 0 = omega (arith, e) in ap (λ n. drop n xs) none
 
-  long : (left : ℕ) (hop : Hop) (xs : List Exchange) → FollowsAttempts links left hop commands xs → size commands ≤ length xs
+  long : (redirects : ℕ) (hop : Hop) (xs : List Exchange) → FollowsAttempts links redirects hop commands xs → size commands ≤ length xs
   long zero hop xs h = let e = attempt_length hop commands xs h in omega (arith, e)
-  long (suc left) hop xs h = let e = front_length hop commands xs h.0 in omega (arith, e)
+  long (suc redirects) hop xs h = let e = front_length hop commands xs h.0 in omega (arith, e)
 
-  pub last_is : (left : ℕ) (hop : Hop) (xs : List Exchange) → FollowsAttempts links left hop commands xs → IsAttemptLog (last_attempt commands xs)
+  pub last_is : (redirects : ℕ) (hop : Hop) (xs : List Exchange) → FollowsAttempts links redirects hop commands xs → IsAttemptLog (last_attempt commands xs)
   last_is zero hop xs h = subst IsAttemptLog (sym (all_there xs (attempt_length hop commands xs h))) (hop, h)
-  last_is (suc left) hop xs h =
-      by (next_attempt links (suc left) (replies_in (take (size commands) xs))) h.1 (λ next k. (last_is left next (drop (size commands) xs) k, long left next (drop (size commands) xs) k))
+  last_is (suc redirects) hop xs h =
+      by (next_attempt links (suc redirects) (replies_in (take (size commands) xs))) h.1 (λ next k. (last_is redirects next (drop (size commands) xs) k, long redirects next (drop (size commands) xs) k))
     where
       rest : List Exchange
       rest = drop (size commands) xs
@@ -81,8 +81,8 @@ module _ (links : List Address) (commands : List (List (List ℕ))) where
           let same : size commands + (length rest - size commands) ≡ length xs - size commands = omega (arith, e, some) in
           drop-drop (length rest - size commands) (size commands) xs ∙ ap (λ n. drop n xs) same
 
-      by : (next : Next) → MatchNext next (rest ≡ []) (λ k. FollowsAttempts links left k commands rest)
-          → ((k : Hop) → FollowsAttempts links left k commands rest → IsAttemptLog (last_attempt commands rest) × (size commands ≤ length rest)) → IsAttemptLog (last_attempt commands xs)
+      by : (next : Next) → MatchNext next (rest ≡ []) (λ k. FollowsAttempts links redirects k commands rest)
+          → ((k : Hop) → FollowsAttempts links redirects k commands rest → IsAttemptLog (last_attempt commands rest) × (size commands ≤ length rest)) → IsAttemptLog (last_attempt commands xs)
       by Stays m ih = only m
       by Lost m ih = only m
       by (Goes k) m ih = let r = ih k m in subst IsAttemptLog (behind r.1) r.0

@@ -40,6 +40,21 @@ pub record CallServed (meaning : Meaning) (done : ℕ → Bool) (call : Call) (a
   pub served : ServedIn meaning (counting done call answer xs) responses moves
   pub answer_is : IsAnswerBy done call xs answer responses
 
+-- ---- a call by its plan
+
+module _ (client : Client) (faults : Address → LinkFault) (meaning : Meaning) (moves : List (List Step)) (done : ℕ → Bool) (picks : List Address) (call : Call) (task : Task) (is : task_of call ≡ task) (xs : List Exchange) where
+  abbrev answer_at : Task → Result Answer Refusal
+  answer_at t = unless (sent_refusal client faults t xs) (or_bad_reply (task_answer faults call t xs))
+
+  pub served_by : ((ds : List Dispatch) → plan client picks call ≡ Ok ds → AreMade client task ds xs → CallServed meaning done call (answer_at task) xs moves) → ((r : Refusal) → xs ≡ [] → CallServed meaning done call (Err r) xs moves)
+      → IsLegalCall client picks call xs → CallServed meaning done call (answer_of client picks faults call xs) xs moves
+  served_by sent unsent legal = by (plan client picks call) refl legal
+    where
+      by : (o : Result (List Dispatch) Refusal) → plan client picks call ≡ o → MatchResult o (λ ds. AreMade client (task_of call) ds xs) (λ refusal. xs ≡ [])
+          → CallServed meaning done call (result_then o (λ ds. answer_at (task_of call))) xs moves
+      by (Ok ds) p l = subst (λ t. CallServed meaning done call (answer_at t) xs moves) (sym is) (sent ds p (subst (λ t. AreMade client t ds xs) is l))
+      by (Err r) p l = unsent r l
+
 -- no exchange, no change
 pub nothing_done : (meaning : Meaning) (moves : List (List Step)) (done : ℕ → Bool) (operation : List (List ℕ) → Operation) → HonestIn meaning done operation [] moves → SamePieces [] moves
 nothing_done meaning moves done operation h = subst (λ q. SamePieces q moves) (pairwise-nil (AccountsAs meaning done operation) h.0 h.1) h.2
@@ -152,15 +167,8 @@ module _ (client : Client) (faults : Address → LinkFault) (meaning : Meaning) 
     by_refusal None fine = by_reply fine (reply_of_parts (sent command) (part_replies xs)) refl
     by_refusal (Some r) fine = refused r kept_here
 
-  abbrev answer_at : Task → Result Answer Refusal
-  answer_at task = unless (sent_refusal client faults task xs) (or_bad_reply (task_answer faults call task xs))
-
   pub command_served : IsLegalCall client picks call xs → CallServed meaning done call (answer_of client picks faults call xs) xs moves
-  command_served legal = by (plan client picks call) refl legal
-    where
-      by : (o : Result (List Dispatch) Refusal) → plan client picks call ≡ o → MatchResult o (λ ds. AreMade client (task_of call) ds xs) (λ refusal. xs ≡ [])
-          → CallServed meaning done call (result_then o (λ ds. answer_at (task_of call))) xs moves
-      by (Ok ds) p l =
-          subst (λ t. CallServed meaning done call (answer_at t) xs moves) (sym is_command)
-          (by_refusal ds (plan_sends client picks call command number order ds is_command p) (subst (λ t. AreMade client t ds xs) is_command l) (part_refusal client faults (behind_answers xs)) refl)
-      by (Err r) p l = refused r (unsent l)
+  command_served =
+      served_by client faults meaning moves done picks call (one_command command number order) is_command xs
+      (λ ds p l. by_refusal ds (plan_sends client picks call command number order ds is_command p) l (part_refusal client faults (behind_answers xs)) refl)
+      (λ r l. refused r (unsent l))

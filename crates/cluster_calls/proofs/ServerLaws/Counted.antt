@@ -1,5 +1,5 @@
 -- Which requests of a legal log count.
-use Rattle.std.proofs.Common.{◌≡◌, ℕ, suc, ◌-◌, Bool, true, false, cond, ◌||◌, ◌&&◌, ◌==◌, List, [], ◌∷◌, ◌++◌, filter, Option, Some, None, is_none, refl, sym, ap, ◌∙◌, subst}
+use Rattle.std.proofs.Common.{◌≡◌, ℕ, suc, ◌-◌, Bool, true, false, cond, ◌||◌, ◌&&◌, List, [], ◌∷◌, ◌++◌, filter, Option, Some, None, is_none, refl, sym, ap, ◌∙◌, subst}
 use Rattle.std.specs.Prelude.{MatchBool, option_and_then, length}
 use Rattle.std.specs.List.{list_any, AllByRecursion}
 use Rattle.std.proofs.lemmas.Bool.{false≢true}
@@ -8,18 +8,20 @@ use Rattle.resp_core.specs.Parts.{first_error}
 use Rattle.resp_core.specs.Errors.{by_server}
 use Rattle.cluster_routing.specs.Lists.{Pairwise}
 use Rattle.cluster_routing.specs.Address.{Address}
-use Rattle.cluster_calls.specs.Links.Reply.{Sort, Moved, Ask, Failed, Data, sort_of, inner_sort}
+use Rattle.cluster_calls.proofs.LogLaws.Repeats.{redirect_no_data, redirect_reply}
+use Rattle.cluster_calls.specs.Links.Reply.{sort_of, inner_sort}
 use Rattle.cluster_calls.specs.Links.Log.{Exchange, is_data, is_data_reply, is_answered, is_unanswered, last_of, behind_answers}
 use Rattle.cluster_calls.specs.OneServer.Keyspace.{Step, on_slot}
 use Rattle.cluster_calls.specs.OneServer.Meaning.{Meaning}
 use Rattle.cluster_calls.specs.OneServer.Operations.{Operation}
 use Rattle.cluster_calls.specs.OneServer.Honest.{is_counted, counts}
 use Rattle.cluster_calls.specs.Calls.Plan.{Client, Dispatch}
-use Rattle.cluster_calls.specs.Calls.Redirects.{Hop, Next, Stays, Lost, Goes, next_of, reply_next, sort_next, MatchNext, FollowsRedirects}
+use Rattle.cluster_calls.specs.Calls.Redirects.{Hop, Next, Stays, Lost, Goes, next_of, MatchNext, FollowsRedirects}
 use Rattle.cluster_calls.specs.Calls.Legal.{PartByPart, first_hop}
 use Rattle.cluster_calls.specs.Links.Faults.{LinkFault}
 use Rattle.cluster_calls.specs.Calls.Refusals.{stop_refusal, last_refusal, part_refusal}
 use Rattle.cluster_calls.proofs.ServerLaws.Pieces.{with_some, pieces, SamePieces, IsDoneAs, AccountsAs}
+use Rattle.cluster_calls.specs.OneServer.Laws.{is_redirect_reply}
 
 -- what accounts for a log accounts for its counted requests
 abbrev pub counted_by : (ℕ → Bool) → (List (List ℕ) → Operation) → List Exchange → List Exchange
@@ -44,21 +46,11 @@ abbrev pub IsPassed : Exchange → Type 0
 IsPassed x = (is_answered x ≡ false) × (is_unanswered x ≡ false)
 
 passed_reply : (links : List Address) (budget : ℕ) (r : Option Tree) (hop : Hop) → next_of links budget r ≡ Goes hop → (is_data_reply r ≡ false) × (is_none r ≡ false)
-passed_reply links budget r hop e = by (budget == 0) e
+passed_reply links budget r hop e = by r (redirect_reply links budget r hop e)
   where
-    sorted : (tree : Tree) (q : Sort) → sort_of tree ≡ q → sort_next links q ≡ Goes hop → is_data (sort_of tree) ≡ false
-    sorted tree (Moved err) f g = ap is_data f
-    sorted tree (Ask err) f g = ap is_data f
-    sorted tree (Failed err) f g = cc
-    sorted tree Data f g = cc
-
-    replied : (r : Option Tree) → reply_next links r ≡ Goes hop → (is_data_reply r ≡ false) × (is_none r ≡ false)
-    replied None f = cc
-    replied (Some tree) f = (sorted tree (sort_of tree) refl f, refl)
-
-    by : (b : Bool) → cond b Stays (reply_next links r) ≡ Goes hop → (is_data_reply r ≡ false) × (is_none r ≡ false)
-    by true f = cc
-    by false f = replied r f
+    by : (r : Option Tree) → is_redirect_reply r ≡ true → (is_data_reply r ≡ false) × (is_none r ≡ false)
+    by None f = absurd (false≢true f)
+    by (Some tree) f = (redirect_no_data (Some tree) f, refl)
 
 -- a part's exchanges: those that were redirected, the last one, and what is behind it
 pub record OfChain (args : List (List ℕ)) (Behind : Exchange → List Exchange → Type 0) (xs : List Exchange) : Type 0 where

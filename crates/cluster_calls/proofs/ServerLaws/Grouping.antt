@@ -46,10 +46,6 @@ pairwise-split R [] bs xs h = ([], xs, refl, tt, h)
 pairwise-split R (a ∷ as') bs [] h = absurd h
 pairwise-split R (a ∷ as') bs (x ∷ xs) h = let r = pairwise-split R as' bs xs h.1 in (x ∷ r.0, r.1, ap (λ q. x ∷ q) r.2, (h.0, r.3), r.4)
 
-pub all-append : {X : Type 0} (P : X → Type 0) (xs ys : List X) → AllByRecursion P xs → AllByRecursion P ys → AllByRecursion P (xs ++ ys)
-all-append P [] ys h k = k
-all-append P (x ∷ xs) ys h k = (h.0, all-append P xs ys h.1 k)
-
 pub all-halves : {X : Type 0} (P : X → Type 0) (xs ys : List X) → AllByRecursion P (xs ++ ys) → AllByRecursion P xs × AllByRecursion P ys
 all-halves P [] ys h = (tt, h)
 all-halves P (x ∷ xs) ys h = let r = all-halves P xs ys h.1 in ((h.0, r.0), r.1)

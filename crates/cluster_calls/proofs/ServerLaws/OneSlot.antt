@@ -8,6 +8,7 @@ use Rattle.resp_args.specs.Packed.{sent}
 use Rattle.cluster_routing.specs.Address.{Address}
 use Rattle.cluster_routing.specs.Lists.{concat, Pairwise}
 use Rattle.cluster_routing.specs.Routing.{name_of}
+use Rattle.cluster_calls.proofs.Lists.{all-append}
 use Rattle.cluster_calls.specs.Calls.Call.{Call}
 use Rattle.cluster_calls.specs.Calls.Legal.{AreMade, AttemptAfterAttempt, IsLegalCall, first_hop}
 use Rattle.cluster_calls.specs.Calls.OneSlot.{args_of, common_slot, is_outside, own_slot, part_slot, parts_at, transaction_parts, with_own}
@@ -28,7 +29,6 @@ use Rattle.cluster_calls.proofs.LogLaws.Gaps.{every_gap_names_no_key}
 use Rattle.cluster_calls.proofs.LogLaws.PipePlans.{IsOneSlot, target_slot, whole_one_slot}
 use Rattle.cluster_calls.proofs.ServerLaws.AsOne.{by_exec, last_is}
 use Rattle.cluster_calls.proofs.ServerLaws.Draw.{pairwise-nil}
-use Rattle.cluster_calls.proofs.ServerLaws.Grouping.{all-append}
 
 -- ---- its commands have one slot
 

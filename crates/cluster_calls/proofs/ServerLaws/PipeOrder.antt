@@ -18,11 +18,11 @@ use Rattle.cluster_calls.specs.OneServer.Keyspace.{Step}
 use Rattle.cluster_calls.specs.OneServer.Meaning.{Meaning}
 use Rattle.cluster_calls.specs.OneServer.Operations.{RunCommand}
 use Rattle.cluster_calls.proofs.LinkLaws.Addresses.{same_refl}
+use Rattle.cluster_calls.proofs.Lists.{all-append, same_values}
 use Rattle.cluster_calls.proofs.LogLaws.EachPosition.{IsItsOwn, concat_groups, dispatches_to, groups_to, positions_drawn}
 use Rattle.cluster_calls.proofs.LogLaws.PipePlans.{primary_of}
 use Rattle.cluster_calls.proofs.ServerLaws.Distinct.{firsts_distinct}
 use Rattle.cluster_calls.proofs.ServerLaws.Draw.{draw_self}
-use Rattle.cluster_calls.proofs.ServerLaws.Grouping.{all-append}
 use Rattle.cluster_calls.proofs.ServerLaws.Pieces.{HonestIn}
 use Rattle.cluster_calls.proofs.ServerLaws.Pipes.{IsSent, IsPipeDispatch, IsEntryDispatch, sent_pairs, log_in_order, all_true}
 
@@ -69,13 +69,7 @@ module _ (client : Client) where
           absurd (false≢true (sym t ∙ subst (λ a. same_address a node ≡ true) (sym is) (same_refl node)))
 
   entry_slots : (entries : List Entry) (ds : List Dispatch) (ws : List Exchange) → Pairwise IsEntryDispatch entries ds → Pairwise IsSent ds ws → map (λ (e : Entry). args_slot (sent e.command)) entries ≡ map exchange_slot ws
-  entry_slots [] [] [] f p = refl
-  entry_slots [] [] (w ∷ ws) f p = absurd p
-  entry_slots [] (d ∷ ds) ws f p = absurd f
-  entry_slots (e ∷ es) [] ws f p = absurd f
-  entry_slots (e ∷ es) (d ∷ ds) [] f p = absurd p
-  entry_slots (e ∷ es) (d ∷ ds) (w ∷ ws) f p =
-      ap (λ n. n ∷ map (λ (e : Entry). args_slot (sent e.command)) es) (sym f.0.slot ∙ ap (λ (q : Request). args_slot q.args) (sym p.0)) ∙ ap (λ ns. exchange_slot w ∷ ns) (entry_slots es ds ws f.1 p.1)
+  entry_slots = same_values IsEntryDispatch IsSent (λ (e : Entry). args_slot (sent e.command)) exchange_slot (λ e d w f p. sym f.slot ∙ ap (λ (q : Request). args_slot q.args) (sym p))
 
   pub order_is_theirs : (entries : List Entry) (ds : List Dispatch) (xs : List Exchange) → AllByRecursion (IsPipeDispatch client) ds × Pairwise IsEntryDispatch entries ds
       → requests xs ≡ map direct (concat (node_groups ds)) → in_pipeline_order entries xs ≡ position_exchanges ds xs

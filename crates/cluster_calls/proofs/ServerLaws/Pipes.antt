@@ -34,10 +34,11 @@ use Rattle.cluster_calls.proofs.ServerLaws.Distinct.{firsts_distinct, among-firs
 use Rattle.cluster_calls.proofs.ServerLaws.Draw.{draw_each, drawn_same, draw-map, pairwise-nil}
 use Rattle.cluster_calls.proofs.ServerLaws.Counted.{counted_steps, tree_answered, counted_answer}
 use Rattle.cluster_calls.proofs.LinkLaws.Addresses.{same_true, same_refl}
+use Rattle.cluster_calls.proofs.Lists.{all-append}
 use Rattle.cluster_calls.proofs.LogLaws.Plans.{IsFor, dispatches_for, or_right}
 use Rattle.cluster_calls.proofs.ServerLaws.PartCall.{filter_all, reply_is}
 use Rattle.cluster_calls.proofs.ServerLaws.Calls.{CallServed, nothing_done}
-use Rattle.cluster_calls.proofs.ServerLaws.Grouping.{all-append, filter-same, filter-map, pairwise-filter, pairwise-join, drawn_skip}
+use Rattle.cluster_calls.proofs.ServerLaws.Grouping.{filter-same, filter-map, pairwise-filter, pairwise-join, drawn_skip}
 use Rattle.cluster_calls.proofs.LogLaws.PipePlans.{IsOneSlot, IsWholePart, pipeline_parts_are, primary_of, pipeline_nodes}
 
 -- ---- the nodes that were reached

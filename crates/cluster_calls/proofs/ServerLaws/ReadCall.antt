@@ -1,5 +1,5 @@
 -- A read in parts is as good as the read on one server.
-use Rattle.std.proofs.Common.{◌≡◌, ℕ, Bool, true, false, cond, nat_eq, List, [], ◌∷◌, ◌++◌, map, filter, length, Option, Some, None, Result, Ok, Err, refl, sym, ap, ◌∙◌, subst, MatchResult, arith, ltb-true, eqb-true, eq-eqb}
+use Rattle.std.proofs.Common.{◌≡◌, ℕ, Bool, true, false, cond, nat_eq, List, [], ◌∷◌, ◌++◌, map, filter, length, Option, Some, None, Ok, Err, refl, sym, ap, ◌∙◌, subst, arith, ltb-true, eqb-true, eq-eqb}
 use Rattle.std.specs.Prelude.{bytes_eq, nat_lt, ◌||◌, ◌==◌, option_map, option_and_then}
 use Rattle.std.specs.List.{AllByRecursion}
 use Rattle.std.proofs.lemmas.Bool.{false≢true}
@@ -13,14 +13,15 @@ use Rattle.cluster_routing.proofs.Recut.{all-filter}
 use Rattle.stream_commands.specs.Join.{all_rows, in_key_order, join}
 use Rattle.stream_commands.specs.ReadReply.{Row}
 use Rattle.stream_commands.specs.Settings.{ReadSettings}
-use Rattle.cluster_calls.specs.Calls.Answer.{Answer, Read, task_answer, answer_of}
+use Rattle.cluster_calls.proofs.Lists.{all-append}
+use Rattle.cluster_calls.specs.Calls.Answer.{Read, answer_of}
 use Rattle.cluster_calls.specs.Calls.Call.{Stream, Call}
-use Rattle.cluster_calls.specs.Calls.Legal.{IsLegalCall, AreMade, PartByPart}
-use Rattle.cluster_calls.specs.Calls.Parts.{result_then, unless}
-use Rattle.cluster_calls.specs.Calls.Plan.{Client, Dispatch, plan}
+use Rattle.cluster_calls.specs.Calls.Legal.{IsLegalCall, PartByPart}
+use Rattle.cluster_calls.specs.Calls.Parts.{unless}
+use Rattle.cluster_calls.specs.Calls.Plan.{Client, Dispatch}
 use Rattle.cluster_calls.specs.Calls.Reads.{stream_slots, streams_at, key_places, read_slot, readings, joined, read_rows}
-use Rattle.cluster_calls.specs.Calls.Refusals.{part_refusal, sent_refusal}
-use Rattle.cluster_calls.specs.Calls.Task.{Task, read_of, task_of, stream_keys, are_of_one_slot}
+use Rattle.cluster_calls.specs.Calls.Refusals.{part_refusal}
+use Rattle.cluster_calls.specs.Calls.Task.{read_of, task_of, stream_keys, are_of_one_slot}
 use Rattle.cluster_calls.specs.Links.Faults.{LinkFault}
 use Rattle.cluster_calls.specs.Links.Log.{Exchange, is_answered, behind_answers}
 use Rattle.cluster_calls.specs.OneServer.Commands.{task_done, task_kept, streams_with, IsTaskAnswer}
@@ -29,10 +30,9 @@ use Rattle.cluster_calls.specs.OneServer.Keyspace.{Step, on_slot}
 use Rattle.cluster_calls.specs.OneServer.Meaning.{Meaning, DoesRead, rows_of_steps}
 use Rattle.cluster_calls.specs.OneServer.Operations.{ReadKeys, Rows, task_operation}
 use Rattle.cluster_calls.proofs.LogLaws.Plans.{all-weaker}
-use Rattle.cluster_calls.proofs.ServerLaws.Calls.{CallServed}
+use Rattle.cluster_calls.proofs.ServerLaws.Calls.{CallServed, served_by}
 use Rattle.cluster_calls.proofs.ServerLaws.Counted.{counted_steps, parts_begun, AllDone, parts_done}
 use Rattle.cluster_calls.proofs.ServerLaws.Distinct.{firsts_distinct}
-use Rattle.cluster_calls.proofs.ServerLaws.Grouping.{all-append}
 use Rattle.cluster_calls.proofs.ServerLaws.PartCall.{filter_all}
 use Rattle.cluster_calls.proofs.ServerLaws.Pieces.{SamePieces, AccountsAs, HonestIn, ServedIn, same_on_slot}
 use Rattle.cluster_calls.proofs.ServerLaws.ReadParts.{slot_in, slot_named, plan_reads, streams_whole, IsReadDone, read_groups, slots_sent, ReadAgain, read_again, one_read, kept_read}
@@ -189,15 +189,8 @@ module _ (client : Client) (faults : Address → LinkFault) (meaning : Meaning) 
     by_refusal None fine = at_rows fine (are_of_one_slot (stream_keys streams)) refl
     by_refusal (Some r) fine = refused r counted_distinct
 
-  abbrev answer_at : Task → Result Answer Refusal
-  answer_at task = unless (sent_refusal client faults task xs) (or_bad_reply (task_answer faults call task xs))
-
   pub read_served : IsLegalCall client picks call xs → CallServed meaning done call (answer_of client picks faults call xs) xs moves
-  read_served legal = by (plan client picks call) refl legal
-    where
-      by : (o : Result (List Dispatch) Refusal) → plan client picks call ≡ o → MatchResult o (λ ds. AreMade client (task_of call) ds xs) (λ refusal. xs ≡ [])
-          → CallServed meaning done call (result_then o (λ ds. answer_at (task_of call))) xs moves
-      by (Ok ds) p l =
-          subst (λ t. CallServed meaning done call (answer_at t) xs moves) (sym is_read)
-          (by_refusal ds (plan_reads options streams client picks call ds is_read p) (subst (λ t. AreMade client t ds xs) is_read l) (part_refusal client faults (behind_answers xs)) refl)
-      by (Err r) p l = refused r (subst (λ q. IsDistinct nat_eq (map (slot_named options streams) (filter (is_counted done) q))) (sym l) tt)
+  read_served =
+      served_by client faults meaning moves done picks call (read_of options streams) is_read xs
+      (λ ds p l. by_refusal ds (plan_reads options streams client picks call ds is_read p) l (part_refusal client faults (behind_answers xs)) refl)
+      (λ r l. refused r (subst (λ q. IsDistinct nat_eq (map (slot_named options streams) (filter (is_counted done) q))) (sym l) tt))

@@ -14,6 +14,7 @@ use Rattle.cluster_routing.proofs.Recut.{all-filter}
 use Rattle.stream_commands.specs.Join.{keys_at, name_only, name_own_keys, rows_of, is_one_at_most, name_none_twice, all_rows, in_key_order, join}
 use Rattle.stream_commands.specs.ReadReply.{Row}
 use Rattle.stream_commands.specs.Settings.{ReadSettings}
+use Rattle.cluster_calls.proofs.Lists.{all-append}
 use Rattle.cluster_calls.specs.Calls.Call.{Stream}
 use Rattle.cluster_calls.specs.Calls.Reads.{stream_slots, streams_at, key_places}
 use Rattle.cluster_calls.specs.Calls.Task.{stream_keys}
@@ -23,13 +24,13 @@ use Rattle.cluster_calls.specs.OneServer.Meaning.{DoesRead, IsRowOf, rows_of_ste
 use Rattle.cluster_calls.specs.OneServer.Operations.{Response, Reply, Rows}
 use Rattle.cluster_calls.proofs.LogLaws.Plans.{or_right, all-weaker}
 use Rattle.cluster_calls.proofs.ServerLaws.Distinct.{firsts_distinct}
-use Rattle.cluster_calls.proofs.ServerLaws.Grouping.{all-append, pairwise-filter}
+use Rattle.cluster_calls.proofs.ServerLaws.Grouping.{pairwise-filter}
 use Rattle.cluster_calls.proofs.ServerLaws.ReadParts.{streams_whole}
 use Rattle.cluster_calls.proofs.ServerLaws.ReadRows.{Fits, told_rows, all_told, rows_are, fits_from, names, no_rows_of, other_slot, rows_on_slot, same_order, own_rows, no_such_key, in_order_stays}
 
 -- ---- the keys at a slot's places
 
-one_on : (slot n : ℕ) (ss : List ℕ) → places_from slot (suc n) ss ≡ map suc (places_from slot n ss)
+pub one_on : (slot n : ℕ) (ss : List ℕ) → places_from slot (suc n) ss ≡ map suc (places_from slot n ss)
 one_on slot n [] = refl
 one_on slot n (s ∷ ss) = by (slot == s) (one_on slot (suc n) ss)
   where

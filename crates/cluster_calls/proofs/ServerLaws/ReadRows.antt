@@ -11,6 +11,7 @@ use Rattle.cluster_routing.specs.Lists.{concat, among, Pairwise, is_distinct}
 use Rattle.stream_commands.specs.Join.{name_own_keys, name_none_twice, all_rows, in_key_order, join}
 use Rattle.stream_commands.specs.ReadReply.{Row, read_reply}
 use Rattle.stream_commands.specs.Settings.{ReadSettings}
+use Rattle.cluster_calls.proofs.Lists.{all-append}
 use Rattle.cluster_calls.specs.Calls.Call.{Stream}
 use Rattle.cluster_calls.specs.Calls.Reads.{readings}
 use Rattle.cluster_calls.specs.Calls.Replies.{reply_or_nil}
@@ -20,7 +21,6 @@ use Rattle.cluster_calls.specs.OneServer.Keyspace.{Step, on_slot}
 use Rattle.cluster_calls.specs.OneServer.Meaning.{Meaning, DoesRead, IsRowOf, rows_told, more_rows, rows_of_steps}
 use Rattle.cluster_calls.specs.OneServer.Operations.{Response, Reply, Rows}
 use Rattle.cluster_routing.proofs.Recut.{all-filter}
-use Rattle.cluster_calls.proofs.ServerLaws.Grouping.{all-append}
 use Rattle.cluster_calls.proofs.ServerLaws.ReadParts.{IsReadDone}
 
 -- ---- steps whose replies have their shape

@@ -10,7 +10,7 @@ use Rattle.cluster_routing.specs.Lists.{concat, is_distinct, Pairwise}
 use Rattle.cluster_routing.specs.Policies.{or_bad_reply}
 use Rattle.stream_commands.specs.Settings.{ReadSettings}
 use Rattle.cluster_calls.specs.Links.Log.{Exchange}
-use Rattle.cluster_calls.specs.Calls.Call.{Stream, Xadd, Xtrim, Xread, Xrange, Xclaim, Xautoclaim, Xpending, XinfoStream, XinfoGroups, XinfoConsumers, XdelEx, Call, Refresh, Query, Ordered, Pipeline, Each, FanOut, At, OnStreams, Transaction}
+use Rattle.cluster_calls.specs.Calls.Call.{Stream, Xread, Call, Refresh, Query, Ordered, Pipeline, Each, FanOut, At, OnStreams, Transaction}
 use Rattle.cluster_calls.specs.Calls.Task.{read_of, task_of, sentence_task, is_by_key, stream_keys}
 use Rattle.cluster_calls.specs.Calls.Parts.{result_then, unless}
 use Rattle.cluster_calls.specs.Calls.Plan.{Client, Dispatch, plan}
@@ -62,16 +62,6 @@ by_call meaning done (t ∷ ts) ss h =
 
 -- a read in parts is of keys that all differ
 reads_differ : (call : Call) (options : ReadSettings) (streams : List Stream) → task_of call ≡ read_of options streams → is_distinct bytes_eq (stream_keys streams) ≡ true
-reads_differ (Refresh node) options streams t = cc
-reads_differ (Query command number) options streams t = cc
-reads_differ (Ordered command order number) options streams t = cc
-reads_differ (Pipeline entries) options streams t = cc
-reads_differ (Each entries) options streams t = cc
-reads_differ (FanOut command) options streams t = cc
-reads_differ (At node command) options streams t = cc
-reads_differ (Transaction commands) options streams t = cc
-reads_differ (OnStreams (Xadd key settings id fields)) options streams t = cc
-reads_differ (OnStreams (Xtrim key settings)) options streams t = cc
 reads_differ (OnStreams (Xread read settings)) options streams t = by (is_by_key settings (stream_keys read)) refl t
   where
     by : (b : Bool) → is_by_key settings (stream_keys read) ≡ b → cond b (read_of settings read) (sentence_task (Xread read settings)) ≡ read_of options streams → is_distinct bytes_eq (stream_keys streams) ≡ true
@@ -79,14 +69,7 @@ reads_differ (OnStreams (Xread read settings)) options streams t = by (is_by_key
         let same : read ≡ streams = cc in
         subst (λ ss. is_distinct bytes_eq (stream_keys ss) ≡ true) same (and_parts (is_none settings.group && is_none settings.block) (is_distinct bytes_eq (stream_keys read)) k).1
     by false k e = cc
-reads_differ (OnStreams (Xrange key start end)) options streams t = cc
-reads_differ (OnStreams (Xclaim claimant ids settings)) options streams t = cc
-reads_differ (OnStreams (Xautoclaim claimant start settings)) options streams t = cc
-reads_differ (OnStreams (Xpending key group)) options streams t = cc
-reads_differ (OnStreams (XinfoStream key)) options streams t = cc
-reads_differ (OnStreams (XinfoGroups key)) options streams t = cc
-reads_differ (OnStreams (XinfoConsumers key group)) options streams t = cc
-reads_differ (OnStreams (XdelEx key ids policy)) options streams t = cc
+reads_differ call options streams t = cc
 
 -- each call
 pub call_served : (client : Client) (faults : Address → LinkFault) (meaning : Meaning) (moves : List (List Step)) (done : ℕ → Bool) (picks : List Address) (call : Call) (xs : List Exchange) → GapsNameNoKey

@@ -1,7 +1,7 @@
 -- The outcome of each position of a pipeline that tells of each: that of its command, or of a split command of
 -- several slots what the outcomes of its parts make.
 -- Source: documentation of the crate `redis`, `cluster_routing`.
-use Rattle.std.specs.Prelude.{◌≡◌, ◌≢◌, Bool, true, false, if◌then◌else◌, List, [], ◌∷◌, map, take, drop, unwrap_or, Option, Some, None, Result, Ok, Err, MatchOption}
+use Rattle.std.specs.Prelude.{◌≡◌, ◌≢◌, Bool, true, false, if◌then◌else◌, List, [], ◌∷◌, map, take, drop, unwrap_or, Option, Some, None, Result, Err, MatchOption}
 use Rattle.std.specs.List.{list_all}
 use Rattle.resp_core.specs.Trees.{Tree}
 use Rattle.resp_core.specs.Errors.{Refusal, by_cause}

@@ -1,7 +1,7 @@
 -- What goes out for each position of a pipeline that tells of each: the command itself, or the parts of a split
 -- command of several slots, each a command of its own.
 -- Source: the Redis Cluster specification (the keys of a request have one slot).
-use Rattle.std.specs.Prelude.{ℕ, suc, Bool, false, ◌||◌, if◌then◌else◌, List, [], ◌∷◌, map, flat_map, length, is_some, Option, Some, None, Result, Ok, Err}
+use Rattle.std.specs.Prelude.{ℕ, suc, Bool, false, ◌||◌, if◌then◌else◌, List, [], ◌∷◌, map, flat_map, length, is_some, Option, Some, None, Result, Ok}
 use Rattle.resp_core.specs.Errors.{Refusal, at_position}
 use Rattle.resp_args.specs.Packed.{sent}
 use Rattle.cluster_routing.specs.Split.{Split, split_of, part_slots, sub}

@@ -34,6 +34,7 @@ pub record Part : Type 0 where
   pub target : Target
   pub args : List (List ℕ)
 
+-- arguments as the part that goes there
 abbrev pub part_to : List (List ℕ) → Target → Part
 part_to args target = record { target = target; args = args }
 

@@ -127,11 +127,11 @@ replies_in xs = map (λ (x : Exchange). x.reply) xs
 -- each redirect within the budget.
 abbrev pub FollowsAttempts : List Address → ℕ → Hop → List (List (List ℕ)) → List Exchange → Type 0
 FollowsAttempts links zero hop commands xs = requests xs ≡ attempt hop commands
-FollowsAttempts links (suc left) hop commands xs =
+FollowsAttempts links (suc redirects) hop commands xs =
     (requests (take (size commands) xs) ≡ attempt hop commands)
-    × MatchNext (next_attempt links (suc left) (replies_in (take (size commands) xs)))
+    × MatchNext (next_attempt links (suc redirects) (replies_in (take (size commands) xs)))
     (drop (size commands) xs ≡ [])
-    (λ next. FollowsAttempts links left next commands (drop (size commands) xs))
+    (λ next. FollowsAttempts links redirects next commands (drop (size commands) xs))
 
 abbrev pub first_to : Address → Hop
 first_to node = record { node = node; asking = false }
@@ -171,8 +171,8 @@ lost_refusal faults (x ∷ xs) = if is_unanswered x then Some (refusal_by_fault 
 
 -- by the last attempt, with so many redirects left
 abbrev pub last_answer : List Address → (Address → LinkFault) → ℕ → List Exchange → Result Tree Refusal
-last_answer links faults left xs = unless (lost_refusal faults xs)
-    (unless_lost (next_attempt links left (replies_in xs)) (attempt_answer (replies_in xs)))
+last_answer links faults redirects xs = unless (lost_refusal faults xs)
+    (unless_lost (next_attempt links redirects (replies_in xs)) (attempt_answer (replies_in xs)))
 
 abbrev pub attempt_count : List (List (List ℕ)) → List Exchange → ℕ
 attempt_count commands xs = length xs / size commands

@@ -44,7 +44,7 @@ IsSentFor true calls sent =
 
 -- the bytes to come over a link: those read and not taken, and those that its reader has left
 abbrev pub coming : Seen → Option (List ℕ)
-coming link = prepend_known link.held link.left
+coming link = prepend_known link.held link.unread
 
 -- These values came in over a link, no deeper than its limit, and the pushes among them were set aside.
 -- Behind them some bytes are unread: on a link that is still open those that it holds. Its limit and what its
@@ -53,7 +53,7 @@ pub record Came (old new : Seen) (taken : List Tree) : Type 0 where
   pub bytes : List ℕ
   pub unread : List ℕ
   pub spells : SpelledInOrder old.limit bytes taken
-  pub consumed : Consumes (coming old) (prepend_known unread new.left) bytes
+  pub consumed : Consumes (coming old) (prepend_known unread new.unread) bytes
   pub kept : new.usable ≡ true → unread ≡ new.held
   pub set_aside : new.pushes ≡ old.pushes ++ filter is_push taken
   pub promises : SamePromises old new

@@ -104,10 +104,10 @@ one_reply (Ok tree) = Ok (tree ∷ [])
 one_reply (Err e) = Err e
 
 -- the link at this place did so, and all others stay
-pub record Calls (old new : List Node) (which : ℕ) (Call : Seen → Seen → Type 0) : Type 0 where
+pub record CallsLink (old new : List Node) (index : ℕ) (Call : Seen → Seen → Type 0) : Type 0 where
   pub before : Node
   pub after : Node
-  pub found : slice_get old which ≡ Some before
-  pub others : new ≡ slice_set old which after
+  pub found : slice_get old index ≡ Some before
+  pub others : new ≡ slice_set old index after
   pub address : after.address ≡ before.address
   pub call : Call before.link after.link

@@ -25,6 +25,7 @@ use Rattle.cluster_calls.specs.OneServer.Meaning.{DoOperation, AreAllowed}
 use Rattle.cluster_calls.specs.OneServer.Honest.{HonestRun}
 use Rattle.cluster_calls.specs.OneServer.Headline.{PlayedCall, RepliedCall, with_replies, IsPlayedFrom, command_logs, AsOneServer}
 use Rattle.cluster_calls.specs.WholeCalls.Base.{on_halves, a_fault, error_text, taken, plain, text}
+use Rattle.cluster_calls.specs.WholeCalls.Deeds.{was_done}
 use Rattle.cluster_calls.specs.WholeCalls.KeyRuns.{set_a, get_a, slot_a, sets_a, gets_a, meaning, none_done, only_b, a_and_b, put_again}
 
 -- SET a 1 and GET a, as one
@@ -75,7 +76,7 @@ pub it_is_honest : HonestRun meaning only_b none_done (command_logs one_replied)
 unfolding destination rule_of table hash_slot splitting_of digits first_error
 it_is_honest = (
   both_steps ∷ [],
-  (record { response = Reply ran; reply = refl; done = both_done; allowed = both_allowed }, tt),
+  (was_done (Reply ran) refl both_done both_allowed, tt),
   both_lead,
 )
 
@@ -98,7 +99,7 @@ pub a_lost_one_may_have_been_done : HonestRun meaning only_b (λ place. true)
 unfolding destination rule_of table hash_slot splitting_of digits first_error
 a_lost_one_may_have_been_done = (
   both_steps ∷ [],
-  (record { response = Reply ran; reply = tt; done = both_done; allowed = both_allowed }, tt),
+  (was_done (Reply ran) tt both_done both_allowed, tt),
   both_lead,
 )
 

@@ -22,7 +22,8 @@ use Rattle.cluster_calls.specs.OneServer.Keyspace.{Keyspace, with_cell, Whole, S
 use Rattle.cluster_calls.specs.OneServer.Meaning.{Meaning, number_in, DoOperation, AreAllowed}
 use Rattle.cluster_calls.specs.OneServer.Operations.{RunCommand, Reply, reply_tree}
 use Rattle.cluster_calls.specs.WholeCalls.Base.{on_n1, a_fault, taken, plain, behind_asking, one, ask_n2}
-use Rattle.cluster_calls.specs.WholeCalls.KeyRuns.{slot_a, does, none_done, only_b, a_and_b, answered}
+use Rattle.cluster_calls.specs.WholeCalls.Deeds.{does, was_done, whole_done}
+use Rattle.cluster_calls.specs.WholeCalls.KeyRuns.{slot_a, none_done, only_b, a_and_b, answered}
 use Rattle.cluster_calls.specs.WholeCalls.RunsAmongOthers.{is_one}
 use Rattle.cluster_calls.specs.WholeCalls.WrongServers.{of_each, step_of, one_command_cannot_lead}
 
@@ -60,11 +61,7 @@ asked_is_on_slots = (refl, tt)
 
 pub incr_a_done : DoOperation (RunCommand incr_a) (counts_one ∷ []) (Reply one)
 unfolding destination rule_of table hash_slot splitting_of first_error
-incr_a_done = (
-  one,
-  refl,
-  (counts_one, refl, record { deed = refl; slot = refl; response = refl; no_error = refl }),
-)
+incr_a_done = whole_done incr_a slot_a one [] (codes "1") refl refl refl
 
 pub counts_one_allowed : AreAllowed counts_up (counts_one ∷ [])
 counts_one_allowed = ((0, lit< tt, refl), tt)
@@ -77,10 +74,7 @@ pub asked_is_honest : HonestRun counts_up only_b none_done (command_logs asked) 
 unfolding first_error server_kind
 asked_is_honest = (
   [] ∷ (counts_one ∷ []) ∷ [],
-  (
-    refl,
-    (record { response = Reply one; reply = refl; done = incr_a_done; allowed = counts_one_allowed }, tt),
-  ),
+  (refl, (was_done (Reply one) refl incr_a_done counts_one_allowed, tt)),
   counts_one_leads,
 )
 

@@ -1,8 +1,8 @@
 -- Calls that are refused before the first byte, and calls on streams, computed.
-use Rattle.std.specs.Prelude.{◌≡◌, ℕ, true, false, List, [], ◌∷◌, Some, None, Ok, Err, codes, pos, refl}
+use Rattle.std.specs.Prelude.{◌≡◌, ℕ, true, false, List, [], ◌∷◌, Some, None, Ok, Err, codes, pos, refl, Result}
 use Rattle.std.specs.Fmt.{digits}
 use Rattle.resp_core.specs.Trees.{Tree, int, okay}
-use Rattle.resp_core.specs.Errors.{by_cause, at_position, position_of}
+use Rattle.resp_core.specs.Errors.{by_cause, at_position, position_of, Refusal}
 use Rattle.resp_core.specs.Parts.{first_error}
 use Rattle.resp_core.specs.declared.errors.redis_error.Cause.TheVariants.{NoResponse, NoRoute, CursorInSplit, BrokenTuples, BadOrder, NoNode, NoKeys, SeveralSlots, BadGroupName, ClaimsIdsAlone}
 use Rattle.resp_args.specs.declared.cmd.Arg.TheVariants.{Simple, Cursor}
@@ -19,11 +19,15 @@ use Rattle.cluster_routing.specs.Policies.{bad_reply}
 use Rattle.cluster_calls.specs.Links.Log.{Exchange}
 use Rattle.cluster_calls.specs.Calls.Call.{Stream, Xread, Xclaim, Xtrim, Call, Query, Ordered, Pipeline, OnStreams}
 use Rattle.stream_commands.specs.Commands.{plain_command}
-use Rattle.cluster_calls.specs.Calls.Plan.{plan}
+use Rattle.cluster_calls.specs.Calls.Plan.{plan, Dispatch}
 use Rattle.cluster_calls.specs.Calls.Legal.{IsLegalCall}
 use Rattle.cluster_calls.specs.Calls.Answer.{Trimmed, kind}
 use Rattle.cluster_calls.specs.WholeCalls.Base.{both, client, on_halves, a_fault, query, plain, goes_to, log_over, answer_on}
 use Rattle.cluster_calls.specs.WholeCalls.Pipelines.{entry}
+
+-- what is sent first, over slots by halves
+abbrev pub planned : Call → Result (List Dispatch) Refusal
+planned call = plan on_halves [] call
 
 -- ---- commands
 
@@ -34,34 +38,31 @@ with_gap = record {
   no_response = false;
 }
 
-pub a_split_word_takes_no_cursor : plan on_halves [] (Query with_gap 0) ≡ Err (by_cause CursorInSplit)
+pub a_split_word_takes_no_cursor : planned (Query with_gap 0) ≡ Err (by_cause CursorInSplit)
 unfolding destination rule_of table hash_slot splitting_of digits
 a_split_word_takes_no_cursor = refl
 
-pub a_broken_tuple_is_refused : plan on_halves [] (query (codes "MSET" ∷ codes "a" ∷ []))
-    ≡ Err (by_cause BrokenTuples)
+pub a_broken_tuple_is_refused : planned (query (codes "MSET" ∷ codes "a" ∷ [])) ≡ Err (by_cause BrokenTuples)
 unfolding destination rule_of table hash_slot splitting_of digits
 a_broken_tuple_is_refused = refl
 
-pub a_shared_argument_is_no_tuple : plan on_halves [] (query (codes "JSON.MGET" ∷ codes "x" ∷ []))
+pub a_shared_argument_is_no_tuple : planned (query (codes "JSON.MGET" ∷ codes "x" ∷ []))
     ≡ Err (by_cause BrokenTuples)
 unfolding destination rule_of table hash_slot splitting_of digits
 a_shared_argument_is_no_tuple = refl
 
-pub an_order_has_each_number_once : plan on_halves []
+pub an_order_has_each_number_once : planned
     (Ordered (plain_command (codes "DEL" ∷ codes "a" ∷ codes "b" ∷ [])) (0 ∷ 0 ∷ []) 0)
     ≡ Err (by_cause BadOrder)
 unfolding destination rule_of table hash_slot splitting_of digits
 an_order_has_each_number_once = refl
 
-pub a_whole_command_is_part_0 : plan on_halves []
-    (Ordered (plain_command (codes "GET" ∷ codes "a" ∷ [])) (0 ∷ []) 0)
+pub a_whole_command_is_part_0 : planned (Ordered (plain_command (codes "GET" ∷ codes "a" ∷ [])) (0 ∷ []) 0)
     ≡ Ok (goes_to n2 (codes "GET" ∷ codes "a" ∷ []) ∷ [])
 unfolding destination rule_of table hash_slot splitting_of digits
 a_whole_command_is_part_0 = refl
 
-pub a_cursor_names_no_node : plan on_halves [] (query (codes "SCAN" ∷ codes "0" ∷ []))
-    ≡ Err (by_cause NoRoute)
+pub a_cursor_names_no_node : planned (query (codes "SCAN" ∷ codes "0" ∷ [])) ≡ Err (by_cause NoRoute)
 unfolding destination rule_of table hash_slot splitting_of digits
 a_cursor_names_no_node = refl
 
@@ -73,12 +74,12 @@ a_slot_may_have_no_node = refl
 abbrev pub unanswered : Command
 unanswered = record { args = Simple (codes "SCAN") ∷ []; cursor = None; no_response = true }
 
-pub want_of_a_response_comes_first : plan on_halves [] (Query unanswered 0) ≡ Err (by_cause NoResponse)
+pub want_of_a_response_comes_first : planned (Query unanswered 0) ≡ Err (by_cause NoResponse)
 want_of_a_response_comes_first = refl
 
 -- ---- pipelines
 
-pub a_pipeline_takes_keys_alone : plan on_halves []
+pub a_pipeline_takes_keys_alone : planned
     (Pipeline (entry (codes "GET" ∷ codes "a" ∷ []) ∷ entry (codes "TIME" ∷ []) ∷ [])) ≡ Err (at_position 1)
 unfolding destination rule_of table hash_slot splitting_of digits
 a_pipeline_takes_keys_alone = refl
@@ -86,12 +87,12 @@ a_pipeline_takes_keys_alone = refl
 pub its_position_is_shown : position_of (at_position 1) ≡ Some 1
 its_position_is_shown = refl
 
-pub a_pipeline_takes_no_several_slots : plan on_halves []
+pub a_pipeline_takes_no_several_slots : planned
     (Pipeline (entry (codes "DEL" ∷ codes "a" ∷ codes "b" ∷ []) ∷ [])) ≡ Err (at_position 0)
 unfolding destination rule_of table hash_slot splitting_of digits
 a_pipeline_takes_no_several_slots = refl
 
-pub a_pipeline_takes_several_keys_of_a_slot : plan on_halves []
+pub a_pipeline_takes_several_keys_of_a_slot : planned
     (Pipeline (entry (codes "DEL" ∷ codes "a" ∷ codes "{a}x" ∷ []) ∷ []))
     ≡ Ok (goes_to n2 (codes "DEL" ∷ codes "a" ∷ codes "{a}x" ∷ []) ∷ [])
 unfolding destination rule_of table hash_slot splitting_of digits
@@ -101,14 +102,14 @@ a_pipeline_takes_several_keys_of_a_slot = refl
 abbrev pub piped_read : List (List ℕ) → Call
 piped_read args = Pipeline (entry (codes "GET" ∷ codes "a" ∷ []) ∷ entry args ∷ [])
 
-pub a_pipeline_reads_one_slot : plan on_halves []
+pub a_pipeline_reads_one_slot : planned
     (piped_read (codes "xread" ∷ codes "COUNT" ∷ codes "5" ∷ codes "streams" ∷ codes "a" ∷ codes "b"
     ∷ codes "0" ∷ codes "0" ∷ [])) ≡ Err (at_position 1)
 unfolding destination rule_of table hash_slot splitting_of digits
 a_pipeline_reads_one_slot = refl
 
 -- the first of two such words is the one, the second a key
-pub a_pipelines_first_word_is_meant : plan on_halves []
+pub a_pipelines_first_word_is_meant : planned
     (piped_read (codes "XREAD" ∷ codes "STREAMS" ∷ codes "b" ∷ codes "STREAMS" ∷ codes "0" ∷ codes "0" ∷ []))
     ≡ Err (at_position 1)
 unfolding destination rule_of table hash_slot splitting_of digits
@@ -117,13 +118,13 @@ a_pipelines_first_word_is_meant = refl
 abbrev pub ax_read : List (List ℕ)
 ax_read = codes "XREAD" ∷ codes "STREAMS" ∷ codes "a" ∷ codes "{a}x" ∷ codes "0" ∷ codes "0" ∷ []
 
-pub a_pipeline_reads_several_keys_of_a_slot : plan on_halves [] (Pipeline (entry ax_read ∷ []))
+pub a_pipeline_reads_several_keys_of_a_slot : planned (Pipeline (entry ax_read ∷ []))
     ≡ Ok (goes_to n2 ax_read ∷ [])
 unfolding destination rule_of table hash_slot splitting_of digits
 a_pipeline_reads_several_keys_of_a_slot = refl
 
 -- without a key it has no route
-pub a_pipelines_read_wants_a_key : plan on_halves []
+pub a_pipelines_read_wants_a_key : planned
     (piped_read (codes "XREAD" ∷ codes "STREAMS" ∷ [])) ≡ Err (at_position 1)
 unfolding destination rule_of table hash_slot splitting_of digits
 a_pipelines_read_wants_a_key = refl
@@ -133,7 +134,7 @@ a_pipelines_read_wants_a_key = refl
 abbrev pub odd_read : List (List ℕ)
 odd_read = codes "XREAD" ∷ codes "STREAMS" ∷ codes "a" ∷ codes "b" ∷ codes "0" ∷ codes "0" ∷ codes "0" ∷ []
 
-pub an_odd_read_goes : plan on_halves [] (Pipeline (entry odd_read ∷ [])) ≡ Ok (goes_to n2 odd_read ∷ [])
+pub an_odd_read_goes : planned (Pipeline (entry odd_read ∷ [])) ≡ Ok (goes_to n2 odd_read ∷ [])
 unfolding destination rule_of table hash_slot splitting_of digits
 an_odd_read_goes = refl
 
@@ -148,8 +149,7 @@ read_with_gap = record {
   no_response = false;
 }
 
-pub a_read_with_a_gap_goes : plan on_halves []
-    (Pipeline (record { command = read_with_gap; ignored = false } ∷ []))
+pub a_read_with_a_gap_goes : planned (Pipeline (record { command = read_with_gap; ignored = false } ∷ []))
     ≡ Ok (goes_to n2 ab_read ∷ [])
 unfolding destination rule_of table hash_slot splitting_of digits
 a_read_with_a_gap_goes = refl
@@ -158,12 +158,11 @@ abbrev pub group_read : List (List ℕ)
 group_read = codes "XREADGROUP" ∷ codes "GROUP" ∷ codes "g" ∷ codes "c" ∷ codes "STREAMS" ∷ codes "a"
     ∷ codes "b" ∷ codes ">" ∷ codes ">" ∷ []
 
-pub a_groups_read_goes : plan on_halves [] (Pipeline (entry group_read ∷ []))
-    ≡ Ok (goes_to n2 group_read ∷ [])
+pub a_groups_read_goes : planned (Pipeline (entry group_read ∷ [])) ≡ Ok (goes_to n2 group_read ∷ [])
 unfolding destination rule_of table hash_slot splitting_of digits
 a_groups_read_goes = refl
 
-pub a_querys_read_goes : plan on_halves [] (query ab_read) ≡ Ok (goes_to n2 ab_read ∷ [])
+pub a_querys_read_goes : planned (query ab_read) ≡ Ok (goes_to n2 ab_read ∷ [])
 unfolding destination rule_of table hash_slot splitting_of digits
 a_querys_read_goes = refl
 
@@ -181,7 +180,7 @@ stream key id = record { key = key; id = id }
 abbrev pub xread : List Stream → ReadSettings → Call
 xread streams options = OnStreams (Xread streams options)
 
-pub a_read_wants_a_key : plan on_halves [] (xread [] (in_group (codes "streams"))) ≡ Err (by_cause NoKeys)
+pub a_read_wants_a_key : planned (xread [] (in_group (codes "streams"))) ≡ Err (by_cause NoKeys)
 unfolding hash_slot
 a_read_wants_a_key = refl
 
@@ -189,31 +188,30 @@ a_read_wants_a_key = refl
 abbrev pub read_ab : ReadSettings → Call
 read_ab options = xread (stream (codes "a") (codes "0") ∷ stream (codes "b") (codes "0") ∷ []) options
 
-pub a_read_in_a_group_has_one_slot : plan on_halves [] (read_ab (in_group (codes "g")))
-    ≡ Err (by_cause SeveralSlots)
+pub a_read_in_a_group_has_one_slot : planned (read_ab (in_group (codes "g"))) ≡ Err (by_cause SeveralSlots)
 unfolding hash_slot
 a_read_in_a_group_has_one_slot = refl
 
-pub a_read_with_a_block_has_one_slot : plan on_halves [] (read_ab (record no_options { block = Some 0 }))
+pub a_read_with_a_block_has_one_slot : planned (read_ab (record no_options { block = Some 0 }))
     ≡ Err (by_cause SeveralSlots)
 unfolding hash_slot
 a_read_with_a_block_has_one_slot = refl
 
-pub a_read_of_a_key_twice_has_one_slot : plan on_halves []
+pub a_read_of_a_key_twice_has_one_slot : planned
     (xread (stream (codes "a") (codes "0") ∷ stream (codes "b") (codes "0") ∷ stream (codes "a") (codes "0")
     ∷ []) no_options)
     ≡ Err (by_cause SeveralSlots)
 unfolding hash_slot
 a_read_of_a_key_twice_has_one_slot = refl
 
-pub a_key_twice_is_one_request : plan on_halves []
+pub a_key_twice_is_one_request : planned
     (xread (stream (codes "a") (codes "0") ∷ stream (codes "a") (codes "0") ∷ []) no_options)
     ≡ Ok (goes_to n2 (codes "XREAD" ∷ codes "STREAMS" ∷ codes "a" ∷ codes "a" ∷ codes "0" ∷ codes "0" ∷ [])
     ∷ [])
 unfolding destination rule_of table hash_slot splitting_of digits
 a_key_twice_is_one_request = refl
 
-pub a_group_has_another_name : plan on_halves []
+pub a_group_has_another_name : planned
     (xread (stream (codes "a") (codes "0") ∷ []) (in_group (codes "streams"))) ≡ Err (by_cause BadGroupName)
 unfolding hash_slot
 a_group_has_another_name = refl
@@ -222,7 +220,7 @@ abbrev pub streams_read : List (List ℕ)
 streams_read = codes "XREAD" ∷ codes "STREAMS" ∷ codes "STREAMS" ∷ codes "0" ∷ []
 
 -- the slot of `STREAMS` is n2's
-pub a_key_may_be_the_word : plan on_halves [] (xread (stream (codes "STREAMS") (codes "0") ∷ []) no_options)
+pub a_key_may_be_the_word : planned (xread (stream (codes "STREAMS") (codes "0") ∷ []) no_options)
     ≡ Ok (goes_to n2 streams_read ∷ [])
 unfolding destination rule_of table hash_slot splitting_of digits
 a_key_may_be_the_word = refl
@@ -235,7 +233,7 @@ a_key_that_is_the_word_is_sent = refl
 abbrev pub ids_alone : ClaimSettings
 ids_alone = record { idle = None; time = None; retry = None; force = false; justid = true; lastid = None }
 
-pub a_claim_wants_entries : plan on_halves []
+pub a_claim_wants_entries : planned
     (OnStreams (Xclaim (record { key = codes "a"; group = codes "g"; consumer = codes "c"; min_idle = 0 })
     [] ids_alone)) ≡ Err (by_cause ClaimsIdsAlone)
 a_claim_wants_entries = refl

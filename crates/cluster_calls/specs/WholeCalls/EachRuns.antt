@@ -52,23 +52,20 @@ three = Each (entry set_a ∷ entry get_b ∷ entry get_a ∷ [])
 abbrev pub three_log : List Tree → List Tree → List Exchange
 three_log first second = log_over first second (plain n2 set_a ∷ plain n2 get_a ∷ plain n1 get_b ∷ [])
 
+-- the log is legal, and of its exchanges these outcomes are told
+abbrev pub TellsOf : List Exchange → List Outcome → Type 0
+TellsOf xs outcomes = IsLegalCall on_halves [] three xs × (answer_on on_halves three xs ≡ told outcomes)
+    × IsAnswerOf on_halves [] a_fault three xs (told outcomes)
+
 abbrev pub fine : List Exchange
 fine = three_log (text (codes "2") ∷ []) (okay ∷ text (codes "1") ∷ [])
 
 abbrev pub fine_outcomes : List Outcome
 fine_outcomes = Ok okay ∷ Ok (text (codes "2")) ∷ Ok (text (codes "1")) ∷ []
 
-pub nodes_are_asked_in_order_of_use : IsLegalCall on_halves [] three fine
-unfolding destination rule_of table hash_slot splitting_of digits
-nodes_are_asked_in_order_of_use = refl
-
-pub outcomes_stand_at_their_positions : answer_on on_halves three fine ≡ told fine_outcomes
+pub nodes_are_asked_in_order_and_outcomes_stand_at_their_positions : TellsOf fine fine_outcomes
 unfolding destination rule_of table hash_slot splitting_of digits first_error
-outcomes_stand_at_their_positions = refl
-
-pub they_are_its_answer : IsAnswerOf on_halves [] a_fault three fine (told fine_outcomes)
-unfolding destination rule_of table hash_slot splitting_of digits first_error
-they_are_its_answer = (refl, (refl, (refl, (refl, refl))))
+nodes_are_asked_in_order_and_outcomes_stand_at_their_positions = (refl, refl, (refl, (refl, (refl, (refl, refl)))))
 
 pub all_of_it_counts : by_position none_done (entry set_a ∷ entry get_b ∷ entry get_a ∷ []) fine
     ≡ (RunCommand set_a ∷ []) ∷ (RunCommand get_b ∷ []) ∷ (RunCommand get_a ∷ []) ∷ []
@@ -112,17 +109,9 @@ half_lost = three_log (text (codes "2") ∷ []) (okay ∷ [])
 abbrev pub half_lost_outcomes : List Outcome
 half_lost_outcomes = lost_link ∷ Ok (text (codes "2")) ∷ lost_link ∷ []
 
-pub a_fault_stops_no_other_node : IsLegalCall on_halves [] three half_lost
-unfolding destination rule_of table hash_slot splitting_of digits
-a_fault_stops_no_other_node = refl
-
-pub a_fault_is_told_at_its_nodes_positions : answer_on on_halves three half_lost ≡ told half_lost_outcomes
+pub a_fault_stops_no_other_node_and_is_told_at_its_own_positions : TellsOf half_lost half_lost_outcomes
 unfolding destination rule_of table hash_slot splitting_of digits first_error
-a_fault_is_told_at_its_nodes_positions = refl
-
-pub it_is_its_answer : IsAnswerOf on_halves [] a_fault three half_lost (told half_lost_outcomes)
-unfolding destination rule_of table hash_slot splitting_of digits first_error
-it_is_its_answer = (refl, (refl, (refl, (refl, refl))))
+a_fault_stops_no_other_node_and_is_told_at_its_own_positions = (refl, refl, (refl, (refl, (refl, (refl, refl)))))
 
 pub a_fault_closes_its_node : links_after both half_lost ≡ n1 ∷ []
 a_fault_closes_its_node = refl
@@ -146,17 +135,9 @@ erring = three_log (error (codes "ERR") (codes "x") ∷ []) (okay ∷ server_err
 abbrev pub erring_outcomes : List Outcome
 erring_outcomes = Ok okay ∷ Err (by_server (error_text (codes "ERR") (codes "x"))) ∷ sent_on ∷ []
 
-pub a_redirect_is_not_followed : IsLegalCall on_halves [] three erring
-unfolding destination rule_of table hash_slot splitting_of digits
-a_redirect_is_not_followed = refl
-
-pub errors_are_told_at_their_positions : answer_on on_halves three erring ≡ told erring_outcomes
+pub errors_are_told_at_their_positions_and_no_redirect_is_followed : TellsOf erring erring_outcomes
 unfolding destination rule_of table hash_slot splitting_of digits first_error
-errors_are_told_at_their_positions = refl
-
-pub they_are_the_answer : IsAnswerOf on_halves [] a_fault three erring (told erring_outcomes)
-unfolding destination rule_of table hash_slot splitting_of digits first_error
-they_are_the_answer = (refl, (refl, (refl, (refl, refl))))
+errors_are_told_at_their_positions_and_no_redirect_is_followed = (refl, refl, (refl, (refl, (refl, (refl, refl)))))
 
 pub a_moved_reply_wants_a_refresh : flag_after false three erring ≡ true
 unfolding server_kind first_error

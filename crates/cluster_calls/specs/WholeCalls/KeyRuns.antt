@@ -15,11 +15,12 @@ use Rattle.cluster_calls.specs.Links.Request.{Request}
 use Rattle.cluster_calls.specs.Calls.Answer.{Answer, Value}
 use Rattle.cluster_routing.specs.Lists.{concat}
 use Rattle.cluster_calls.specs.OneServer.Operations.{RunCommand, Reply}
-use Rattle.cluster_calls.specs.OneServer.Keyspace.{Keyspace, with_cell, Deed, Whole, Step, History}
+use Rattle.cluster_calls.specs.OneServer.Keyspace.{Keyspace, with_cell, Whole, Step, History}
 use Rattle.cluster_calls.specs.OneServer.Meaning.{Meaning, DoOperation, AreAllowed}
 use Rattle.cluster_calls.specs.OneServer.Honest.{HonestRun}
 use Rattle.cluster_calls.specs.OneServer.Headline.{PlayedCall, RepliedCall, with_replies, IsPlayedFrom, command_logs, AsOneServer}
 use Rattle.cluster_calls.specs.WholeCalls.Base.{on_halves, a_fault, taken, query, plain, text}
+use Rattle.cluster_calls.specs.WholeCalls.Deeds.{does, was_done, whole_done}
 
 -- ---- what the server may do: a key's slot has the key's value as its cell
 
@@ -37,10 +38,6 @@ slot_a = 15495
 
 abbrev pub slot_b : ℕ
 slot_b = 3300
-
-abbrev pub does : Deed → ℕ → Tree → List ℕ → List ℕ → Step
-does deed slot tree before after = record
-    { deed = deed; slot = slot; response = Reply tree; before = before; after = after }
 
 abbrev pub sets_a : Step
 sets_a = does (Whole set_a) slot_a okay [] (codes "1")
@@ -100,33 +97,21 @@ three_are_played = (refl, (refl, refl), refl, (refl, (refl, refl), refl, (refl, 
 
 pub set_a_done : DoOperation (RunCommand set_a) (sets_a ∷ []) (Reply okay)
 unfolding destination rule_of table hash_slot splitting_of first_error
-set_a_done = (
-  okay,
-  refl,
-  (sets_a, refl, record { deed = refl; slot = refl; response = refl; no_error = refl }),
-)
-
-pub get_a_done : DoOperation (RunCommand get_a) (gets_a ∷ []) (Reply (text (codes "1")))
-unfolding destination rule_of table hash_slot splitting_of first_error
-get_a_done = (
-  text (codes "1"),
-  refl,
-  (gets_a, refl, record { deed = refl; slot = refl; response = refl; no_error = refl }),
-)
-
-pub get_b_done : DoOperation (RunCommand get_b) (gets_b ∷ []) (Reply (text (codes "2")))
-unfolding destination rule_of table hash_slot splitting_of first_error
-get_b_done = (
-  text (codes "2"),
-  refl,
-  (gets_b, refl, record { deed = refl; slot = refl; response = refl; no_error = refl }),
-)
+set_a_done = whole_done set_a slot_a okay [] (codes "1") refl refl refl
 
 pub sets_a_allowed : AreAllowed meaning (sets_a ∷ [])
 sets_a_allowed = ((0, lit< tt, refl), tt)
 
+pub get_a_done : DoOperation (RunCommand get_a) (gets_a ∷ []) (Reply (text (codes "1")))
+unfolding destination rule_of table hash_slot splitting_of first_error
+get_a_done = whole_done get_a slot_a (text (codes "1")) (codes "1") (codes "1") refl refl refl
+
 pub gets_a_allowed : AreAllowed meaning (gets_a ∷ [])
 gets_a_allowed = ((1, lit< tt, refl), tt)
+
+pub get_b_done : DoOperation (RunCommand get_b) (gets_b ∷ []) (Reply (text (codes "2")))
+unfolding destination rule_of table hash_slot splitting_of first_error
+get_b_done = whole_done get_b slot_b (text (codes "2")) (codes "2") (codes "2") refl refl refl
 
 pub gets_b_allowed : AreAllowed meaning (gets_b ∷ [])
 gets_b_allowed = ((2, lit< tt, refl), tt)
@@ -153,21 +138,11 @@ unfolding first_error
 three_are_honest = (
   three_steps,
   (
-    record { response = Reply okay; reply = refl; done = set_a_done; allowed = sets_a_allowed },
+    was_done (Reply okay) refl set_a_done sets_a_allowed,
     (
-      record {
-        response = Reply (text (codes "1"));
-        reply = refl;
-        done = get_a_done;
-        allowed = gets_a_allowed;
-      },
+      was_done (Reply (text (codes "1"))) refl get_a_done gets_a_allowed,
       (
-        record {
-          response = Reply (text (codes "2"));
-          reply = refl;
-          done = get_b_done;
-          allowed = gets_b_allowed;
-        },
+        was_done (Reply (text (codes "2"))) refl get_b_done gets_b_allowed,
         tt,
       ),
     ),

@@ -21,9 +21,10 @@ use Rattle.cluster_calls.specs.OneServer.Keyspace.{Keyspace, with_cell, Whole, P
 use Rattle.cluster_calls.specs.OneServer.Meaning.{Meaning, DoOperation, AreAllowed}
 use Rattle.cluster_calls.specs.OneServer.Operations.{RunCommand, Reply}
 use Rattle.cluster_calls.specs.WholeCalls.Base.{on_halves, a_fault, taken, plain, one, error_text}
+use Rattle.cluster_calls.specs.WholeCalls.Deeds.{does, was_done, tuple_done, whole_done}
 use Rattle.cluster_calls.specs.WholeCalls.EachRuns.{Outcome, told, lost_link}
 use Rattle.cluster_calls.specs.WholeCalls.EachSplits.{del_ab, del_a, del_b}
-use Rattle.cluster_calls.specs.WholeCalls.KeyRuns.{set_a, get_a, get_b, slot_a, slot_b, does, sets_a, none_done, only_b, answered, set_a_done}
+use Rattle.cluster_calls.specs.WholeCalls.KeyRuns.{set_a, get_a, get_b, slot_a, slot_b, sets_a, none_done, only_b, answered, set_a_done}
 use Rattle.cluster_calls.specs.WholeCalls.MixedRun.{dels_a, del_a_done}
 use Rattle.cluster_calls.specs.WholeCalls.Pipelines.{entry}
 
@@ -92,19 +93,15 @@ finds_no_a = does (Whole get_a) slot_a nil [] []
 abbrev pub may : Meaning
 may = sets_a ∷ dels_a ∷ finds_no_a ∷ dels_b ∷ sets_d ∷ []
 
-pub no_a_done : DoOperation (RunCommand get_a) (finds_no_a ∷ []) (Reply nil)
-unfolding destination rule_of table hash_slot splitting_of first_error
-no_a_done = (
-  nil,
-  refl,
-  (finds_no_a, refl, record { deed = refl; slot = refl; response = refl; no_error = refl }),
-)
-
 pub sets_a_may : AreAllowed may (sets_a ∷ [])
 sets_a_may = ((0, lit< tt, refl), tt)
 
 pub dels_a_may : AreAllowed may (dels_a ∷ [])
 dels_a_may = ((1, lit< tt, refl), tt)
+
+pub no_a_done : DoOperation (RunCommand get_a) (finds_no_a ∷ []) (Reply nil)
+unfolding destination rule_of table hash_slot splitting_of first_error
+no_a_done = whole_done get_a slot_a nil [] [] refl refl refl
 
 pub finds_no_a_may : AreAllowed may (finds_no_a ∷ [])
 finds_no_a_may = ((2, lit< tt, refl), tt)
@@ -125,13 +122,13 @@ they_are_honest = (
     (
       refl,
       (
-        record { response = Reply okay; reply = refl; done = set_a_done; allowed = sets_a_may },
+        was_done (Reply okay) refl set_a_done sets_a_may,
         (
           refl,
           (
-            record { response = Reply one; reply = refl; done = del_a_done; allowed = dels_a_may },
+            was_done (Reply one) refl del_a_done dels_a_may,
             (
-              record { response = Reply nil; reply = refl; done = no_a_done; allowed = finds_no_a_may },
+              was_done (Reply nil) refl no_a_done finds_no_a_may,
               tt,
             ),
           ),
@@ -177,7 +174,7 @@ behind_all = with_cell (with_cell
 
 pub del_b_done : DoOperation (RunCommand del_b) (dels_b ∷ []) (Reply one)
 unfolding destination rule_of table hash_slot splitting_of digits first_error server_kind
-del_b_done = (one, refl, ((record { deed = refl; slot = refl; response = inr refl }, tt), refl))
+del_b_done = (one, refl, ((tuple_done refl refl (inr refl), tt), refl))
 
 pub it_may_have_been_done : HonestRun may only_b b_was_done (command_logs each_replied) behind_all
 unfolding they_are_honest first_error server_kind
@@ -186,7 +183,7 @@ it_may_have_been_done = (
   (
     refl,
     (
-      record { response = Reply one; reply = tt; done = del_b_done; allowed = ((3, lit< tt, refl), tt) },
+      was_done (Reply one) tt del_b_done ((3, lit< tt, refl), tt),
       they_are_honest.1.1.1,
     ),
   ),
@@ -200,8 +197,8 @@ del_ab_done = (
   refl,
   (
     (
-      record { deed = refl; slot = refl; response = inr refl },
-      (record { deed = refl; slot = refl; response = inr refl }, tt),
+      tuple_done refl refl (inr refl),
+      (tuple_done refl refl (inr refl), tt),
     ),
     refl,
   ),

@@ -42,35 +42,28 @@ n2_gets = refl
 
 -- ---- links
 
--- an open link: what went out over it, what is still to come, and how many reads were made
-abbrev pub link : List ℕ → List ℕ → ℕ → Seen
-link sent left reads = record {
+-- what went out over a link, what is still to come, how many reads were made, and how many gave nothing
+abbrev pub link_seen : List ℕ → List ℕ → ℕ → ℕ → Bool → Seen
+link_seen sent unread reads empty open' = record {
   sent = Some sent;
-  left = Some left;
+  unread = Some unread;
   held = [];
   pushes = [];
-  counts = record { promise = nothing; refused = 0; empty = 0; reads = reads };
+  counts = record { promise = nothing; refused = 0; empty = empty; reads = reads };
   write_counts = no_writes nothing;
   flushed = true;
-  usable = true;
+  usable = open';
   owes = false;
   limit = 100;
 }
 
+-- an open link
+abbrev pub link : List ℕ → List ℕ → ℕ → Seen
+link sent unread reads = link_seen sent unread reads 0 true
+
 -- the link closed by a read that gave nothing
 abbrev pub ended_link : List ℕ → ℕ → Seen
-ended_link sent reads = record {
-  sent = Some sent;
-  left = Some [];
-  held = [];
-  pushes = [];
-  counts = record { promise = nothing; refused = 0; empty = 1; reads = reads };
-  write_counts = no_writes nothing;
-  flushed = true;
-  usable = false;
-  owes = false;
-  limit = 100;
-}
+ended_link sent reads = link_seen sent [] reads 1 false
 
 abbrev pub n1_0 : Seen
 n1_0 = link [] (codes "$1\r\n1\r\n-TRYAGAIN x\r\n$1\r\n2\r\n") 0
@@ -169,10 +162,10 @@ pub an_ended_link_answers_nothing : (new : Seen) (bytes : List ℕ) (count : ℕ
     → AnswersFrom n1_4 new bytes count taken replies → ⊥
 an_ended_link_answers_nothing new bytes count taken replies h = false≢true h.contract.was_open
 
-pub a_lost_reply_closes_the_link : (sent left bytes : List ℕ) (reads count : ℕ) (taken : List Tree)
+pub a_lost_reply_closes_the_link : (sent unread bytes : List ℕ) (reads count : ℕ) (taken : List Tree)
     (refusal : Refusal)
-    → FailsFrom n1_3 (link sent left reads) bytes count taken refusal → ⊥
-a_lost_reply_closes_the_link sent left bytes reads count taken refusal
+    → FailsFrom n1_3 (link sent unread reads) bytes count taken refusal → ⊥
+a_lost_reply_closes_the_link sent unread bytes reads count taken refusal
     (in_sending contract is_io none_taken) = false≢true (sym contract.closed)
-a_lost_reply_closes_the_link sent left bytes reads count taken refusal (in_receiving contract values) =
+a_lost_reply_closes_the_link sent unread bytes reads count taken refusal (in_receiving contract values) =
     false≢true (sym contract.closed)

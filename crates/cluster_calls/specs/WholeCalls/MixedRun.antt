@@ -25,8 +25,9 @@ use Rattle.cluster_calls.specs.OneServer.Meaning.{Meaning, DoOperation, AreAllow
 use Rattle.cluster_calls.specs.OneServer.Honest.{HonestRun}
 use Rattle.cluster_calls.specs.OneServer.Headline.{PlayedCall, RepliedCall, with_replies, IsPlayedFrom, AreOnSlots, command_logs, AsOneServer}
 use Rattle.cluster_calls.specs.WholeCalls.Base.{on_halves, a_fault, taken, plain, text, one, error, error_text, moved_to_n1}
+use Rattle.cluster_calls.specs.WholeCalls.Deeds.{does, was_done, tuple_done}
 use Rattle.cluster_calls.specs.WholeCalls.Pipelines.{entry}
-use Rattle.cluster_calls.specs.WholeCalls.KeyRuns.{set_a, get_a, get_b, slot_a, slot_b, does, sets_a, gets_a, gets_b, none_done, a_and_b, put_again, played, answered, set_a_done, get_a_done, get_b_done}
+use Rattle.cluster_calls.specs.WholeCalls.KeyRuns.{set_a, get_a, get_b, slot_a, slot_b, sets_a, gets_a, gets_b, none_done, a_and_b, put_again, played, answered, set_a_done, get_a_done, get_b_done}
 
 abbrev pub del : List (List ℕ) → List (List ℕ)
 del keys = codes "DEL" ∷ keys
@@ -75,10 +76,6 @@ pub four_are_on_slots : AreOnSlots four
 unfolding destination rule_of table hash_slot splitting_of digits
 four_are_on_slots = (refl, (refl, (refl, (refl, tt))))
 
-pub del_a_done : DoOperation (RunCommand (del (codes "a" ∷ []))) (dels_a ∷ []) (Reply one)
-unfolding destination rule_of table hash_slot splitting_of digits first_error server_kind
-del_a_done = (one, refl, ((record { deed = refl; slot = refl; response = inr refl }, tt), refl))
-
 pub sets_a_may : AreAllowed may (sets_a ∷ [])
 sets_a_may = ((0, lit< tt, refl), tt)
 
@@ -87,6 +84,10 @@ gets_a_may = ((1, lit< tt, refl), tt)
 
 pub gets_b_may : AreAllowed may (gets_b ∷ [])
 gets_b_may = ((2, lit< tt, refl), tt)
+
+pub del_a_done : DoOperation (RunCommand (del (codes "a" ∷ []))) (dels_a ∷ []) (Reply one)
+unfolding destination rule_of table hash_slot splitting_of digits first_error server_kind
+del_a_done = (one, refl, ((tuple_done refl refl (inr refl), tt), refl))
 
 pub dels_a_may : AreAllowed may (dels_a ∷ [])
 dels_a_may = ((3, lit< tt, refl), tt)
@@ -107,27 +108,17 @@ four_are_honest = (
   (
     refl,
     (
-      record { response = Reply (text (codes "1")); reply = refl; done = get_a_done; allowed = gets_a_may },
+      was_done (Reply (text (codes "1"))) refl get_a_done gets_a_may,
       (
-        record { response = Reply one; reply = refl; done = del_a_done; allowed = dels_a_may },
+        was_done (Reply one) refl del_a_done dels_a_may,
         (
           refl,
           (
-            record { response = Reply okay; reply = refl; done = set_a_done; allowed = sets_a_may },
+            was_done (Reply okay) refl set_a_done sets_a_may,
             (
-              record {
-                response = Reply (text (codes "1"));
-                reply = refl;
-                done = get_a_done;
-                allowed = gets_a_may;
-              },
+              was_done (Reply (text (codes "1"))) refl get_a_done gets_a_may,
               (
-                record {
-                  response = Reply (text (codes "2"));
-                  reply = refl;
-                  done = get_b_done;
-                  allowed = gets_b_may;
-                },
+                was_done (Reply (text (codes "2"))) refl get_b_done gets_b_may,
                 (refl, tt),
               ),
             ),

@@ -1,10 +1,10 @@
 -- Commands to a node that the caller names, computed: answered, refused by a redirect that is not followed,
 -- without a link, lost.
-use Rattle.std.specs.Prelude.{◌≡◌, ℕ, true, false, List, [], ◌∷◌, None, Some, Ok, Err, codes, refl}
+use Rattle.std.specs.Prelude.{◌≡◌, ℕ, true, false, List, [], ◌∷◌, None, Some, Ok, Err, codes, refl, Bool, Option}
 use Rattle.std.specs.Str.{is_utf8, chars}
 use lib.Utf8.{encode}
 use Rattle.resp_core.specs.Trees.{Tree, server_error}
-use Rattle.resp_core.specs.Errors.{by_cause, by_server, server_kind}
+use Rattle.resp_core.specs.Errors.{by_cause, by_server, server_kind, Refusal}
 use Rattle.resp_core.specs.Parts.{first_error}
 use Rattle.resp_core.specs.declared.errors.redis_error.Cause.TheVariants.{NoResponse, NoLink, Io}
 use Rattle.resp_args.specs.Command.{Command}
@@ -77,26 +77,23 @@ an_error_within_refuses = refl
 
 -- ---- redirects, which are not followed
 
-pub moved_refuses : kind on_halves [] a_fault at_n1 (log_of_n1 (server_error moved_to_n2 ∷ []))
-    ≡ Some (by_server moved_to_n2)
-unfolding first_error
-moved_refuses = refl
+-- why a reply refuses the call, and whether it wants a refresh
+abbrev pub ends_by : Tree → Option Refusal × Bool
+ends_by reply = (
+  kind on_halves [] a_fault at_n1 (log_of_n1 (reply ∷ [])),
+  flag_after false at_n1 (log_of_n1 (reply ∷ [])),
+)
 
-pub moved_wants_a_refresh : flag_after false at_n1 (log_of_n1 (server_error moved_to_n2 ∷ [])) ≡ true
-unfolding server_kind
-moved_wants_a_refresh = refl
+pub moved_refuses_and_wants_a_refresh : ends_by (server_error moved_to_n2) ≡ (Some (by_server moved_to_n2), true)
+unfolding first_error server_kind
+moved_refuses_and_wants_a_refresh = refl
 
 pub moved_leaves_the_map : map_after halves at_n1 (log_of_n1 (server_error moved_to_n2 ∷ [])) ≡ halves
 moved_leaves_the_map = refl
 
-pub ask_refuses : kind on_halves [] a_fault at_n1 (log_of_n1 (server_error ask_n2 ∷ []))
-    ≡ Some (by_server ask_n2)
-unfolding first_error
-ask_refuses = refl
-
-pub ask_wants_no_refresh : flag_after false at_n1 (log_of_n1 (server_error ask_n2 ∷ [])) ≡ false
-unfolding server_kind
-ask_wants_no_refresh = refl
+pub ask_refuses_and_wants_no_refresh : ends_by (server_error ask_n2) ≡ (Some (by_server ask_n2), false)
+unfolding first_error server_kind
+ask_refuses_and_wants_no_refresh = refl
 
 -- by a wrong rule, that of a query, the request goes on to the node that MOVED names
 abbrev pub followed : List Exchange

@@ -15,7 +15,8 @@ use Rattle.cluster_calls.specs.OneServer.Keyspace.{Keyspace, with_cell, Whole, S
 use Rattle.cluster_calls.specs.OneServer.Meaning.{Meaning, DoOperation, AreAllowed}
 use Rattle.cluster_calls.specs.OneServer.Operations.{RunCommand, Reply}
 use Rattle.cluster_calls.specs.WholeCalls.Base.{taken, plain, text}
-use Rattle.cluster_calls.specs.WholeCalls.KeyRuns.{set_a, get_a, slot_a, does, sets_a, none_done, answered, set_a_done}
+use Rattle.cluster_calls.specs.WholeCalls.Deeds.{does, was_done, whole_done, in_its_place}
+use Rattle.cluster_calls.specs.WholeCalls.KeyRuns.{set_a, get_a, slot_a, sets_a, none_done, answered, set_a_done}
 use Rattle.cluster_calls.specs.WholeCalls.RunsAmongOthers.{nothing}
 
 -- SET a 1, then another client sets a to 2, then GET a, answered with 2, and then another client finds that
@@ -34,6 +35,12 @@ gets_two = does (Whole get_a) slot_a (text (codes "2")) (codes "2") (codes "2")
 abbrev pub set_or_get : Meaning
 set_or_get = sets_a ∷ gets_two ∷ []
 
+pub set_allowed : AreAllowed set_or_get (sets_a ∷ [])
+set_allowed = ((0, lit< tt, refl), tt)
+
+pub get_two_allowed : AreAllowed set_or_get (gets_two ∷ [])
+get_two_allowed = ((1, lit< tt, refl), tt)
+
 abbrev pub the_set : CallTurns
 the_set = record { before = []; during = []; own = (sets_a ∷ []) ∷ [] }
 
@@ -45,17 +52,7 @@ a_is_two = with_cell nothing slot_a (codes "2")
 
 pub get_two_done : DoOperation (RunCommand get_a) (gets_two ∷ []) (Reply (text (codes "2")))
 unfolding destination rule_of table hash_slot splitting_of first_error
-get_two_done = (
-  text (codes "2"),
-  refl,
-  (gets_two, refl, record { deed = refl; slot = refl; response = refl; no_error = refl }),
-)
-
-pub set_allowed : AreAllowed set_or_get (sets_a ∷ [])
-set_allowed = ((0, lit< tt, refl), tt)
-
-pub get_two_allowed : AreAllowed set_or_get (gets_two ∷ [])
-get_two_allowed = ((1, lit< tt, refl), tt)
+get_two_done = whole_done get_a slot_a (text (codes "2")) (codes "2") (codes "2") refl refl refl
 
 ends : (b : Bool) → cond b (codes "2") (cond b (codes "2") (cond b (codes "2") (cond b (codes "1") [])))
     ≡ cond b (codes "2") []
@@ -67,15 +64,10 @@ pub another_may_write_between_calls : HonestAmongOthers set_or_get nothing none_
 unfolding first_error
 another_may_write_between_calls = record {
   requests = (
-    (record { response = Reply okay; reply = refl; done = set_a_done; allowed = set_allowed }, tt),
+    (was_done (Reply okay) refl set_a_done set_allowed, tt),
     (
       (
-        record {
-          response = Reply (text (codes "2"));
-          reply = refl;
-          done = get_two_done;
-          allowed = get_two_allowed;
-        },
+        was_done (Reply (text (codes "2"))) refl get_two_done get_two_allowed,
         tt,
       ),
       tt,
@@ -92,23 +84,8 @@ it_writes_between_them_on_one_server = record {
       ∷ record { was = the_get; now = the_get; responses = Reply (text (codes "2")) ∷ [] } ∷ [];
   all = refl;
   each = (
-    record {
-      operations = ((set_a_done, set_allowed), tt);
-      answer = (okay, refl, refl);
-      before = refl;
-      same = λ slot. refl;
-      in_place = λ one. refl;
-    },
-    (
-      record {
-        operations = ((get_two_done, get_two_allowed), tt);
-        answer = (text (codes "2"), refl, refl);
-        before = refl;
-        same = λ slot. refl;
-        in_place = λ one. refl;
-      },
-      tt,
-    ),
+    in_its_place ((set_a_done, set_allowed), tt) (okay, refl, refl),
+    (in_its_place ((get_two_done, get_two_allowed), tt) (text (codes "2"), refl, refl), tt),
   );
   history = (refl, (refl, (refl, (refl, λ slot. ends (slot == slot_a)))));
 }

@@ -1,7 +1,7 @@
 -- A pipeline over two nodes while another client looks and writes: what the claim says of it, and what no
 -- claim can.
 use Rattle.std.specs.Prelude.{◌≡◌, ℕ, ◌==◌, Bool, true, false, cond, List, [], ◌∷◌, ◌++◌, map, Ok, codes, refl}
-use Rattle.std.proofs.Common.{ap, sym, ◌∙◌, eqb-true}
+use Rattle.std.proofs.Common.{ap, sym, ◌∙◌}
 use Rattle.std.proofs.lemmas.Bool.{false≢true}
 use Rattle.resp_core.specs.Trees.{okay}
 use Rattle.resp_core.specs.Parts.{first_error}
@@ -17,9 +17,10 @@ use Rattle.cluster_calls.specs.OneServer.Headline.{RepliedCall, with_replies}
 use Rattle.cluster_calls.specs.OneServer.Keyspace.{with_cell, Whole, Step}
 use Rattle.cluster_calls.specs.OneServer.Operations.{Reply}
 use Rattle.cluster_calls.specs.WholeCalls.Base.{taken, plain, text}
-use Rattle.cluster_calls.specs.WholeCalls.KeyRuns.{set_a, get_a, get_b, slot_a, slot_b, does, sets_a, gets_a, gets_b, meaning, none_done, set_a_done, get_a_done, get_b_done, sets_a_allowed, gets_a_allowed, gets_b_allowed}
+use Rattle.cluster_calls.specs.WholeCalls.Deeds.{does, was_done}
+use Rattle.cluster_calls.specs.WholeCalls.KeyRuns.{set_a, get_a, get_b, slot_a, slot_b, sets_a, gets_a, gets_b, meaning, none_done, set_a_done, get_a_done, get_b_done, sets_a_allowed, gets_a_allowed, gets_b_allowed}
 use Rattle.cluster_calls.specs.WholeCalls.Pipelines.{three}
-use Rattle.cluster_calls.specs.WholeCalls.RunsAmongOthers.{nothing, a_is_one, both_put, finds_a}
+use Rattle.cluster_calls.specs.WholeCalls.RunsAmongOthers.{nothing, a_is_one, both_put, finds_a, not_both}
 use Rattle.cluster_calls.specs.WholeCalls.TurnsOnSlots.{same_on_each}
 
 -- SET a 1, GET b, GET a: n2 is sent the first and the last, and then n1 the second. In between another client
@@ -66,21 +67,11 @@ unfolding first_error
 another_may_write_within_a_pipeline = record {
   requests = (
     (
-      record { response = Reply okay; reply = refl; done = set_a_done; allowed = sets_a_allowed },
+      was_done (Reply okay) refl set_a_done sets_a_allowed,
       (
-        record {
-          response = Reply (text (codes "1"));
-          reply = refl;
-          done = get_a_done;
-          allowed = gets_a_allowed;
-        },
+        was_done (Reply (text (codes "1"))) refl get_a_done gets_a_allowed,
         (
-          record {
-            response = Reply (text (codes "2"));
-            reply = refl;
-            done = get_b_done;
-            allowed = gets_b_allowed;
-          },
+          was_done (Reply (text (codes "2"))) refl get_b_done gets_b_allowed,
           tt,
         ),
       ),
@@ -105,9 +96,7 @@ now_ends slot = by (slot == slot_a) refl (slot == slot_b) refl
         → cond c (codes "1")
         (cond c (codes "1") (cond b (codes "2") (cond b (codes "2") (cond c (codes "1") []))))
         ≡ cond b (codes "2") (cond c (codes "1") [])
-    by true e true f =
-        let two : slot_a ≡ slot_b = sym (eqb-true slot slot_a e) ∙ eqb-true slot slot_b f in
-        absurd (false≢true (sym (ap (λ n. n == slot_a) two)))
+    by true e true f = absurd (not_both slot e f)
     by true e false f = refl
     by false e true f = refl
     by false e false f = refl

@@ -20,6 +20,7 @@ use Rattle.cluster_calls.specs.OneServer.Keyspace.{Keyspace, with_cell, ReadOf, 
 use Rattle.cluster_calls.specs.OneServer.Meaning.{Meaning, DoOperation, AreAllowed}
 use Rattle.cluster_calls.specs.OneServer.Operations.{ReadKeys, Rows}
 use Rattle.cluster_calls.specs.WholeCalls.Base.{on_halves, a_fault, taken, plain}
+use Rattle.cluster_calls.specs.WholeCalls.Deeds.{was_done}
 use Rattle.cluster_calls.specs.WholeCalls.KeyRuns.{slot_a, slot_b, none_done}
 use Rattle.cluster_calls.specs.WholeCalls.Reads.{no_options, stream, read_of_one, row_of, a_row, xread_two, xread_three, read_ax, in_key_order, reads, ax_is_done, three_are_done}
 use Rattle.cluster_calls.specs.WholeCalls.RunsAmongOthers.{nothing}
@@ -98,14 +99,9 @@ unfolding hash_slot digits first_error is_utf8 chars encode
 two_is_honest = (
   (finds_none_of_a ∷ []) ∷ (finds_one_of_b ∷ []) ∷ [],
   (
-    record { response = Rows (Some []); reply = refl; done = none_of_a_is_read; allowed = none_of_a_is_allowed },
+    was_done (Rows (Some [])) refl none_of_a_is_read none_of_a_is_allowed,
     (
-      record {
-        response = Rows (Some (a_row (codes "b") ∷ []));
-        reply = refl;
-        done = one_of_b_is_read;
-        allowed = one_of_b_is_allowed;
-      },
+      was_done (Rows (Some (a_row (codes "b") ∷ []))) refl one_of_b_is_read one_of_b_is_allowed,
       tt,
     ),
   ),
@@ -203,12 +199,7 @@ three_is_honest = (
       allowed = ax_is_allowed;
     },
     (
-      record {
-        response = Rows (Some (a_row (codes "b") ∷ []));
-        reply = refl;
-        done = b_is_done;
-        allowed = b_is_allowed;
-      },
+      was_done (Rows (Some (a_row (codes "b") ∷ []))) refl b_is_done b_is_allowed,
       tt,
     ),
   ),

@@ -19,7 +19,8 @@ use Rattle.cluster_calls.specs.OneServer.Meaning.{Meaning, DoOperation}
 use Rattle.cluster_calls.specs.OneServer.Operations.{RunCommand, Reply}
 use Rattle.cluster_calls.specs.OneServer.AmongOthers.{Turn, Own, Other, step_of, in_turn, turns_on, CallTurns, call_turns, run_turns, TurnsLead, AreItsRequests, HonestAmongOthers, are_on_one_slot, ServedCall, IsServed, calls_were, calls_now, AsOneServerAmongOthers}
 use Rattle.cluster_calls.specs.WholeCalls.Base.{taken, plain, text}
-use Rattle.cluster_calls.specs.WholeCalls.KeyRuns.{get_a, get_b, slot_a, slot_b, does, sets_a, gets_a, meaning, none_done, put_again, answered, get_a_done, gets_a_allowed}
+use Rattle.cluster_calls.specs.WholeCalls.Deeds.{does, was_done, tuple_done}
+use Rattle.cluster_calls.specs.WholeCalls.KeyRuns.{get_a, get_b, slot_a, slot_b, sets_a, gets_a, meaning, none_done, put_again, answered, get_a_done, gets_a_allowed}
 use Rattle.cluster_calls.specs.WholeCalls.Splits.{mset_of}
 use Rattle.cluster_calls.specs.WholeCalls.TurnsOnSlots.{same_on_each}
 use Rattle.cluster_calls.specs.WholeCalls.WrongServers.{of_each, step_of as command_step, deed_byte, get_a_is_whole}
@@ -47,12 +48,7 @@ unfolding first_error
 a_get_may_find_what_another_set = record {
   requests = (
     (
-      record {
-        response = Reply (text (codes "1"));
-        reply = refl;
-        done = get_a_done;
-        allowed = gets_a_allowed;
-      },
+      was_done (Reply (text (codes "1"))) refl get_a_done gets_a_allowed,
       tt,
     ),
     tt,
@@ -154,25 +150,21 @@ looked_within = record
 
 pub put_a_done : DoOperation (RunCommand (mset_of (codes "a") (codes "1"))) (puts_a ∷ []) (Reply okay)
 unfolding destination rule_of table hash_slot splitting_of digits first_error
-put_a_done = (okay, refl, ((record { deed = refl; slot = refl; response = refl }, tt), refl))
+put_a_done = (okay, refl, ((tuple_done refl refl refl, tt), refl))
 
 pub put_b_done : DoOperation (RunCommand (mset_of (codes "b") (codes "2"))) (puts_b ∷ []) (Reply okay)
 unfolding destination rule_of table hash_slot splitting_of digits first_error
-put_b_done = (okay, refl, ((record { deed = refl; slot = refl; response = refl }, tt), refl))
+put_b_done = (okay, refl, ((tuple_done refl refl refl, tt), refl))
 
 pub mset_done : DoOperation (RunCommand mset_ab) (puts_a ∷ puts_b ∷ []) (Reply okay)
 unfolding destination rule_of table hash_slot splitting_of digits first_error
-mset_done = (
-  okay,
-  refl,
-  (
-    (
-      record { deed = refl; slot = refl; response = refl },
-      (record { deed = refl; slot = refl; response = refl }, tt),
-    ),
-    refl,
-  ),
-)
+mset_done = (okay, refl, ((tuple_done refl refl refl, (tuple_done refl refl refl, tt)), refl))
+
+-- no slot is that of a and that of b
+pub not_both : (slot : ℕ) → slot == slot_a ≡ true → slot == slot_b ≡ true → ⊥
+not_both slot e f =
+    let two : slot_a ≡ slot_b = sym (eqb-true slot slot_a e) ∙ eqb-true slot slot_b f in
+    false≢true (sym (ap (λ n. n == slot_a) two))
 
 cells : (b c : Bool)
     → cond b (codes "2") (cond b [] (cond c (codes "1") (cond c (codes "1") [])))
@@ -187,9 +179,9 @@ unfolding first_error
 others_may_look_within = record {
   requests = (
     (
-      record { response = Reply okay; reply = refl; done = put_a_done; allowed = ((0, lit< tt, refl), tt) },
+      was_done (Reply okay) refl put_a_done ((0, lit< tt, refl), tt),
       (
-        record { response = Reply okay; reply = refl; done = put_b_done; allowed = ((1, lit< tt, refl), tt) },
+        was_done (Reply okay) refl put_b_done ((1, lit< tt, refl), tt),
         tt,
       ),
     ),
@@ -236,9 +228,7 @@ they_look_around_on_one_server = record {
         by : (c : Bool) → slot == slot_a ≡ c → (b : Bool) → slot == slot_b ≡ b
             → cond c (codes "1") (cond b (codes "2") (cond c (codes "1") (cond b [] [])))
             ≡ cond b (codes "2") (cond c (codes "1") [])
-        by true e true f =
-            let two : slot_a ≡ slot_b = sym (eqb-true slot slot_a e) ∙ eqb-true slot slot_b f in
-            absurd (false≢true (sym (ap (λ n. n == slot_a) two)))
+        by true e true f = absurd (not_both slot e f)
         by true e false f = refl
         by false e true f = refl
         by false e false f = refl
@@ -282,28 +272,23 @@ first_b = puts_at slot_b (codes "b" ∷ codes "1" ∷ []) (codes "2") (codes "1"
 abbrev second_a : Step
 second_a = puts_at slot_a (codes "a" ∷ codes "2" ∷ []) (codes "1") (codes "2")
 
-pub they_cross : (keys' : Keyspace) × History nothing (first_a ∷ second_b ∷ first_b ∷ second_a ∷ []) keys'
-they_cross = (
-  with_cell (with_cell (with_cell (with_cell nothing slot_a (codes "1")) slot_b (codes "2")) slot_b
-      (codes "1")) slot_a (codes "2"),
-  (refl, (refl, (refl, (refl, λ slot. refl)))),
-)
+-- the keys that steps leave
+abbrev behind_all : Keyspace → List Step → Keyspace
+behind_all keys [] = keys
+behind_all keys (x ∷ xs) = behind_all (with_cell keys x.slot x.after) xs
 
-pub the_first_is_as_if_at_once : (keys' : Keyspace)
-    × History nothing (second_b ∷ first_a ∷ first_b ∷ second_a ∷ []) keys'
-the_first_is_as_if_at_once = (
-  with_cell (with_cell (with_cell (with_cell nothing slot_b (codes "2")) slot_a (codes "1")) slot_b
-      (codes "1")) slot_a (codes "2"),
-  (refl, (refl, (refl, (refl, λ slot. refl)))),
-)
+-- these four steps, from no keys, are a history
+abbrev AreAHistory : List Step → Type 0
+AreAHistory steps = History nothing steps (behind_all nothing steps)
 
-pub the_second_is_as_if_at_once : (keys' : Keyspace)
-    × History nothing (first_a ∷ second_b ∷ second_a ∷ first_b ∷ []) keys'
-the_second_is_as_if_at_once = (
-  with_cell (with_cell (with_cell (with_cell nothing slot_a (codes "1")) slot_b (codes "2")) slot_a
-      (codes "2")) slot_b (codes "1"),
-  (refl, (refl, (refl, (refl, λ slot. refl)))),
-)
+pub they_cross : AreAHistory (first_a ∷ second_b ∷ first_b ∷ second_a ∷ [])
+they_cross = (refl, (refl, (refl, (refl, λ slot. refl))))
+
+pub the_first_is_as_if_at_once : AreAHistory (second_b ∷ first_a ∷ first_b ∷ second_a ∷ [])
+the_first_is_as_if_at_once = (refl, (refl, (refl, (refl, λ slot. refl))))
+
+pub the_second_is_as_if_at_once : AreAHistory (first_a ∷ second_b ∷ second_a ∷ first_b ∷ [])
+the_second_is_as_if_at_once = (refl, (refl, (refl, (refl, λ slot. refl))))
 
 pub not_the_first_before_the_second : (keys' : Keyspace)
     → History nothing (first_a ∷ first_b ∷ second_b ∷ second_a ∷ []) keys' → ⊥

@@ -13,9 +13,12 @@ use Rattle.resp_link.specs.Call.{Seen}
 use Rattle.cluster_routing.specs.Examples.{first_node as n1, second_node as n2}
 use Rattle.cluster_routing.specs.HashSlot.{hash_slot}
 use Rattle.cluster_routing.specs.Lists.{concat, Pairwise}
+use Rattle.cluster_routing.specs.Parts.{Tuple}
 use Rattle.cluster_routing.specs.Routing.{destination}
 use Rattle.cluster_routing.specs.Split.{splitting_of}
 use Rattle.cluster_routing.specs.Table.{rule_of, table}
+use Rattle.cluster_routing.specs.declared.policy.ResponsePolicy.TheVariants.{AllSucceeded}
+use Rattle.cluster_routing.specs.declared.policy.ResponsePolicy.{ResponsePolicy}
 use Rattle.cluster_calls.specs.Links.Events.{Event}
 use Rattle.cluster_calls.specs.Links.Play.{Plays, shown_of}
 use Rattle.cluster_calls.specs.Links.Request.{Request, bytes_of}
@@ -24,11 +27,12 @@ use Rattle.cluster_calls.specs.OneServer.AmongOthers.{CallTurns, HonestAmongOthe
 use Rattle.cluster_calls.specs.OneServer.Headline.{PlayedCall, RepliedCall, with_replies, command_logs}
 use Rattle.cluster_calls.specs.OneServer.Honest.{HonestRun, AccountsFor}
 use Rattle.cluster_calls.specs.OneServer.Keyspace.{Keyspace, with_cell, Deed, PartOf, Step, History}
-use Rattle.cluster_calls.specs.OneServer.Meaning.{Meaning, DoOperation, AreAllowed}
+use Rattle.cluster_calls.specs.OneServer.Meaning.{Meaning, DoOperation, AreAllowed, DoesTuple}
 use Rattle.cluster_calls.specs.OneServer.Operations.{RunCommand, Response, Reply}
 use Rattle.cluster_calls.specs.OneServer.Played.{replied, HonestCluster}
 use Rattle.cluster_calls.specs.OneServer.PlayedAmongOthers.{HonestSharedCluster}
 use Rattle.cluster_calls.specs.WholeCalls.Base.{taken, plain, text}
+use Rattle.cluster_calls.specs.WholeCalls.Deeds.{was_done, in_its_place}
 use Rattle.cluster_calls.specs.WholeCalls.KeyRuns.{get_a, slot_a, slot_b, none_done, answered}
 use Rattle.cluster_calls.specs.WholeCalls.MixedPlay.{link, world, replies_to}
 use Rattle.cluster_calls.specs.WholeCalls.OthersBetweenCalls.{gets_two, the_get, get_two_done}
@@ -148,12 +152,12 @@ unfolding first_error
 shared_is_honest = record {
   requests = (
     (
-      record { response = Reply okay; reply = refl; done = put_a_done; allowed = puts_a_may },
-      (record { response = Reply okay; reply = refl; done = put_b_done; allowed = puts_b_may }, tt),
+      was_done (Reply okay) refl put_a_done puts_a_may,
+      (was_done (Reply okay) refl put_b_done puts_b_may, tt),
     ),
     (
       (
-        record { response = Reply (text (codes "2")); reply = refl; done = get_two_done; allowed = gets_two_may },
+        was_done (Reply (text (codes "2"))) refl get_two_done gets_two_may,
         tt,
       ),
       tt,
@@ -194,13 +198,7 @@ shared_is_as_on_one_server = record {
       in_place = λ one. absurd (false≢true one);
     },
     (
-      record {
-        operations = ((get_two_done, gets_two_may), tt);
-        answer = (text (codes "2"), refl, refl);
-        before = refl;
-        same = λ slot. refl;
-        in_place = λ one. refl;
-      },
+      in_its_place ((get_two_done, gets_two_may), tt) (text (codes "2"), refl, refl),
       tt,
     ),
   );
@@ -225,21 +223,24 @@ only_puts_b = (λ d. absurd (false≢true (ap (λ q. part_byte q == 98) d)), (λ
 only_gets_two : AllByRecursion (λ (x : Step). x.deed ≡ gets_two.deed → x ≡ gets_two) may
 only_gets_two = (λ d. cc, (λ d. cc, (λ d. refl, tt)))
 
+-- steps that do one tuple are the one step that the meaning has for it
+one_put : (policy : ResponsePolicy) (word : List ℕ) (tuple : Tuple) (x : Step) → x.deed ≡ PartOf word tuple []
+    → AllByRecursion (λ (y : Step). y.deed ≡ x.deed → y ≡ x) may → (s : List Step)
+    → Pairwise (DoesTuple policy word []) (tuple ∷ []) s → AreAllowed may s → s ≡ x ∷ []
+one_put policy word tuple x is only [] h allowed = absurd h
+one_put policy word tuple x is only (y ∷ []) h allowed = ap (λ z. z ∷ [])
+    (of_each (λ (z : Step). z.deed ≡ x.deed → z ≡ x) may y only allowed.0 (h.0.deed ∙ sym is))
+one_put policy word tuple x is only (y ∷ z ∷ s) h allowed = absurd h.1
+
 put_a_is : (s : List Step) (r : Response) → DoOperation (RunCommand put_a) s r → AreAllowed may s
     → s ≡ puts_a ∷ []
 unfolding destination rule_of table hash_slot splitting_of digits
-put_a_is [] r h allowed = absurd h.2.0
-put_a_is (x ∷ []) r h allowed = ap (λ y. y ∷ [])
-    (of_each (λ (y : Step). y.deed ≡ puts_a.deed → y ≡ puts_a) may x only_puts_a allowed.0 h.2.0.0.deed)
-put_a_is (x ∷ y ∷ s) r h allowed = absurd h.2.0.1
+put_a_is s r h = one_put AllSucceeded (codes "MSET") (codes "a" ∷ codes "1" ∷ []) puts_a refl only_puts_a s h.2.0
 
 put_b_is : (s : List Step) (r : Response) → DoOperation (RunCommand put_b) s r → AreAllowed may s
     → s ≡ puts_b ∷ []
 unfolding destination rule_of table hash_slot splitting_of digits
-put_b_is [] r h allowed = absurd h.2.0
-put_b_is (x ∷ []) r h allowed = ap (λ y. y ∷ [])
-    (of_each (λ (y : Step). y.deed ≡ puts_b.deed → y ≡ puts_b) may x only_puts_b allowed.0 h.2.0.0.deed)
-put_b_is (x ∷ y ∷ s) r h allowed = absurd h.2.0.1
+put_b_is s r h = one_put AllSucceeded (codes "MSET") (codes "b" ∷ codes "2" ∷ []) puts_b refl only_puts_b s h.2.0
 
 get_a_is : (s : List Step) (r : Response) → DoOperation (RunCommand get_a) s r → AreAllowed may s
     → s ≡ gets_two ∷ []

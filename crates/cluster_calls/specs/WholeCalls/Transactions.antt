@@ -57,32 +57,27 @@ aborted = error (codes "EXECABORT") (codes "x")
 abbrev pub answer : ℕ → List Exchange → Result Answer Refusal
 answer budget xs = answer_of (on_n1 budget) [] a_fault (Transaction commands) xs
 
+-- the log is legal, and this is its answer
+abbrev pub Answers : ℕ → List Exchange → Result Answer Refusal → Type 0
+Answers budget xs told = IsLegalCall (on_n1 budget) [] (Transaction commands) xs × (answer budget xs ≡ told)
+
 -- ---- done
 
 abbrev pub done_log : List Exchange
 done_log = log_over (okay ∷ queued ∷ queued ∷ ran ∷ []) [] (at_node n1)
 
-pub one_attempt_is_legal : IsLegalCall (on_n1 1) [] (Transaction commands) done_log
+pub the_array_of_one_attempt_answers : Answers 1 done_log (Ok (Value ran))
 unfolding destination rule_of table hash_slot splitting_of digits first_error is_utf8 chars encode server_kind
-one_attempt_is_legal = (refl, refl)
-
-pub its_array_answers : answer 1 done_log ≡ Ok (Value ran)
-unfolding destination rule_of table hash_slot splitting_of digits first_error is_utf8 chars encode server_kind
-its_array_answers = refl
+the_array_of_one_attempt_answers = ((refl, refl), refl)
 
 -- errors inside the array are of single commands, and a MOVED among them is not followed
 abbrev pub moved_inside : Tree
 moved_inside = array_of (okay ∷ moved ∷ [])
 
-pub an_error_inside_is_no_redirect : IsLegalCall (on_n1 1) [] (Transaction commands)
-    (log_over (okay ∷ queued ∷ queued ∷ moved_inside ∷ []) [] (at_node n1))
+pub an_error_inside_is_no_redirect_and_in_the_answer : Answers 1
+    (log_over (okay ∷ queued ∷ queued ∷ moved_inside ∷ []) [] (at_node n1)) (Ok (Value moved_inside))
 unfolding destination rule_of table hash_slot splitting_of digits first_error is_utf8 chars encode server_kind
-an_error_inside_is_no_redirect = (refl, refl)
-
-pub an_error_inside_is_in_the_answer : answer 1
-    (log_over (okay ∷ queued ∷ queued ∷ moved_inside ∷ []) [] (at_node n1)) ≡ Ok (Value moved_inside)
-unfolding destination rule_of table hash_slot splitting_of digits first_error is_utf8 chars encode server_kind
-an_error_inside_is_in_the_answer = refl
+an_error_inside_is_no_redirect_and_in_the_answer = ((refl, refl), refl)
 
 -- ---- MOVED, and then done
 
@@ -90,13 +85,9 @@ abbrev pub moved_log : List Exchange
 moved_log = log_over (okay ∷ moved ∷ moved ∷ aborted ∷ []) (okay ∷ queued ∷ queued ∷ ran ∷ [])
     (at_node n1 ++ at_node n2)
 
-pub moved_is_followed : IsLegalCall (on_n1 1) [] (Transaction commands) moved_log
+pub moved_is_followed_and_the_second_attempt_answers : Answers 1 moved_log (Ok (Value ran))
 unfolding destination rule_of table hash_slot splitting_of digits first_error is_utf8 chars encode server_kind
-moved_is_followed = (refl, refl)
-
-pub the_second_attempt_answers : answer 1 moved_log ≡ Ok (Value ran)
-unfolding destination rule_of table hash_slot splitting_of digits first_error is_utf8 chars encode server_kind
-the_second_attempt_answers = refl
+moved_is_followed_and_the_second_attempt_answers = ((refl, refl), refl)
 
 -- ---- ASK, and then done: ASKING goes before MULTI
 
@@ -104,13 +95,9 @@ abbrev pub ask_log : List Exchange
 ask_log = log_over (okay ∷ queued ∷ asks ∷ aborted ∷ []) (okay ∷ okay ∷ queued ∷ queued ∷ ran ∷ [])
     (at_node n1 ++ behind_asking n2)
 
-pub ask_is_followed : IsLegalCall (on_n1 1) [] (Transaction commands) ask_log
+pub ask_is_followed_and_the_attempt_behind_asking_answers : Answers 1 ask_log (Ok (Value ran))
 unfolding destination rule_of table hash_slot splitting_of digits first_error is_utf8 chars encode server_kind
-ask_is_followed = (refl, refl)
-
-pub the_attempt_behind_asking_answers : answer 1 ask_log ≡ Ok (Value ran)
-unfolding destination rule_of table hash_slot splitting_of digits first_error is_utf8 chars encode server_kind
-the_attempt_behind_asking_answers = refl
+ask_is_followed_and_the_attempt_behind_asking_answers = ((refl, refl), refl)
 
 abbrev pub get_behind_asking : List Request
 get_behind_asking = attempt (record { node = n2; asking = true }) ((codes "GET" ∷ codes "a" ∷ []) ∷ [])
@@ -138,40 +125,28 @@ refused = error (codes "NOPERM") (codes "x")
 abbrev pub unbegun_log : List Exchange
 unbegun_log = log_over (refused ∷ okay ∷ moved ∷ aborted ∷ []) [] (at_node n1)
 
-pub without_multi_nothing_is_sent_again : IsLegalCall (on_n1 1) [] (Transaction commands) unbegun_log
+pub without_multi_nothing_is_sent_again_and_its_error_is_told : Answers 1 unbegun_log
+    (Err (by_server (error_text (codes "NOPERM") (codes "x"))))
 unfolding destination rule_of table hash_slot splitting_of digits first_error is_utf8 chars encode server_kind
-without_multi_nothing_is_sent_again = (refl, refl)
-
-pub without_multi_its_error_is_told : answer 1 unbegun_log
-    ≡ Err (by_server (error_text (codes "NOPERM") (codes "x")))
-unfolding destination rule_of table hash_slot splitting_of digits first_error is_utf8 chars encode server_kind
-without_multi_its_error_is_told = refl
+without_multi_nothing_is_sent_again_and_its_error_is_told = ((refl, refl), refl)
 
 -- ---- EXEC's reply is lost: it may have been done
 
 abbrev pub lost_log : List Exchange
 lost_log = log_over (okay ∷ moved ∷ queued ∷ []) [] (at_node n1)
 
-pub without_exec_nothing_is_sent_again : IsLegalCall (on_n1 1) [] (Transaction commands) lost_log
+pub without_exec_nothing_is_sent_again_and_the_fault_is_told : Answers 1 lost_log (Err (by_cause Io))
 unfolding destination rule_of table hash_slot splitting_of digits first_error is_utf8 chars encode server_kind
-without_exec_nothing_is_sent_again = (refl, refl)
-
-pub without_exec_the_fault_is_told : answer 1 lost_log ≡ Err (by_cause Io)
-unfolding destination rule_of table hash_slot splitting_of digits first_error is_utf8 chars encode server_kind
-without_exec_the_fault_is_told = refl
+without_exec_nothing_is_sent_again_and_the_fault_is_told = ((refl, refl), refl)
 
 -- ---- the budget is out
 
 abbrev pub out_log : List Exchange
 out_log = log_over (okay ∷ moved ∷ moved ∷ aborted ∷ []) [] (at_node n1)
 
-pub without_budget_nothing_is_sent_again : IsLegalCall (on_n1 0) [] (Transaction commands) out_log
+pub without_budget_nothing_is_sent_again_and_moved_is_told : Answers 0 out_log (Err (by_server moved_to_n2))
 unfolding destination rule_of table hash_slot splitting_of digits first_error is_utf8 chars encode server_kind
-without_budget_nothing_is_sent_again = refl
-
-pub without_budget_moved_is_told : answer 0 out_log ≡ Err (by_server moved_to_n2)
-unfolding destination rule_of table hash_slot splitting_of digits first_error is_utf8 chars encode server_kind
-without_budget_moved_is_told = refl
+without_budget_nothing_is_sent_again_and_moved_is_told = (refl, refl)
 
 -- ---- nil, and a node without a link
 

@@ -1,6 +1,6 @@
 -- Runs in which what counts is wrong: a command done twice, a refused part done all the same, responses that
 -- are another call's.
-use Rattle.std.specs.Prelude.{◌≡◌, ◌==◌, ℕ, suc, Bool, true, false, cond, List, [], ◌∷◌, ◌++◌, map, length, None, Ok, Err, codes, pos, refl}
+use Rattle.std.specs.Prelude.{◌≡◌, ◌==◌, ℕ, suc, Bool, true, false, cond, List, [], ◌∷◌, ◌++◌, map, length, Ok, Err, codes, pos, refl}
 use Rattle.std.specs.List.{AllByRecursion}
 use Rattle.std.specs.Fmt.{digits}
 use Rattle.std.proofs.Common.{ap, sym, ◌∙◌, subst, lit<, inr}
@@ -11,7 +11,7 @@ use Rattle.resp_core.specs.Parts.{first_error}
 use Rattle.cluster_routing.specs.Combine.{array_of}
 use Rattle.cluster_routing.specs.HashSlot.{hash_slot}
 use Rattle.cluster_routing.specs.Routing.{destination}
-use Rattle.cluster_routing.specs.Split.{split_of, splitting_of}
+use Rattle.cluster_routing.specs.Split.{splitting_of}
 use Rattle.cluster_routing.specs.Table.{rule_of, table}
 use Rattle.cluster_routing.specs.Lists.{concat, Pairwise}
 use Rattle.cluster_routing.specs.Examples.{first_node as n1, second_node as n2}
@@ -20,28 +20,19 @@ use Rattle.cluster_calls.specs.Calls.Answer.{Value}
 use Rattle.cluster_calls.specs.Calls.Call.{Pipeline}
 use Rattle.cluster_calls.specs.Calls.Replies.{not_ignored}
 use Rattle.cluster_calls.specs.OneServer.Operations.{RunCommand, Response, Reply}
-use Rattle.cluster_calls.specs.OneServer.Keyspace.{Keyspace, with_cell, Whole, PartOf, Step, History}
+use Rattle.cluster_calls.specs.OneServer.Keyspace.{Keyspace, with_cell, Whole, Step, History}
 use Rattle.cluster_calls.specs.OneServer.Meaning.{Meaning, DoOperation, DoAll, OneServer}
 use Rattle.cluster_calls.specs.OneServer.Commands.{counting, IsAnswerBy}
 use Rattle.cluster_calls.specs.OneServer.Headline.{PlayedCall, RepliedCall, with_replies, all_counting, AsOneServer}
+use Rattle.cluster_calls.specs.WholeCalls.AskedRun.{incr_a, counts_one, counts_two, counts_up, incr_a_is_whole, incr_a_done}
 use Rattle.cluster_calls.specs.WholeCalls.Base.{taken, plain, text, one, error, error_text}
+use Rattle.cluster_calls.specs.WholeCalls.Deeds.{tuple_done, whole_done}
 use Rattle.cluster_calls.specs.WholeCalls.Pipelines.{entry}
-use Rattle.cluster_calls.specs.WholeCalls.KeyRuns.{get_a, get_b, slot_a, slot_b, does, gets_a, gets_b, meaning, none_done, a_and_b, played, answered, get_a_done, get_b_done, gets_a_allowed, gets_b_allowed, put_again}
+use Rattle.cluster_calls.specs.WholeCalls.KeyRuns.{get_a, get_b, slot_a, slot_b, gets_a, gets_b, meaning, none_done, a_and_b, played, answered, get_a_done, get_b_done, gets_a_allowed, gets_b_allowed, put_again}
+use Rattle.cluster_calls.specs.WholeCalls.MixedRun.{del, dels_a}
 use Rattle.cluster_calls.specs.WholeCalls.WrongServers.{one_command_cannot_lead}
 
 -- ---- a command that was done twice
-
-abbrev pub incr_a : List (List ℕ)
-incr_a = codes "INCR" ∷ codes "a" ∷ []
-
-abbrev pub to_one : Step
-to_one = does (Whole incr_a) slot_a one [] (codes "1")
-
-abbrev pub to_two : Step
-to_two = does (Whole incr_a) slot_a (int (pos 2)) (codes "1") (codes "2")
-
-abbrev pub counts : Meaning
-counts = to_one ∷ to_two ∷ []
 
 abbrev pub no_keys : Keyspace
 no_keys slot = []
@@ -57,51 +48,35 @@ first_byte (b ∷ bs) = b
 abbrev pub one_incr : List RepliedCall
 one_incr = with_replies (taken [] (one ∷ [])) (answered incr_a one (plain n2 incr_a ∷ []) ∷ [])
 
-pub incr_a_is_whole : split_of incr_a ≡ None
-unfolding rule_of table splitting_of
-incr_a_is_whole = refl
-
-pub to_one_done : DoOperation (RunCommand incr_a) (to_one ∷ []) (Reply one)
+pub to_two_done : DoOperation (RunCommand incr_a) (counts_two ∷ []) (Reply (int (pos 2)))
 unfolding destination rule_of table hash_slot splitting_of first_error
-to_one_done = (
-  one,
-  refl,
-  (to_one, refl, record { deed = refl; slot = refl; response = refl; no_error = refl }),
-)
+to_two_done = whole_done incr_a slot_a (int (pos 2)) (codes "1") (codes "2") refl refl refl
 
-pub to_two_done : DoOperation (RunCommand incr_a) (to_two ∷ []) (Reply (int (pos 2)))
-unfolding destination rule_of table hash_slot splitting_of first_error
-to_two_done = (
-  int (pos 2),
-  refl,
-  (to_two, refl, record { deed = refl; slot = refl; response = refl; no_error = refl }),
-)
-
-pub one_incr_leaves_one : AsOneServer counts no_keys none_done one_incr (a_is (codes "1"))
+pub one_incr_leaves_one : AsOneServer counts_up no_keys none_done one_incr (a_is (codes "1"))
 one_incr_leaves_one = record {
   responses = (Reply one ∷ []) ∷ [];
   counts = (refl, tt);
-  served = ((to_one ∷ []) ∷ [], ((to_one_done, ((0, lit< tt, refl), tt)), tt), (refl, λ slot. refl));
+  served = ((counts_one ∷ []) ∷ [], ((incr_a_done, ((0, lit< tt, refl), tt)), tt), (refl, λ slot. refl));
   answers = ((one, refl, refl), tt);
 }
 
-pub one_incr_leaves_no_two : AsOneServer counts no_keys none_done one_incr (a_is (codes "2")) → ⊥
-one_incr_leaves_no_two h = one_command_cannot_lead counts incr_a no_keys (a_is (codes "2"))
+pub one_incr_leaves_no_two : AsOneServer counts_up no_keys none_done one_incr (a_is (codes "2")) → ⊥
+one_incr_leaves_no_two h = one_command_cannot_lead counts_up incr_a no_keys (a_is (codes "2"))
     (concat h.responses) incr_a_is_whole none h.served
   where
     none : AllByRecursion
-        (λ (x : Step). x.deed ≡ Whole incr_a → History no_keys (x ∷ []) (a_is (codes "2")) → ⊥) counts
+        (λ (x : Step). x.deed ≡ Whole incr_a → History no_keys (x ∷ []) (a_is (codes "2")) → ⊥) counts_up
     none = (
       λ d leads. false≢true (ap (λ q. first_byte q == 50) (leads.1 slot_a)),
       (λ d leads. (let e = leads.0 in cc), tt),
     )
 
 -- a server that is given the command twice leaves two, so the claim must count
-pub two_incrs_leave_two : OneServer counts no_keys (RunCommand incr_a ∷ RunCommand incr_a ∷ [])
+pub two_incrs_leave_two : OneServer counts_up no_keys (RunCommand incr_a ∷ RunCommand incr_a ∷ [])
     (Reply one ∷ Reply (int (pos 2)) ∷ []) (a_is (codes "2"))
 two_incrs_leave_two = (
-  (to_one ∷ []) ∷ (to_two ∷ []) ∷ [],
-  ((to_one_done, ((0, lit< tt, refl), tt)), ((to_two_done, ((1, lit< tt, refl), tt)), tt)),
+  (counts_one ∷ []) ∷ (counts_two ∷ []) ∷ [],
+  ((incr_a_done, ((0, lit< tt, refl), tt)), ((to_two_done, ((1, lit< tt, refl), tt)), tt)),
   (refl, (refl, λ slot. put_over (slot == slot_a))),
 )
   where
@@ -110,12 +85,6 @@ two_incrs_leave_two = (
     put_over false = refl
 
 -- ---- a refused part that was done all the same
-
-abbrev pub del : List (List ℕ) → List (List ℕ)
-del keys = codes "DEL" ∷ keys
-
-abbrev pub dels_a : Step
-dels_a = does (PartOf (codes "DEL") (codes "a" ∷ []) []) slot_a one (codes "1") []
 
 -- DEL a b, of which n1 refused the part with b
 abbrev pub half_refused : List RepliedCall
@@ -136,7 +105,7 @@ the_answered_part_was_done = record {
     (dels_a ∷ []) ∷ [],
     (
       (
-        (one, refl, ((record { deed = refl; slot = refl; response = inr refl }, tt), refl)),
+        (one, refl, ((tuple_done refl refl (inr refl), tt), refl)),
         ((0, lit< tt, refl), tt),
       ),
       tt,

@@ -1,6 +1,6 @@
 -- Pipelines that tell of each position, of which the wrong counts: a command that was sent on and done all the
 -- same, a value that is another one's, a lost half of a split command. Beside each stands a right one.
-use Rattle.std.specs.Prelude.{◌≡◌, ℕ, Bool, true, List, [], ◌∷◌, ◌++◌, Ok, codes, pos, refl}
+use Rattle.std.specs.Prelude.{◌≡◌, ℕ, Bool, true, List, [], ◌∷◌, ◌++◌, Ok, codes, pos, refl, Some}
 use Rattle.std.specs.List.{AllByRecursion}
 use Rattle.std.specs.Fmt.{digits}
 use Rattle.std.proofs.Common.{subst, lit<, inr}
@@ -18,11 +18,12 @@ use Rattle.cluster_calls.specs.Calls.Answer.{Told}
 use Rattle.cluster_calls.specs.Calls.Call.{Each}
 use Rattle.cluster_calls.specs.OneServer.Commands.{AreOutcomesBy, IsAnswerBy}
 use Rattle.cluster_calls.specs.OneServer.Headline.{PlayedCall, RepliedCall, with_replies, command_logs, AsOneServer}
-use Rattle.cluster_calls.specs.OneServer.Honest.{HonestRun, AccountsFor}
+use Rattle.cluster_calls.specs.OneServer.Honest.{HonestRun}
 use Rattle.cluster_calls.specs.OneServer.Keyspace.{Keyspace, with_cell, Whole, Step, History}
 use Rattle.cluster_calls.specs.OneServer.Meaning.{Meaning, DoOperation, DoAll, OneServer}
 use Rattle.cluster_calls.specs.OneServer.Operations.{RunCommand, Response, Reply}
 use Rattle.cluster_calls.specs.WholeCalls.Base.{taken, plain, text, one, moved_to_n1}
+use Rattle.cluster_calls.specs.WholeCalls.Deeds.{tuple_done}
 use Rattle.cluster_calls.specs.WholeCalls.EachRuns.{Outcome, told, lost_link, sent_on}
 use Rattle.cluster_calls.specs.WholeCalls.EachSplits.{del_ab, del_a, del_b}
 use Rattle.cluster_calls.specs.WholeCalls.KeyRuns.{set_a, get_a, slot_a, slot_b, meaning, none_done, only_b, a_and_b}
@@ -30,7 +31,7 @@ use Rattle.cluster_calls.specs.WholeCalls.MixedEach.{dels_b}
 use Rattle.cluster_calls.specs.WholeCalls.MixedRun.{dels_a, del_a_done}
 use Rattle.cluster_calls.specs.WholeCalls.Pipelines.{entry}
 use Rattle.cluster_calls.specs.WholeCalls.WrongCounts.{no_keys, without_a}
-use Rattle.cluster_calls.specs.WholeCalls.WrongServers.{get_a_is_whole, cannot_respond}
+use Rattle.cluster_calls.specs.WholeCalls.WrongServers.{get_a_is_whole, cannot_respond, one_without_steps}
 
 -- a pipeline of one command, with what is told of it
 abbrev pub tells : List (List ℕ) → Outcome → List Request → List PlayedCall
@@ -70,13 +71,10 @@ a_node_that_sends_on_is_honest may done = ([] ∷ [], (refl, tt), λ slot. refl)
 pub and_does_not_do_it : (may : Meaning) (done : ℕ → Bool)
     → HonestRun may only_b done (command_logs moved_set) a_and_b → ⊥
 unfolding server_kind
-and_does_not_do_it may done h = by h.0 h.1 h.2
-  where
-    by : (ss : List (List Step)) → Pairwise (AccountsFor may done) (command_logs moved_set) ss
-        → History only_b (concat ss) a_and_b → ⊥
-    by [] a leads = absurd a
-    by (s ∷ []) a leads = let e = subst (λ q. History only_b (q ++ []) a_and_b) a.0 leads slot_a in cc
-    by (s ∷ s2 ∷ ss) a leads = absurd a.1
+and_does_not_do_it may done = one_without_steps may done (
+  Each (entry set_a ∷ []),
+  record { request = plain n2 set_a; place = 0; reply = Some (server_error moved_to_n1) },
+) (λ s a. a)
 
 -- it counts as no operation, and has no response
 pub no_operation_was_sent_on : (response : Response) (responses : List Response)
@@ -168,8 +166,8 @@ the_other_may_have_been = record {
           refl,
           (
             (
-              record { deed = refl; slot = refl; response = inr refl },
-              (record { deed = refl; slot = refl; response = inr refl }, tt),
+              tuple_done refl refl (inr refl),
+              (tuple_done refl refl (inr refl), tt),
             ),
             refl,
           ),

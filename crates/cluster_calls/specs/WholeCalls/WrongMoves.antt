@@ -1,7 +1,7 @@
 -- Wrong rules for where others' steps stand on one server: each is `IsServed` without a clause, or with a
 -- weaker one, and beside each stands a run that it lets through and that `IsServed` refuses. All steps here
 -- are looks. So the keys refuse none of it, and only the rule can.
-use Rattle.std.specs.Prelude.{◌≡◌, ℕ, ◌==◌, Bool, true, false, List, [], ◌∷◌, map, length, codes, refl}
+use Rattle.std.specs.Prelude.{◌≡◌, ℕ, ◌==◌, Bool, true, false, List, [], ◌∷◌, map, length, codes, refl, Ok}
 use Rattle.std.proofs.Common.{ap, sym, lit<}
 use Rattle.std.proofs.lemmas.Bool.{false≢true}
 use Rattle.resp_core.specs.Trees.{Tree, nil}
@@ -14,41 +14,45 @@ use Rattle.cluster_routing.specs.Lists.{concat, Pairwise}
 use Rattle.cluster_routing.specs.Routing.{destination}
 use Rattle.cluster_routing.specs.Split.{splitting_of}
 use Rattle.cluster_routing.specs.Table.{rule_of, table}
+use Rattle.cluster_calls.specs.Calls.Answer.{Value}
 use Rattle.cluster_calls.specs.OneServer.AmongOthers.{Turn, Own, Other, step_of, turns_on, CallTurns, while_made, run_turns, TurnsLead, HonestAmongOthers, are_on_one_slot, ServedCall, IsServed, calls_were, calls_now}
 use Rattle.cluster_calls.specs.OneServer.Commands.{counting, IsAnswerBy}
 use Rattle.cluster_calls.specs.OneServer.Headline.{RepliedCall, with_replies}
 use Rattle.cluster_calls.specs.OneServer.Keyspace.{Keyspace, Whole, PartOf, Step}
 use Rattle.cluster_calls.specs.OneServer.Meaning.{Meaning, DoOperation, DoAll}
 use Rattle.cluster_calls.specs.OneServer.Operations.{RunCommand, Reply}
-use Rattle.cluster_calls.specs.WholeCalls.Base.{taken, plain, text, one}
-use Rattle.cluster_calls.specs.WholeCalls.KeyRuns.{get_a, slot_a, slot_b, does, gets_a, gets_b, none_done, a_and_b, answered, get_a_done}
+use Rattle.cluster_calls.specs.WholeCalls.Base.{taken, plain, text, one, query}
+use Rattle.cluster_calls.specs.WholeCalls.Deeds.{does, was_done, tuple_done, in_its_place}
+use Rattle.cluster_calls.specs.WholeCalls.KeyRuns.{get_a, slot_a, slot_b, gets_a, gets_b, none_done, a_and_b, answered, get_a_done}
 use Rattle.cluster_calls.specs.WholeCalls.RunsAmongOthers.{one_get}
 use Rattle.cluster_calls.specs.WholeCalls.Splits.{mget_of, item}
 use Rattle.cluster_calls.specs.WholeCalls.TurnsOnSlots.{same_on_each, looks_lead}
 use Rattle.cluster_calls.specs.WholeCalls.WrongServers.{reply_byte}
 
--- ---- the wrong rules
+-- ---- the wrong rules: all have the operations and the answer
+
+-- a call does its operations and has its answer
+abbrev pub DoesAndAnswers : Meaning → (ℕ → Bool) → RepliedCall → ServedCall → Type 0
+DoesAndAnswers meaning done t s = DoAll meaning (counting done t.call t.answer t.log) s.now.own s.responses
+    × IsAnswerBy done t.call t.log t.answer s.responses
 
 -- nothing says that others' steps before the call stay there
 pub record WithoutBefore (meaning : Meaning) (done : ℕ → Bool) (t : RepliedCall)
     (s : ServedCall) : Type 0 where
-  pub operations : DoAll meaning (counting done t.call t.answer t.log) s.now.own s.responses
-  pub answer : IsAnswerBy done t.call t.log t.answer s.responses
+  pub told : DoesAndAnswers meaning done t s
   pub same : (slot : ℕ) → turns_on slot (while_made s.now) ≡ turns_on slot (while_made s.was)
   pub in_place : are_on_one_slot (concat s.was.own) ≡ true → while_made s.now ≡ while_made s.was
 
 -- nothing says that all stays as it was on each slot
 pub record WithoutSame (meaning : Meaning) (done : ℕ → Bool) (t : RepliedCall) (s : ServedCall) : Type 0 where
-  pub operations : DoAll meaning (counting done t.call t.answer t.log) s.now.own s.responses
-  pub answer : IsAnswerBy done t.call t.log t.answer s.responses
+  pub told : DoesAndAnswers meaning done t s
   pub before : s.now.before ≡ s.was.before
   pub in_place : are_on_one_slot (concat s.was.own) ≡ true → while_made s.now ≡ while_made s.was
 
 -- nothing says that all stays as it was where the call is on one slot
 pub record WithoutInPlace (meaning : Meaning) (done : ℕ → Bool) (t : RepliedCall)
     (s : ServedCall) : Type 0 where
-  pub operations : DoAll meaning (counting done t.call t.answer t.log) s.now.own s.responses
-  pub answer : IsAnswerBy done t.call t.log t.answer s.responses
+  pub told : DoesAndAnswers meaning done t s
   pub before : s.now.before ≡ s.was.before
   pub same : (slot : ℕ) → turns_on slot (while_made s.now) ≡ turns_on slot (while_made s.was)
 
@@ -60,11 +64,6 @@ pub record ServedBy (Rule : RepliedCall → ServedCall → Type 0) (keys : Keysp
   pub all : calls_were served ≡ calls
   pub each : Pairwise Rule ts served
   pub history : TurnsLead keys (run_turns (calls_now served) last) keys'
-
--- a call does its operations and has its answer
-abbrev pub DoesAndAnswers : Meaning → (ℕ → Bool) → RepliedCall → ServedCall → Type 0
-DoesAndAnswers meaning done t s = DoAll meaning (counting done t.call t.answer t.log) s.now.own s.responses
-    × IsAnswerBy done t.call t.log t.answer s.responses
 
 -- on each slot all stays as it was over the whole run, but not call by call
 pub record SameOverTheRun (meaning : Meaning) (keys : Keyspace) (done : ℕ → Bool) (ts : List RepliedCall)
@@ -127,64 +126,31 @@ calls_made = mget_was ∷ get_was ∷ []
 pub mget_a_done : DoOperation (RunCommand (mget_of (codes "a"))) (looks_a ∷ [])
     (Reply (item (text (codes "1"))))
 unfolding destination rule_of table hash_slot splitting_of digits first_error
-mget_a_done = (
-  item (text (codes "1")),
-  refl,
-  ((record { deed = refl; slot = refl; response = refl }, tt), refl),
-)
+mget_a_done = (item (text (codes "1")), refl, ((tuple_done refl refl refl, tt), refl))
 
 pub mget_b_done : DoOperation (RunCommand (mget_of (codes "b"))) (looks_b ∷ [])
     (Reply (item (text (codes "2"))))
 unfolding destination rule_of table hash_slot splitting_of digits first_error
-mget_b_done = (
-  item (text (codes "2")),
-  refl,
-  ((record { deed = refl; slot = refl; response = refl }, tt), refl),
-)
+mget_b_done = (item (text (codes "2")), refl, ((tuple_done refl refl refl, tt), refl))
 
 pub mget_done : DoOperation (RunCommand mget_ab) (looks_a ∷ looks_b ∷ []) (Reply one_and_two)
 unfolding destination rule_of table hash_slot splitting_of digits first_error
-mget_done = (
-  one_and_two,
-  refl,
-  (
-    (
-      record { deed = refl; slot = refl; response = refl },
-      (record { deed = refl; slot = refl; response = refl }, tt),
-    ),
-    refl,
-  ),
-)
+mget_done = (one_and_two, refl, ((tuple_done refl refl refl, (tuple_done refl refl refl, tt)), refl))
 
 pub the_run_is_honest : HonestAmongOthers looks a_and_b none_done mget_and_get calls_made [] a_and_b
 unfolding first_error
 the_run_is_honest = record {
   requests = (
     (
-      record {
-        response = Reply (item (text (codes "1")));
-        reply = refl;
-        done = mget_a_done;
-        allowed = ((0, lit< tt, refl), tt);
-      },
+      was_done (Reply (item (text (codes "1")))) refl mget_a_done ((0, lit< tt, refl), tt),
       (
-        record {
-          response = Reply (item (text (codes "2")));
-          reply = refl;
-          done = mget_b_done;
-          allowed = ((1, lit< tt, refl), tt);
-        },
+        was_done (Reply (item (text (codes "2")))) refl mget_b_done ((1, lit< tt, refl), tt),
         tt,
       ),
     ),
     (
       (
-        record {
-          response = Reply (text (codes "1"));
-          reply = refl;
-          done = get_a_done;
-          allowed = ((2, lit< tt, refl), tt);
-        },
+        was_done (Reply (text (codes "1"))) refl get_a_done ((2, lit< tt, refl), tt),
         tt,
       ),
       tt,
@@ -219,12 +185,17 @@ get_now before = record {
   responses = Reply (text (codes "1")) ∷ [];
 }
 
-mget_operations : DoAll looks (RunCommand mget_ab ∷ []) ((looks_a ∷ looks_b ∷ []) ∷ [])
-    (Reply one_and_two ∷ [])
-mget_operations = ((mget_done, ((0, lit< tt, refl), ((1, lit< tt, refl), tt))), tt)
+-- each call does its operations on one server, and has its answer
+mget_told : DoAll looks (RunCommand mget_ab ∷ []) ((looks_a ∷ looks_b ∷ []) ∷ []) (Reply one_and_two ∷ [])
+    × IsAnswerBy none_done (query mget_ab) [] (Ok (Value one_and_two)) (Reply one_and_two ∷ [])
+mget_told = (
+  ((mget_done, ((0, lit< tt, refl), ((1, lit< tt, refl), tt))), tt),
+  (one_and_two, refl, refl),
+)
 
-get_operations : DoAll looks (RunCommand get_a ∷ []) ((gets_a ∷ []) ∷ []) (Reply (text (codes "1")) ∷ [])
-get_operations = ((get_a_done, ((2, lit< tt, refl), tt)), tt)
+get_told : DoAll looks (RunCommand get_a ∷ []) ((gets_a ∷ []) ∷ []) (Reply (text (codes "1")) ∷ [])
+    × IsAnswerBy none_done (query get_a) [] (Ok (Value (text (codes "1")))) (Reply (text (codes "1")) ∷ [])
+get_told = (((get_a_done, ((2, lit< tt, refl), tt)), tt), (text (codes "1"), refl, refl))
 
 -- the own steps of MGET a b are on two slots
 mget_is_on_two : {P : Type 0} → are_on_one_slot (looks_a ∷ looks_b ∷ []) ≡ true → P
@@ -251,22 +222,13 @@ so_it_is_served = record {
   all = refl;
   each = (
     record {
-      operations = mget_operations;
-      answer = (one_and_two, refl, refl);
+      operations = mget_told.0;
+      answer = mget_told.1;
       before = refl;
       same = mget_same;
       in_place = mget_is_on_two;
     },
-    (
-      record {
-        operations = get_operations;
-        answer = (text (codes "1"), refl, refl);
-        before = refl;
-        same = λ slot. refl;
-        in_place = λ e. refl;
-      },
-      tt,
-    ),
+    (in_its_place get_told.0 get_told.1, tt),
   );
   history = looks_lead a_and_b (map step_of (run_turns (calls_now as_it_should_be) []))
       ((refl, refl), ((refl, refl), ((refl, refl), ((refl, refl), ((refl, refl), ((refl, refl), tt))))));
@@ -292,21 +254,8 @@ pub any_looks_without_same : (behind : List Step) → LeadsToItself (with_looks 
 any_looks_without_same behind leads = record {
   all = refl;
   each = (
-    record {
-      operations = mget_operations;
-      answer = (one_and_two, refl, refl);
-      before = refl;
-      in_place = mget_is_on_two;
-    },
-    (
-      record {
-        operations = get_operations;
-        answer = (text (codes "1"), refl, refl);
-        before = refl;
-        in_place = λ e. refl;
-      },
-      tt,
-    ),
+    record { told = mget_told; before = refl; in_place = mget_is_on_two },
+    (record { told = get_told; before = refl; in_place = λ e. refl }, tt),
   );
   history = leads;
 }
@@ -359,21 +308,8 @@ pub out_of_time_without_before : ServesTheRun (WithoutBefore looks none_done) ou
 out_of_time_without_before = record {
   all = refl;
   each = (
-    record {
-      operations = mget_operations;
-      answer = (one_and_two, refl, refl);
-      same = mget_same;
-      in_place = mget_is_on_two;
-    },
-    (
-      record {
-        operations = get_operations;
-        answer = (text (codes "1"), refl, refl);
-        same = λ slot. refl;
-        in_place = λ e. refl;
-      },
-      tt,
-    ),
+    record { told = mget_told; same = mget_same; in_place = mget_is_on_two },
+    (record { told = get_told; same = λ slot. refl; in_place = λ e. refl }, tt),
   );
   history = out_of_time_leads;
 }
@@ -384,10 +320,7 @@ pub out_of_time_with_same_over_the_run : SameOverTheRun looks a_and_b none_done 
 out_of_time_with_same_over_the_run = record {
   served_by = record {
     all = refl;
-    each = (
-      (mget_operations, (one_and_two, refl, refl)),
-      ((get_operations, (text (codes "1"), refl, refl)), tt),
-    );
+    each = (mget_told, (get_told, tt));
     history = out_of_time_leads;
   };
   same = same_on_each (slot_a ∷ slot_b ∷ slot_c ∷ []) (run_turns (calls_now out_of_time) [])
@@ -416,8 +349,7 @@ out_of_place_without_in_place = record {
   all = refl;
   each = (
     record {
-      operations = get_operations;
-      answer = (text (codes "1"), refl, refl);
+      told = get_told;
       before = refl;
       same = same_on_each (slot_a ∷ slot_b ∷ []) (Own gets_a ∷ Other gets_b ∷ [])
           (Other gets_b ∷ Own gets_a ∷ []) refl refl (refl, (refl, tt));

@@ -19,7 +19,7 @@ use Rattle.cluster_routing.specs.Table.{rule_of, table}
 use Rattle.cluster_routing.specs.Routing.{destination}
 use Rattle.cluster_routing.specs.Examples.{first_node as n1, second_node as n2, halves}
 use Rattle.cluster_calls.specs.Links.Request.{Request}
-use Rattle.cluster_calls.specs.Links.Reply.{Sort, Moved, Ask, Failed, Data, error_sort, sort_of, redirect_target}
+use Rattle.cluster_calls.specs.Links.Reply.{Sort, Moved, Failed, Data, error_sort, sort_of, redirect_target}
 use Rattle.cluster_calls.specs.Links.Log.{Exchange, reply_at, is_moved}
 use Rattle.cluster_calls.specs.Calls.After.{map_after}
 use Rattle.cluster_calls.specs.Calls.Call.{Entry, Refresh}
@@ -27,6 +27,7 @@ use Rattle.cluster_calls.specs.Calls.Legal.{NodeByNode, IsLegalCall}
 use Rattle.cluster_calls.specs.Calls.Plan.{Dispatch, by_number}
 use Rattle.cluster_calls.specs.Calls.Redirects.{Hop, Next, Stays, Lost, MatchNext, request_of, hop_by_link, next_of}
 use Rattle.cluster_calls.specs.Calls.Replies.{not_ignored, reply_or_nil, pipeline_reply}
+use Rattle.cluster_calls.specs.OneServer.Laws.{is_redirected}
 use Rattle.cluster_calls.specs.WholeCalls.Base.{both, on_n1, plain, behind_asking, goes_to, log_over, one, error_text, moved_to_n1, text}
 use Rattle.cluster_calls.specs.WholeCalls.RedirectedCalls.{get, get_a, asked_log, twice_log}
 use Rattle.cluster_calls.specs.WholeCalls.Pipelines.{entry, set_a, get as get_of, fine, moved_and_ended}
@@ -103,17 +104,8 @@ the_reply_to_asking_would_answer_by_a_wrong_rule = refl
 
 -- ---- each redirect wants a refresh
 
-abbrev pub is_redirect_sort : Sort → Bool
-is_redirect_sort (Moved e) = true
-is_redirect_sort (Ask e) = true
-is_redirect_sort _ = false
-
-abbrev pub is_redirected : Option Tree → Bool
-is_redirected None = false
-is_redirected (Some tree) = is_redirect_sort (sort_of tree)
-
 abbrev pub wrong_flag_after : Bool → List Exchange → Bool
-wrong_flag_after flag xs = flag || list_any (λ (x : Exchange). is_redirected x.reply) xs
+wrong_flag_after flag xs = flag || list_any is_redirected xs
 
 pub ask_would_want_a_refresh_by_a_wrong_rule : wrong_flag_after false (asked_log okay) ≡ true
 unfolding server_kind first_error

@@ -32,7 +32,8 @@ use Rattle.cluster_calls.specs.OneServer.SentLists.{AreReadOf, commands_of}
 use Rattle.cluster_calls.specs.OneServer.Headline.{PlayedCall, RepliedCall, with_replies, IsPlayedFrom}
 use Rattle.cluster_calls.specs.WholeCalls.Base.{on_halves, a_fault, taken, query, plain, log_over, text, one, error, error_text}
 use Rattle.cluster_calls.specs.WholeCalls.KeyRuns.{set_a, get_a, get_b, played, answered, three_calls}
-use Rattle.cluster_calls.specs.WholeCalls.WrongCounts.{del, half_refused}
+use Rattle.cluster_calls.specs.WholeCalls.MixedRun.{del}
+use Rattle.cluster_calls.specs.WholeCalls.WrongCounts.{half_refused}
 
 -- ---- an answer that the replies do not make: OK, where "1" was replied
 

@@ -14,6 +14,7 @@ use Rattle.cluster_routing.specs.Lists.{concat, Pairwise}
 use Rattle.cluster_routing.specs.Examples.{first_node as n1, second_node as n2}
 use Rattle.cluster_calls.specs.Links.Log.{Exchange}
 use Rattle.cluster_calls.specs.Calls.Answer.{Value}
+use Rattle.cluster_calls.specs.Calls.Call.{Call}
 use Rattle.cluster_calls.specs.OneServer.Operations.{RunCommand, Response, Reply}
 use Rattle.cluster_calls.specs.OneServer.Keyspace.{Keyspace, Deed, Whole, Step, History}
 use Rattle.cluster_calls.specs.OneServer.Meaning.{Meaning, DoOperation, DoesTuple, IsWholeStep, AreAllowed, DoAll, OneServer, tree_of_steps, step_trees}
@@ -21,6 +22,7 @@ use Rattle.cluster_calls.specs.OneServer.Honest.{HonestRun, AccountsFor}
 use Rattle.cluster_calls.specs.OneServer.Commands.{IsAnswerBy}
 use Rattle.cluster_calls.specs.OneServer.Headline.{RepliedCall, with_replies, command_logs, AsOneServer}
 use Rattle.cluster_calls.specs.WholeCalls.Base.{taken, query, plain, text}
+use Rattle.cluster_calls.specs.WholeCalls.Deeds.{was_done}
 use Rattle.cluster_calls.specs.WholeCalls.KeyRuns.{set_a, get_a, get_b, slot_a, sets_a, meaning, none_done, only_b, a_and_b, played, answered, set_a_done, sets_a_allowed}
 
 -- ---- what all of them go by
@@ -154,7 +156,7 @@ pub a_set_that_is_done_is_honest : HonestRun meaning only_b none_done (command_l
 unfolding first_error
 a_set_that_is_done_is_honest = (
   (sets_a ∷ []) ∷ [],
-  (record { response = Reply okay; reply = refl; done = set_a_done; allowed = sets_a_allowed }, tt),
+  (was_done (Reply okay) refl set_a_done sets_a_allowed, tt),
   (refl, λ slot. refl),
 )
 
@@ -188,18 +190,24 @@ pub a_lost_set_that_is_named_was_done : HonestRun meaning only_b (λ place. true
     (command_logs lost_set) a_and_b
 a_lost_set_that_is_named_was_done = (
   (sets_a ∷ []) ∷ [],
-  (record { response = Reply okay; reply = tt; done = set_a_done; allowed = sets_a_allowed }, tt),
+  (was_done (Reply okay) tt set_a_done sets_a_allowed, tt),
   (refl, λ slot. refl),
 )
 
-pub another_was_not : HonestRun meaning only_b none_done (command_logs lost_set) a_and_b → ⊥
-another_was_not h = by h.0 h.1 h.2
+-- where the one request of a run has no steps, a is not set
+pub one_without_steps : (may : Meaning) (done : ℕ → Bool) (x : Call × Exchange)
+    → ((s : List Step) → AccountsFor may done x s → s ≡ []) → HonestRun may only_b done (x ∷ []) a_and_b → ⊥
+one_without_steps may done x none h = by h.0 h.1 h.2
   where
-    by : (ss : List (List Step)) → Pairwise (AccountsFor meaning none_done) (command_logs lost_set) ss
+    by : (ss : List (List Step)) → Pairwise (AccountsFor may done) (x ∷ []) ss
         → History only_b (concat ss) a_and_b → ⊥
     by [] a leads = absurd a
-    by (s ∷ []) a leads = let e = subst (λ q. History only_b (q ++ []) a_and_b) a.0 leads slot_a in cc
+    by (s ∷ []) a leads = let e = subst (λ q. History only_b (q ++ []) a_and_b) (none s a.0) leads slot_a in cc
     by (s ∷ s2 ∷ ss) a leads = absurd a.1
+
+pub another_was_not : HonestRun meaning only_b none_done (command_logs lost_set) a_and_b → ⊥
+another_was_not = one_without_steps meaning none_done
+    (query set_a, record { request = plain n2 set_a; place = 0; reply = None }) (λ s a. a)
 
 -- ---- a reply that was still to come when the run began
 

@@ -1,7 +1,8 @@
 //! Commands whose parts are sent in an order that the caller gives.
-ghost use Rattle.std.specs.Prelude.{◌≡◌, ◌≢◌, [], Err, option_map};
+ghost use Rattle.std.specs.Prelude.{◌≡◌, ◌≢◌, [], Err};
 ghost use Rattle.resp_core.specs.Errors.{by_cause};
 ghost use Rattle.resp_core.specs.declared.errors.redis_error.Cause.TheVariants.{Memory};
+ghost use Rattle.cluster_routing.specs.Choice.{strategy_of};
 ghost use Rattle.cluster_calls.specs.Calls.Call.{Ordered};
 ghost use Rattle.cluster_calls.specs.Links.Converted.{ValueMade};
 ghost use Rattle.cluster_calls.specs.Links.Happened.{Happened, LacksLate};
@@ -38,12 +39,12 @@ impl<L: ConnectionLike + Drop> ClusterClient<L> {
         strategy: Option<&dyn ReadRoutingStrategy>,
     ) -> Result<T, RedisError>
         // What happened, also where memory is refused.
-        ensures happened { Happened (option_map (λ s. admits s.now) strategy.entry) (whole L.seen self.old)
+        ensures happened { Happened (strategy_of admits strategy.entry) (whole L.seen self.old)
             (whole L.seen self.new) (Ordered cmd.now order.now number) }
-        ensures answered { ValueMade (option_map (λ s. admits s.now) strategy.entry) (whole L.seen self.old)
+        ensures answered { ValueMade (strategy_of admits strategy.entry) (whole L.seen self.old)
             (whole L.seen self.new) (Ordered cmd.now order.now number) T.meaning T.convert result }
         ensures room { result ≡ Err (by_cause Memory) → (whole L.seen self.new).log ≢ []
-            → LacksLate (option_map (λ s. admits s.now) strategy.entry) (whole L.seen self.old)
+            → LacksLate (strategy_of admits strategy.entry) (whole L.seen self.old)
             (whole L.seen self.new) (Ordered cmd.now order.now number) }
         ensures unpicked { result ≡ Err (by_cause Memory) → (whole L.seen self.new).log ≡ []
             → (whole L.seen self.new).picked ≡ [] }

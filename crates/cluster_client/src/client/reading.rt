@@ -1,8 +1,9 @@
 //! Reads of streams in parts, one for each slot of their keys.
 ghost use Rattle.std.specs.List.{AllByRecursion};
-ghost use Rattle.std.specs.Prelude.{◌≡◌, ◌≢◌, [], None, true, option_map, Err, IfOk};
+ghost use Rattle.std.specs.Prelude.{◌≡◌, ◌≢◌, [], None, true, Err, IfOk};
 ghost use Rattle.resp_core.specs.Errors.{by_cause};
 ghost use Rattle.resp_core.specs.declared.errors.redis_error.Cause.TheVariants.{Memory};
+ghost use Rattle.cluster_routing.specs.Choice.{strategy_of};
 ghost use Rattle.cluster_routing.specs.Seen.{addresses};
 ghost use Rattle.stream_commands.specs.Joining.{positions};
 ghost use Rattle.stream_commands.specs.RecordViews.{rows_view};
@@ -49,7 +50,7 @@ impl<L: ConnectionLike + Drop> ClusterClient<L> {
     ) -> Result<StreamReadReply, RedisError>
         requires by_key { is_by_key options.now (stream_keys (streams_in streams.now)) ≡ true }
         requires met { read_refusal (stream_keys (streams_in streams.now)) options.now ≡ None }
-        ensures { CallMade (option_map (λ s. admits s.now) strategy.entry) (whole L.seen self.old)
+        ensures { CallMade (strategy_of admits strategy.entry) (whole L.seen self.old)
             (whole L.seen self.new) (OnStreams (Xread (streams_in streams.now) options.now))
             (record_answer (λ reply. Read (rows_view reply.keys.items)) result) }
     {
@@ -68,7 +69,7 @@ impl<L: ConnectionLike + Drop> ClusterClient<L> {
     ) -> Result<StreamReadReply, RedisError>
         requires by_key { is_by_key options.now (stream_keys (streams_in streams.now)) ≡ true }
         requires met { read_refusal (stream_keys (streams_in streams.now)) options.now ≡ None }
-        ensures { CommandEnded (option_map (λ s. admits s.now) strategy.entry) (whole L.seen self.old)
+        ensures { CommandEnded (strategy_of admits strategy.entry) (whole L.seen self.old)
             (whole L.seen self.new) (OnStreams (Xread (streams_in streams.now) options.now))
             (record_answer (λ reply. Read (rows_view reply.keys.items)) result) }
     {
@@ -90,7 +91,7 @@ impl<L: ConnectionLike + Drop> ClusterClient<L> {
         ensures stays { whole L.seen self.new
             ≡ with_log (whole L.seen self.old) [] (addresses self.new.picked.items) }
         ensures planned { result ≢ Err (by_cause Memory)
-            → IsPlanned (option_map (λ s. admits s.now) strategy.entry) (client_of (whole L.seen self.old))
+            → IsPlanned (strategy_of admits strategy.entry) (client_of (whole L.seen self.old))
             (OnStreams (Xread (streams_in streams.now) options.now)) (addresses self.new.picked.items)
             (dispatches_in result) }
         ensures placed { IfOk result

@@ -38,7 +38,7 @@ impl<L: ConnectionLike + Drop> ClusterClient<L> {
         ensures stays { IfErr result (λ _. whole L.seen self.new ≡ whole L.seen self.old) }
     {
         match self.links.place_of(&node) {
-            Some(which) => Ok(Some(self.links.replace(which, link))),
+            Some(index) => Ok(Some(self.links.replace(index, link))),
             None => {
                 self.links.push(node, link)?;
                 Ok(None)

@@ -9,25 +9,26 @@ ghost use Rattle.cluster_calls.specs.Calls.Parts.{pipeline_parts};
 ghost use Rattle.cluster_calls.specs.Calls.Plan.{plan};
 ghost use Rattle.cluster_calls.specs.Links.EachMade.{EachMade, WholesMade};
 ghost use Rattle.cluster_calls.specs.Links.Happened.{client_of};
+ghost use Rattle.cluster_calls.specs.Links.Run.{with_log};
 ghost use Rattle.cluster_calls.specs.Links.World.{World, nodes};
 ghost use Rattle.cluster_steps.specs.AtOnce.{AllSent};
 ghost use Rattle.cluster_steps.specs.Each.{left_or_cause};
 ghost use Rattle.cluster_steps.specs.FirstPlaces.{part_of};
 ghost use Rattle.cluster_steps.specs.GroupRuns.{IsGroupPlaced};
-ghost use Rattle.cluster_steps.specs.Groups.{Group as RequestGroup, group_of, request_count};
+ghost use Rattle.cluster_steps.specs.Groups.{NodeRequests as RequestGroup, group_of, request_count};
+ghost use Rattle.cluster_client.specs.InParts.{AreInParts, IsDirected, entry_of};
 ghost use Rattle.cluster_client.specs.Outcomes.{EachExchanged, ReceivedFrom, outcomes_of};
 ghost use Rattle.cluster_client.specs.Whole.{whole};
 
 use crate::client::ClusterClient;
-use crate::pipeline::in_parts::{InParts, commands_in_parts};
-use crate::pipeline::parts::pipeline_parts;
+use crate::pipeline::in_parts::{InParts, commands_in_parts, directed_in_parts};
 use crate::pipeline::reply::refresh_needed;
-use crate::pipeline::{ClusterPipeline, PipelineCommand};
+use crate::pipeline::{ClusterPipeline, Directed, PipelineCommand};
 use cluster_steps::at_once::{Sent, receive_group, send_group};
 use cluster_steps::each::tell_each;
 use cluster_steps::grouped::{NumberedGroups, grouped};
 use cluster_steps::join::join_each;
-use cluster_steps::ready::Group;
+use cluster_steps::ready::NodeRequests;
 use cluster_steps::route::Part;
 use resp_core::{Cause, RedisError, Value};
 use resp_link::PipelinedLink;
@@ -36,10 +37,10 @@ use std::collections::VecDeque;
 
 impl<L: PipelinedLink + Drop> ClusterClient<L> {
     /// Sends each node its requests, one node after another. No reply is taken yet, and no memory.
-    fn send_each(&mut self, groups: Vec<Group>, sent: &mut Vec<Sent>)
+    fn send_each(&mut self, groups: Vec<NodeRequests>, sent: &mut Vec<Sent>)
         requires placed { AllByRecursion
             (λ g. IsGroupPlaced (nodes L.seen self.old.links.nodes.items) (group_of g)) groups.items }
-        requires apart { IsDistinct nat_eq (map (λ g. g.which) (map group_of groups.items)) }
+        requires apart { IsDistinct nat_eq (map (λ g. g.link) (map group_of groups.items)) }
         requires log_room { vec_len self.old.asked
             + request_count (map group_of groups.items) ≤ vec_capacity self.old.asked }
         requires none { vec_len sent.old ≡ 0 }
@@ -47,7 +48,7 @@ impl<L: PipelinedLink + Drop> ClusterClient<L> {
         ensures sent { AllSent (whole L.seen self.old) (whole L.seen self.new) (map group_of groups.items)
             sent.new.items }
         ensures count { vec_len sent.new ≡ vec_len groups }
-        ensures within { AllByRecursion (λ s. s.which < vec_len self.new.links.nodes) sent.new.items }
+        ensures within { AllByRecursion (λ s. s.link < vec_len self.new.links.nodes) sent.new.items }
     {
         'groups: for group in groups {
             sent.push(send_group(&mut self.links, &mut self.asked, group))
@@ -57,7 +58,7 @@ impl<L: PipelinedLink + Drop> ClusterClient<L> {
 
     /// The replies of one node, as they are told one after another. Only the link call takes memory.
     fn receive_one(&mut self, alloc: Global, sent: Sent) -> Result<VecDeque<Value>, Cause>
-        requires within { sent.which < vec_len self.old.links.nodes }
+        requires within { sent.link < vec_len self.old.links.nodes }
         ensures received { ReceivedFrom (whole L.seen self.old) (whole L.seen self.new) sent
             (left_or_cause deque_items result) }
         ensures len { vec_len self.new.links.nodes ≡ vec_len self.old.links.nodes }
@@ -75,7 +76,7 @@ impl<L: PipelinedLink + Drop> ClusterClient<L> {
         sent: Vec<Sent>,
         answers: &mut Vec<Result<VecDeque<Value>, Cause>>,
     )
-        requires within { AllByRecursion (λ s. s.which < vec_len self.old.links.nodes) sent.items }
+        requires within { AllByRecursion (λ s. s.link < vec_len self.old.links.nodes) sent.items }
         requires none { vec_len answers.old ≡ 0 }
         requires room { vec_len sent ≤ vec_capacity answers.old }
         ensures exchanged { (start : World) (groups : List RequestGroup)
@@ -113,43 +114,28 @@ impl<L: PipelinedLink + Drop> ClusterClient<L> {
         Ok(outcomes)
     }
 
-    /// The outcome of each of a pipeline's commands, which all go whole.
-    fn outcomes_of_wholes(
-        &mut self,
-        alloc: Global,
-        commands: &[PipelineCommand],
-    ) -> Result<Vec<Result<Value, RedisError>>, RedisError>
-        ensures { (strategy : Option Strategy)
-            → WholesMade strategy (whole L.seen self.old) (whole L.seen self.new) commands.now
-            (plan (client_of (whole L.seen self.old)) [] (Pipeline commands.now))
-            (λ each outcomes. outcomes ≡ each) (outcomes_of result) }
-    {
-        self.asked = Vec::new(alloc);
-        self.picked = Vec::new(alloc);
-        let parts = pipeline_parts(alloc, commands)?;
-        self.outcomes_of_parts(alloc, parts)
-    }
-
-    /// The outcome of each of a pipeline's positions, of which some are split commands of several slots.
+    /// The outcome of each of a pipeline's positions, of which these are the parts. Nothing is in the log yet.
     fn outcomes_in_parts(
         &mut self,
         alloc: Global,
-        commands: &[PipelineCommand],
+        all: InParts,
     ) -> Result<Vec<Result<Value, RedisError>>, RedisError>
-        ensures { (strategy : Option Strategy)
-            → EachMade strategy (whole L.seen self.old) (whole L.seen self.new) commands.now
-            (outcomes_of result) }
+        requires emptied { whole L.seen self.old ≡ with_log (whole L.seen self.old) [] [] }
+        requires parts { (entries : List Entry) × AreInParts entries all }
+        ensures { (strategy : Option Strategy) (entries : List Entry) → AreInParts entries all
+            → EachMade strategy (whole L.seen self.old) (whole L.seen self.new) entries (outcomes_of result) }
     {
-        self.asked = Vec::new(alloc);
-        self.picked = Vec::new(alloc);
-        let InParts { parts, joins } = commands_in_parts(alloc, commands)?;
+        let InParts { parts, joins } = all;
         let mut outcomes = Vec::with_capacity(alloc, joins.len())?;
         let told = self.outcomes_of_parts(alloc, parts)?;
+        if joins.is_empty() {
+            return Ok(told);
+        }
         join_each(alloc, joins, told, &mut outcomes);
         Ok(outcomes)
     }
 
-    /// The outcome of each of a pipeline's positions.
+    /// The outcome of each of a pipeline's positions, of which some may be split commands of several slots.
     fn outcomes_of_pipeline(
         &mut self,
         alloc: Global,
@@ -159,14 +145,32 @@ impl<L: PipelinedLink + Drop> ClusterClient<L> {
             → EachMade strategy (whole L.seen self.old) (whole L.seen self.new) commands.now
             (outcomes_of result) }
     {
-        match self.outcomes_of_wholes(alloc, commands) {
-            Ok(outcomes) => Ok(outcomes),
-            Err(e) => match e.position() {
-                // (a command that does not go whole may go in parts)
-                Some(_) => self.outcomes_in_parts(alloc, commands),
-                None => Err(e),
-            },
-        }
+        self.asked = Vec::new(alloc);
+        self.picked = Vec::new(alloc);
+        let all = commands_in_parts(alloc, commands)?;
+        self.outcomes_in_parts(alloc, all)
+    }
+
+    /// What `ClusterPipeline::query_each` does and tells, of commands that are lent with their directions: none
+    /// is copied as a whole, and none is looked up.
+    ///
+    /// # Errors
+    /// Those of `query_each`.
+    pub fn query_each_directed(
+        &mut self,
+        alloc: Global,
+        commands: &[Directed<'_>],
+    ) -> Result<Vec<Result<Value, RedisError>>, RedisError>
+        requires { AllByRecursion IsDirected commands.now }
+        // No strategy is asked: it holds for each.
+        ensures { (strategy : Option Strategy)
+            → EachMade strategy (whole L.seen self.old) (whole L.seen self.new) (map entry_of commands.now)
+            (outcomes_of result) }
+    {
+        self.asked = Vec::new(alloc);
+        self.picked = Vec::new(alloc);
+        let all = directed_in_parts(alloc, commands)?;
+        self.outcomes_in_parts(alloc, all)
     }
 }
 
@@ -202,8 +206,7 @@ impl ClusterPipeline {
     /// longest, and an MGET of many slots waits once too, as a pipeline of one command. Where no link fails, the
     /// log, the slot map, `needs_refresh` and the links are those of `query`. All outcomes are
     /// held until the last; room for them is taken before the first byte, and behind it a link call alone
-    /// takes memory, and the one value of several parts. With a split command of several slots the commands
-    /// before the first such are looked up and copied once more.
+    /// takes memory, and the one value of several parts.
     ///
     /// # Errors
     /// Only where nothing was sent: for the first command that waits for no response, goes neither whole to

@@ -1,27 +1,30 @@
 //! A pipeline whose split commands may have several slots: each of these stands as its parts.
-ghost use Rattle.std.specs.Prelude.{◌≡◌, ◌≢◌, ℕ, List, [], Ok, Some, false, option_map, IfOk, IfErr, OnOk};
+ghost use Rattle.std.specs.List.{AllByRecursion};
+ghost use Rattle.std.specs.Prelude.{◌≡◌, ◌≢◌, ◌∷◌, ◌++◌, ℕ, suc, Bool, List, [], Ok, Err, None, Some, false, map, replicate, option_map, IfOk, IfErr, IfSome, OnOk};
 ghost use Rattle.resp_core.specs.Errors.{at_position, by_cause};
 ghost use Rattle.resp_core.specs.declared.errors.redis_error.Cause.TheVariants.{Memory};
 ghost use Rattle.resp_args.specs.Packed.{sent};
 ghost use Rattle.cluster_routing.specs.Info.{shown_split};
-ghost use Rattle.cluster_routing.specs.Split.{parts_by_place};
-ghost use Rattle.cluster_calls.specs.Calls.InParts.{first_unplaced, goes_to_slots, split_at};
+ghost use Rattle.cluster_routing.specs.Split.{IsOwnSplitting, parts_by_place};
+ghost use Rattle.cluster_calls.specs.Calls.InParts.{first_unplaced, split_at};
 ghost use Rattle.cluster_calls.specs.Calls.Parts.{if_one_slot, parts_of, reads_several_slots, whole_part};
-ghost use Rattle.cluster_steps.specs.CodeParts.{part_targets, split_in, targets_in};
+ghost use Rattle.cluster_steps.specs.CodeParts.{part_targets, split_in, targets_by, targets_in};
+ghost use Rattle.cluster_steps.specs.Joins.{HasRoom, shown_join};
 ghost use Rattle.cluster_steps.specs.WholeParts.{whole_at, whole_by};
-ghost use Rattle.cluster_client.specs.InParts.{AreInParts, IsAdded, if_several_targets, places_of};
+ghost use Rattle.cluster_client.specs.InParts.{AreInParts, AreReady, IsAdded, IsDirected, IsUnplaced, entry, entry_of, if_several_targets, joins_after, places_of, shown_joins};
 
-use crate::pipeline::PipelineCommand;
 use crate::pipeline::parts::primary_route;
+use crate::pipeline::{Directed, PipelineCommand};
 use cluster_routing::{Route, SplitParts};
 use cluster_steps::join::Join;
 use cluster_steps::pipeline_reads::reads_several_slots;
-use cluster_steps::route::{Part, Target, Targets, push_parts, targets_of};
+use cluster_steps::route::{Part, Target, Targets, push_split, targets_by, targets_of, whole_part};
+use resp_args::Cmd;
 use resp_core::{Cause, ErrorKind, RedisError};
 use std::alloc::{AllocError, Global};
 
 /// The parts that go out for a pipeline's commands, and for each of these how the outcomes of its parts become
-/// one; none for a command that goes whole.
+/// one: none for a command that goes whole, and for none of them where no command is split.
 #[derive(Drop)]
 pub(crate) struct InParts {
     pub parts: Vec<Part>,
@@ -58,35 +61,67 @@ fn one_route(targets: &Targets, reads_several: bool) -> Option<Route>
     }
 }
 
+/// Puts so many commands that go whole behind what there is.
+fn push_wholes(joins: &mut Vec<Option<Join>>, count: usize) -> Result<(), AllocError>
+    ensures joins { OnOk result
+        (shown_joins joins.new.items ≡ shown_joins joins.old.items ++ replicate count None) }
+    ensures ready { OnOk result (AreReady joins.old.items → AreReady joins.new.items) }
+{
+    'wholes: for _ in 0..count {
+        joins.push(None)?;
+    }
+    Ok(())
+}
+
 impl InParts {
+    /// Puts the join of the command at this position behind those of the commands before it; none where it goes
+    /// whole. Until a command is split there is nothing to be put.
+    fn push_join(&mut self, position: usize, join: Option<Join>) -> Result<(), AllocError>
+        ensures joins { OnOk result
+            (joins_after (suc position) self.new
+            ≡ joins_after position self.old ++ option_map shown_join join ∷ []) }
+        ensures ready { OnOk result
+            (IfSome join HasRoom → AreReady self.old.joins.items → AreReady self.new.joins.items) }
+        ensures parts { self.new.parts ≡ self.old.parts }
+    {
+        if self.joins.is_empty() {
+            if join.is_none() {
+                return Ok(());
+            }
+            push_wholes(&mut self.joins, position)?;
+        }
+        self.joins.push(join)?;
+        Ok(())
+    }
+
     /// Puts a split command's parts behind what there is.
     fn add_parts(
         &mut self,
         alloc: Global,
-        command: &PipelineCommand,
+        position: usize,
+        command: &Cmd,
         split: SplitParts,
     ) -> Result<(), AllocError>
-        requires { Some (shown_split split) ≡ places_of (split_at command.now) }
-        ensures { OnOk result (IsAdded command.now self.old self.new) }
+        requires own { IsOwnSplitting command.now.args (shown_split split).splitting }
+        requires split { Some (shown_split split) ≡ places_of (split_at (entry command.now false)) }
+        ensures { OnOk result
+            ((ignored : Bool) → IsAdded position (entry command.now ignored) self.old self.new) }
     {
-        let routed = split.routed_args(alloc, &command.command)?;
-        push_parts(&mut self.parts, routed)?;
-        self.joins.push(Some(Join::new(alloc, split)?))?;
+        push_split(alloc, &mut self.parts, command, &split)?;
+        self.push_join(position, Some(Join::new(alloc, split)?))?;
         Ok(())
     }
 
     /// Puts a command that goes whole by this route behind what there is.
-    fn add_whole(&mut self, command: &PipelineCommand, route: Route) -> Result<(), AllocError>
-        requires { Some (whole_by (sent command.now.command) route)
-            ≡ if_one_slot (reads_several_slots command.now.command.args)
-            (whole_part (sent command.now.command) (parts_of [] command.now.command 0)) }
-        ensures { OnOk result (IsAdded command.now self.old self.new) }
+    fn add_whole(&mut self, position: usize, command: &Cmd, route: Route) -> Result<(), AllocError>
+        requires { Some (whole_by (sent command.now) route)
+            ≡ if_one_slot (reads_several_slots command.now.args)
+            (whole_part (sent command.now) (parts_of [] command.now 0)) }
+        ensures { OnOk result
+            ((ignored : Bool) → IsAdded position (entry command.now ignored) self.old self.new) }
     {
-        self.parts.push(Part {
-            target: Target::Slot(route),
-            args: command.command.wire_args()?,
-        })?;
-        self.joins.push(None)?;
+        self.parts.push(whole_part(command, Target::Slot(route))?)?;
+        self.push_join(position, None)?;
         Ok(())
     }
 
@@ -95,40 +130,44 @@ impl InParts {
         &mut self,
         alloc: Global,
         position: usize,
-        command: &PipelineCommand,
+        command: &Cmd,
         targets: Targets,
     ) -> Result<(), RedisError>
-        requires targets { Ok (targets_in targets) ≡ part_targets (parts_of [] command.now.command 0) }
-        requires split { option_map shown_split (split_in targets)
-            ≡ parts_by_place command.now.command.args [] }
-        ensures added { OnOk result (IsAdded command.now self.old self.new) }
-        ensures refused { IfErr result (λ e. e ≢ by_cause Memory
-            → (goes_to_slots command.now ≡ false) × (e ≡ at_position position)) }
+        requires targets { Ok (targets_in targets) ≡ part_targets (parts_of [] command.now 0) }
+        requires split { option_map shown_split (split_in targets) ≡ parts_by_place command.now.args [] }
+        ensures added { OnOk result
+            ((ignored : Bool) → IsAdded position (entry command.now ignored) self.old self.new) }
+        ensures refused { IfErr result (λ e. e ≢ by_cause Memory → IsUnplaced position command.now e) }
     {
-        let reads_several = reads_several_slots(alloc, &command.command)?;
+        let reads_several = reads_several_slots(alloc, command)?;
         if let Some(route) = one_route(&targets, reads_several) {
-            self.add_whole(command, route)?;
+            self.add_whole(position, command, route)?;
             return Ok(());
         }
         let Some(split) = several_slots(targets) else {
             return Err(RedisError::at_position(position));
         };
-        self.add_parts(alloc, command, split)?;
+        self.add_parts(alloc, position, command, split)?;
         Ok(())
     }
 
-    /// Puts the command at this position behind what there is. Where it goes is looked up once.
+    /// Puts the command at this position behind what there is, by where it was found to go.
     fn add(
         &mut self,
         alloc: Global,
         position: usize,
-        command: &PipelineCommand,
+        command: &Cmd,
+        found: Result<Targets, RedisError>,
     ) -> Result<(), RedisError>
-        ensures added { OnOk result (IsAdded command.now self.old self.new) }
-        ensures refused { IfErr result (λ e. e ≢ by_cause Memory
-            → (goes_to_slots command.now ≡ false) × (e ≡ at_position position)) }
+        requires targets { found ≢ Err (by_cause Memory)
+            → targets_by found ≡ part_targets (parts_of [] command.now 0) }
+        requires split { IfOk found
+            (λ t. option_map shown_split (split_in t) ≡ parts_by_place command.now.args []) }
+        ensures added { OnOk result
+            ((ignored : Bool) → IsAdded position (entry command.now ignored) self.old self.new) }
+        ensures refused { IfErr result (λ e. e ≢ by_cause Memory → IsUnplaced position command.now e) }
     {
-        match targets_of(alloc, &command.command, &[], 0) {
+        match found {
             Ok(targets) => self.add_by_targets(alloc, position, command, targets),
             Err(e) => match e.kind() {
                 ErrorKind::Memory => Err(RedisError::from(Cause::Memory)),
@@ -138,7 +177,22 @@ impl InParts {
     }
 }
 
-/// The parts that go out for a pipeline's commands.
+/// Where the parts of a command go whose direction is known.
+fn targets_of_directed(directed: &Directed<'_>) -> Result<Targets, RedisError>
+    requires { IsDirected directed.now }
+    ensures targets { result ≢ Err (by_cause Memory)
+        → targets_by result ≡ part_targets (parts_of [] directed.now.command.now 0) }
+    ensures split { IfOk result
+        (λ t. option_map shown_split (split_in t) ≡ parts_by_place directed.now.command.now.args []) }
+{
+    if directed.command.is_no_response() {
+        return Err(RedisError::from(Cause::NoResponse));
+    }
+    let targets = targets_by(directed.direction.clone()?, 0)?;
+    Ok(targets)
+}
+
+/// The parts that go out for a pipeline's commands. Where each goes is looked up once.
 ///
 /// # Errors
 /// The position of the first command that waits for no response, goes neither whole to one slot nor in parts
@@ -152,10 +206,36 @@ pub(crate) fn commands_in_parts(
 {
     let mut all = InParts {
         parts: Vec::new(alloc),
-        joins: Vec::with_capacity(alloc, commands.len())?,
+        joins: Vec::new(alloc),
     };
     'commands: for (position, command) in commands.iter().enumerate() {
-        all.add(alloc, position, command)?;
+        let command = &command.command;
+        all.add(alloc, position, command, targets_of(alloc, command, &[], 0))?;
+    }
+    Ok(all)
+}
+
+/// The same of commands whose directions are known. Nothing is looked up.
+pub(crate) fn directed_in_parts(
+    alloc: Global,
+    commands: &[Directed<'_>],
+) -> Result<InParts, RedisError>
+    requires { AllByRecursion IsDirected commands.now }
+    ensures parts { IfOk result (λ p. AreInParts (map entry_of commands.now) p) }
+    ensures refused { IfErr result
+        (λ e. e ≢ by_cause Memory → first_unplaced 0 (map entry_of commands.now) ≡ Some e) }
+{
+    let mut all = InParts {
+        parts: Vec::new(alloc),
+        joins: Vec::new(alloc),
+    };
+    'commands: for (position, directed) in commands.iter().enumerate() {
+        all.add(
+            alloc,
+            position,
+            directed.command,
+            targets_of_directed(directed),
+        )?;
     }
     Ok(all)
 }

@@ -12,7 +12,7 @@ ghost use Rattle.cluster_steps.specs.WholeParts.{parts_found, whole_at, whole_by
 use crate::pipeline::PipelineCommand;
 use cluster_routing::{Route, SlotAddr};
 use cluster_steps::pipeline_reads::reads_several_slots;
-use cluster_steps::route::{Part, Target, Targets, targets_of};
+use cluster_steps::route::{self, Part, Target, Targets, targets_of};
 use resp_args::Cmd;
 use resp_core::{Cause, ErrorKind, RedisError};
 use std::alloc::Global;
@@ -94,10 +94,7 @@ fn whole_part(alloc: Global, command: &Cmd) -> Result<Option<Part>, RedisError>
     let Some(route) = whole_route(alloc, command)? else {
         return Ok(None);
     };
-    Ok(Some(Part {
-        target: Target::Slot(route),
-        args: command.wire_args()?,
-    }))
+    Ok(Some(route::whole_part(command, Target::Slot(route))?))
 }
 
 /// The parts of a pipeline's commands, in order.

@@ -25,7 +25,7 @@ use cluster_steps::dispatch::{Dispatch, dispatches_over};
 use cluster_steps::drawn::{Answered, drawn};
 use cluster_steps::exchange::exchange_over;
 use cluster_steps::grouped::{grouped, places_of};
-use cluster_steps::ready::Group;
+use cluster_steps::ready::NodeRequests;
 use cluster_steps::route::Part;
 use resp_args::{FromRedisValue, from_redis_value};
 use resp_core::{RedisError, Value};
@@ -88,13 +88,13 @@ impl<L: ConnectionLike + Drop> ClusterClient<L> {
     pub(crate) fn exchange_group(
         &mut self,
         alloc: Global,
-        group: Group,
+        group: NodeRequests,
     ) -> Result<Vec<Value>, RedisError>
-        requires within { group.which < vec_len self.old.links.nodes }
+        requires within { group.link < vec_len self.old.links.nodes }
         requires room { vec_len self.old.asked + vec_len group.requests ≤ vec_capacity self.old.asked }
         ensures len { vec_len self.new.links.nodes ≡ vec_len self.old.links.nodes }
         ensures exchanged { GroupExchanged (whole L.seen self.old)
-            (whole L.seen self.new) group.which group.requests.items (tree_results view result) }
+            (whole L.seen self.new) group.link group.requests.items (tree_results view result) }
         ensures log_len { vec_len self.new.asked ≡ vec_len self.old.asked + vec_len group.requests }
         ensures log_capacity { vec_capacity self.old.asked ≤ vec_capacity self.new.asked }
     {
@@ -107,7 +107,7 @@ impl<L: ConnectionLike + Drop> ClusterClient<L> {
     fn exchange_all(
         &mut self,
         alloc: Global,
-        groups: Vec<Group>,
+        groups: Vec<NodeRequests>,
     ) -> Result<Vec<Answered<Value>>, RedisError>
         requires placed { AllByRecursion
             (λ g. IsGroupPlaced (nodes L.seen self.old.links.nodes.items) (group_of g)) groups.items }
@@ -118,9 +118,9 @@ impl<L: ConnectionLike + Drop> ClusterClient<L> {
     {
         let mut answered = Vec::with_capacity(alloc, groups.len())?;
         'groups: for group in groups {
-            let which = group.which;
+            let link = group.link;
             let items = self.exchange_group(alloc, group)?;
-            answered.push(Answered { which, items }).unwrap();
+            answered.push(Answered { link, items }).unwrap();
         }
         Ok(answered)
     }

@@ -1,5 +1,6 @@
 //! The calls on streams of a run.
-ghost use Rattle.std.specs.Prelude.{◌≡◌, option_map};
+ghost use Rattle.std.specs.Prelude.{◌≡◌};
+ghost use Rattle.cluster_routing.specs.Choice.{strategy_of};
 ghost use Rattle.cluster_routing.specs.Info.{texts};
 ghost use Rattle.cluster_calls.specs.Calls.Call.{OnStreams, Xadd, Xautoclaim, Xclaim, XdelEx, XinfoConsumers, XinfoGroups, XinfoStream, Xpending, Xrange, Xread, Xtrim};
 ghost use Rattle.cluster_calls.specs.Links.Happened.{CallMade};
@@ -27,7 +28,7 @@ impl<L: ConnectionLike + Drop> ClusterClient<L> {
         fields: &[(Vec<u8>, Vec<u8>)],
         strategy: Option<&dyn ReadRoutingStrategy>,
     ) -> Result<Answer, RedisError>
-        ensures { CallMade (option_map (λ s. admits s.now) strategy.entry) (whole L.seen self.old)
+        ensures { CallMade (strategy_of admits strategy.entry) (whole L.seen self.old)
             (whole L.seen self.new) (OnStreams (Xadd key.now options.now id.now (pairs fields.now)))
             (answer_result result) }
     {
@@ -42,7 +43,7 @@ impl<L: ConnectionLike + Drop> ClusterClient<L> {
         options: &StreamTrimOptions,
         strategy: Option<&dyn ReadRoutingStrategy>,
     ) -> Result<Answer, RedisError>
-        ensures { CallMade (option_map (λ s. admits s.now) strategy.entry) (whole L.seen self.old)
+        ensures { CallMade (strategy_of admits strategy.entry) (whole L.seen self.old)
             (whole L.seen self.new) (OnStreams (Xtrim key.now options.now)) (answer_result result) }
     {
         let answer = self.xtrim(alloc, key, options, strategy)?;
@@ -56,7 +57,7 @@ impl<L: ConnectionLike + Drop> ClusterClient<L> {
         options: &StreamReadOptions,
         strategy: Option<&dyn ReadRoutingStrategy>,
     ) -> Result<Answer, RedisError>
-        ensures { CallMade (option_map (λ s. admits s.now) strategy.entry) (whole L.seen self.old)
+        ensures { CallMade (strategy_of admits strategy.entry) (whole L.seen self.old)
             (whole L.seen self.new) (OnStreams (Xread (streams_in streams.now) options.now))
             (answer_result result) }
     {
@@ -72,7 +73,7 @@ impl<L: ConnectionLike + Drop> ClusterClient<L> {
         end: &[u8],
         strategy: Option<&dyn ReadRoutingStrategy>,
     ) -> Result<Answer, RedisError>
-        ensures { CallMade (option_map (λ s. admits s.now) strategy.entry) (whole L.seen self.old)
+        ensures { CallMade (strategy_of admits strategy.entry) (whole L.seen self.old)
             (whole L.seen self.new) (OnStreams (Xrange key.now start.now end.now)) (answer_result result) }
     {
         let answer = self.xrange(alloc, key, start, end, strategy)?;
@@ -87,10 +88,8 @@ impl<L: ConnectionLike + Drop> ClusterClient<L> {
         options: &StreamClaimOptions,
         strategy: Option<&dyn ReadRoutingStrategy>,
     ) -> Result<Answer, RedisError>
-        ensures { CallMade (option_map (λ s. admits s.now) strategy.entry) (whole L.seen self.old)
-            (whole L.seen self.new)
-            (OnStreams (Xclaim (claimant_in claimant.now) (texts ids.now) options.now))
-            (answer_result result) }
+        ensures { CallMade (strategy_of admits strategy.entry) (whole L.seen self.old) (whole L.seen self.new)
+            (OnStreams (Xclaim (claimant_in claimant.now) (texts ids.now) options.now)) (answer_result result) }
     {
         let answer = self.xclaim(
             alloc,
@@ -113,7 +112,7 @@ impl<L: ConnectionLike + Drop> ClusterClient<L> {
         options: &StreamAutoClaimOptions,
         strategy: Option<&dyn ReadRoutingStrategy>,
     ) -> Result<Answer, RedisError>
-        ensures { CallMade (option_map (λ s. admits s.now) strategy.entry) (whole L.seen self.old)
+        ensures { CallMade (strategy_of admits strategy.entry) (whole L.seen self.old)
             (whole L.seen self.new) (OnStreams (Xautoclaim (claimant_in claimant.now) start.now options.now))
             (answer_result result) }
     {
@@ -137,7 +136,7 @@ impl<L: ConnectionLike + Drop> ClusterClient<L> {
         group: &[u8],
         strategy: Option<&dyn ReadRoutingStrategy>,
     ) -> Result<Answer, RedisError>
-        ensures { CallMade (option_map (λ s. admits s.now) strategy.entry) (whole L.seen self.old)
+        ensures { CallMade (strategy_of admits strategy.entry) (whole L.seen self.old)
             (whole L.seen self.new) (OnStreams (Xpending key.now group.now)) (answer_result result) }
     {
         let answer = self.xpending(alloc, key, group, strategy)?;
@@ -150,7 +149,7 @@ impl<L: ConnectionLike + Drop> ClusterClient<L> {
         key: &[u8],
         strategy: Option<&dyn ReadRoutingStrategy>,
     ) -> Result<Answer, RedisError>
-        ensures { CallMade (option_map (λ s. admits s.now) strategy.entry) (whole L.seen self.old)
+        ensures { CallMade (strategy_of admits strategy.entry) (whole L.seen self.old)
             (whole L.seen self.new) (OnStreams (XinfoStream key.now)) (answer_result result) }
     {
         let answer = self.xinfo_stream(alloc, key, strategy)?;
@@ -163,7 +162,7 @@ impl<L: ConnectionLike + Drop> ClusterClient<L> {
         key: &[u8],
         strategy: Option<&dyn ReadRoutingStrategy>,
     ) -> Result<Answer, RedisError>
-        ensures { CallMade (option_map (λ s. admits s.now) strategy.entry) (whole L.seen self.old)
+        ensures { CallMade (strategy_of admits strategy.entry) (whole L.seen self.old)
             (whole L.seen self.new) (OnStreams (XinfoGroups key.now)) (answer_result result) }
     {
         let answer = self.xinfo_groups(alloc, key, strategy)?;
@@ -177,7 +176,7 @@ impl<L: ConnectionLike + Drop> ClusterClient<L> {
         group: &[u8],
         strategy: Option<&dyn ReadRoutingStrategy>,
     ) -> Result<Answer, RedisError>
-        ensures { CallMade (option_map (λ s. admits s.now) strategy.entry) (whole L.seen self.old)
+        ensures { CallMade (strategy_of admits strategy.entry) (whole L.seen self.old)
             (whole L.seen self.new) (OnStreams (XinfoConsumers key.now group.now)) (answer_result result) }
     {
         let answer = self.xinfo_consumers(alloc, key, group, strategy)?;
@@ -192,7 +191,7 @@ impl<L: ConnectionLike + Drop> ClusterClient<L> {
         policy: &StreamDeletionPolicy,
         strategy: Option<&dyn ReadRoutingStrategy>,
     ) -> Result<Answer, RedisError>
-        ensures { CallMade (option_map (λ s. admits s.now) strategy.entry) (whole L.seen self.old)
+        ensures { CallMade (strategy_of admits strategy.entry) (whole L.seen self.old)
             (whole L.seen self.new) (OnStreams (XdelEx key.now (texts ids.now) policy.now))
             (answer_result result) }
     {

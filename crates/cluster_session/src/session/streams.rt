@@ -14,8 +14,8 @@ pub(super) fn read_text<R: LinkRead>(
     reader: &mut R,
     reads: u64,
 ) -> Result<Vec<u8>, RedisError>
-    ensures all { IfOk result (λ text. Consumes (R.left reader.old) (R.left reader.new) text.items) }
-    ensures to_the_end { OnOk result (IsAtEnd (R.left reader.new)) }
+    ensures all { IfOk result (λ text. Consumes (R.unread reader.old) (R.unread reader.new) text.items) }
+    ensures to_the_end { OnOk result (IsAtEnd (R.unread reader.new)) }
     ensures unrefused { OnOk result (NoneRefused (R.counts reader.old) (R.counts reader.new)) }
     ensures causes { IfErr result (λ e. (e ≡ by_cause Io) ⊎ (e ≡ by_cause Memory)) }
     // A read that fails is told as `Io`, and what was read and finds no room as `Memory`.

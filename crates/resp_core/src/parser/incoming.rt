@@ -27,25 +27,25 @@ impl Parser {
     /// refuses so for good.
     pub fn parse_value<R: LinkRead>(&mut self, reader: &mut R) -> Result<Value, RedisError>
         ensures value { IfOk result (λ v. (held : List ℕ) → Stands self.old held → (allowed : ℕ)
-            × Reads (reading R.left R.counts reader.old (level_limit self.old) held (2 ^ 32))
-            (reading R.left R.counts reader.new (level_limit self.new) (waiting self.new) allowed)
+            × Reads (reading R.unread R.counts reader.old (level_limit self.old) held (2 ^ 32))
+            (reading R.unread R.counts reader.new (level_limit self.new) (waiting self.new) allowed)
             (view v ∷ [])
             × Stands self.new (waiting self.new)) }
         ensures stops { IsErrOf result (by_cause Io) → (held : List ℕ) → Stands self.old held → (allowed : ℕ)
             × (rest : List ℕ)
-            × Stops (reading R.left R.counts reader.old (level_limit self.old) held (2 ^ 32))
-            (reading R.left R.counts reader.new (level_limit self.new) rest allowed) []
+            × Stops (reading R.unread R.counts reader.old (level_limit self.old) held (2 ^ 32))
+            (reading R.unread R.counts reader.new (level_limit self.new) rest allowed) []
             × Stands self.new rest }
         ensures meets { IsErrOf result (by_cause Parse) → (held : List ℕ) → Stands self.old held
             → (allowed : ℕ) × (rest : List ℕ)
-            × Meets (reading R.left R.counts reader.old (level_limit self.old) held (2 ^ 32))
-            (reading R.left R.counts reader.new (level_limit self.new) rest allowed) []
+            × Meets (reading R.unread R.counts reader.old (level_limit self.old) held (2 ^ 32))
+            (reading R.unread R.counts reader.new (level_limit self.new) rest allowed) []
             × Stands self.new rest }
         // Want of memory takes no value, and what was read is lost.
         ensures starves { IsErrOf result (by_cause Memory) → (held : List ℕ) → Stands self.old held
             → (allowed : ℕ) × (rest : List ℕ)
-            × Seeks (reading R.left R.counts reader.old (level_limit self.old) held (2 ^ 32))
-            (reading R.left R.counts reader.new (level_limit self.new) rest allowed) [] }
+            × Seeks (reading R.unread R.counts reader.old (level_limit self.old) held (2 ^ 32))
+            (reading R.unread R.counts reader.new (level_limit self.new) rest allowed) [] }
         ensures causes { IfErr result
             (λ e. (e ≡ by_cause Io) ⊎ (e ≡ by_cause Parse) ⊎ (e ≡ by_cause Memory)) }
         // A fault and a want of memory are told for good.
@@ -69,24 +69,24 @@ impl Parser {
         allowed: &mut u64,
     ) -> Result<Value, RedisError>
         ensures value { IfOk result (λ v. (held : List ℕ) → Stands self.old held
-            → Reads (reading R.left R.counts reader.old (level_limit self.old) held allowed.old)
-            (reading R.left R.counts reader.new (level_limit self.new) (waiting self.new) allowed.new)
+            → Reads (reading R.unread R.counts reader.old (level_limit self.old) held allowed.old)
+            (reading R.unread R.counts reader.new (level_limit self.new) (waiting self.new) allowed.new)
             (view v ∷ [])
             × Stands self.new (waiting self.new)) }
         ensures stops { IsErrOf result (by_cause Io) → (held : List ℕ) → Stands self.old held
             → (rest : List ℕ)
-            × Stops (reading R.left R.counts reader.old (level_limit self.old) held allowed.old)
-            (reading R.left R.counts reader.new (level_limit self.new) rest allowed.new) []
+            × Stops (reading R.unread R.counts reader.old (level_limit self.old) held allowed.old)
+            (reading R.unread R.counts reader.new (level_limit self.new) rest allowed.new) []
             × Stands self.new rest }
         ensures meets { IsErrOf result (by_cause Parse) → (held : List ℕ) → Stands self.old held
             → (rest : List ℕ)
-            × Meets (reading R.left R.counts reader.old (level_limit self.old) held allowed.old)
-            (reading R.left R.counts reader.new (level_limit self.new) rest allowed.new) []
+            × Meets (reading R.unread R.counts reader.old (level_limit self.old) held allowed.old)
+            (reading R.unread R.counts reader.new (level_limit self.new) rest allowed.new) []
             × Stands self.new rest }
         ensures starves { IsErrOf result (by_cause Memory) → (held : List ℕ) → Stands self.old held
             → (rest : List ℕ)
-            × Seeks (reading R.left R.counts reader.old (level_limit self.old) held allowed.old)
-            (reading R.left R.counts reader.new (level_limit self.new) rest allowed.new) [] }
+            × Seeks (reading R.unread R.counts reader.old (level_limit self.old) held allowed.old)
+            (reading R.unread R.counts reader.new (level_limit self.new) rest allowed.new) [] }
         ensures causes { IfErr result
             (λ e. (e ≡ by_cause Io) ⊎ (e ≡ by_cause Parse) ⊎ (e ≡ by_cause Memory)) }
         // After a value none is half read.
@@ -119,17 +119,17 @@ impl Parser {
         ensures more { OnOk result
             ((held : List ℕ) → BeginsUnfinished (level_limit self.old) held → Stands self.old held
             → (rest : List ℕ)
-            × Seeks (reading R.left R.counts reader.old (level_limit self.old) held allowed.old)
-            (reading R.left R.counts reader.new (level_limit self.new) rest allowed.new) []
+            × Seeks (reading R.unread R.counts reader.old (level_limit self.old) held allowed.old)
+            (reading R.unread R.counts reader.new (level_limit self.new) rest allowed.new) []
             × Stands self.new rest) }
         ensures starves { IsErrOf result (by_cause Memory) → (held : List ℕ)
             → BeginsUnfinished (level_limit self.old) held → Stands self.old held → (rest : List ℕ)
-            × Seeks (reading R.left R.counts reader.old (level_limit self.old) held allowed.old)
-            (reading R.left R.counts reader.new (level_limit self.new) rest allowed.new) [] }
+            × Seeks (reading R.unread R.counts reader.old (level_limit self.old) held allowed.old)
+            (reading R.unread R.counts reader.new (level_limit self.new) rest allowed.new) [] }
         ensures stops { IsErrOf result (by_cause Io) → (held : List ℕ)
             → BeginsUnfinished (level_limit self.old) held → Stands self.old held → (rest : List ℕ)
-            × Stops (reading R.left R.counts reader.old (level_limit self.old) held allowed.old)
-            (reading R.left R.counts reader.new (level_limit self.new) rest allowed.new) []
+            × Stops (reading R.unread R.counts reader.old (level_limit self.old) held allowed.old)
+            (reading R.unread R.counts reader.new (level_limit self.new) rest allowed.new) []
             × Stands self.new rest }
         ensures fewer { OnOk result (allowed.new < allowed.old) }
         ensures causes { IfErr result (λ e. (e ≡ by_cause Io) ⊎ (e ≡ by_cause Memory)) }
@@ -159,17 +159,17 @@ impl Parser {
         ensures more { OnOk result
             ((held : List ℕ) → BeginsUnfinished (level_limit self.old) held → Stands self.old held
             → (rest : List ℕ)
-            × Seeks (reading R.left R.counts reader.old (level_limit self.old) held allowed.old)
-            (reading R.left R.counts reader.new (level_limit self.new) rest allowed.new) []
+            × Seeks (reading R.unread R.counts reader.old (level_limit self.old) held allowed.old)
+            (reading R.unread R.counts reader.new (level_limit self.new) rest allowed.new) []
             × Stands self.new rest) }
         ensures starves { IsErrOf result (by_cause Memory) → (held : List ℕ)
             → BeginsUnfinished (level_limit self.old) held → Stands self.old held → (rest : List ℕ)
-            × Seeks (reading R.left R.counts reader.old (level_limit self.old) held allowed.old)
-            (reading R.left R.counts reader.new (level_limit self.new) rest allowed.new) [] }
+            × Seeks (reading R.unread R.counts reader.old (level_limit self.old) held allowed.old)
+            (reading R.unread R.counts reader.new (level_limit self.new) rest allowed.new) [] }
         ensures stops { IsErrOf result (by_cause Io) → (held : List ℕ)
             → BeginsUnfinished (level_limit self.old) held → Stands self.old held
-            → Stops (reading R.left R.counts reader.old (level_limit self.old) held allowed.old)
-            (reading R.left R.counts reader.new (level_limit self.new) held allowed.new) []
+            → Stops (reading R.unread R.counts reader.old (level_limit self.old) held allowed.old)
+            (reading R.unread R.counts reader.new (level_limit self.new) held allowed.new) []
             × Stands self.new held }
         ensures fewer { OnOk result (allowed.new + 1 ≡ allowed.old) }
         ensures causes { IfErr result (λ e. (e ≡ by_cause Io) ⊎ (e ≡ by_cause Memory)) }

@@ -7,6 +7,6 @@ use Rattle.cluster_steps.proofs.at_once.received_over.Goals as goal
 pub returns : goal.returns
 returns g c =
     let links = c.args.links.now in
-    let pair = get_or links c.args.which c.index-links-which.result in
-    let is : pair ≡ get_or links c.args.which pair = get_or_default links c.args.which c.index-links-which.result pair c.requires in
-    calls_one g.L.ConnectionLike.seen links c.args.which pair c.recv_responses.new.self (λ before after. Receives before after c.args.count c.recv_responses.result) c.requires is c.recv_responses.ensures
+    let pair = get_or links c.args.index c.index-links-index.result in
+    let is : pair ≡ get_or links c.args.index pair = get_or_default links c.args.index c.index-links-index.result pair c.requires in
+    calls_one g.L.ConnectionLike.seen links c.args.index pair c.recv_responses.new.self (λ before after. Receives before after c.args.count c.recv_responses.result) c.requires is c.recv_responses.ensures

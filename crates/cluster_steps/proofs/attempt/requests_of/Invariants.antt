@@ -8,4 +8,4 @@ use Rattle.cluster_steps.specs.Turns.{hop_to}
 use Rattle.cluster_steps.proofs.attempt.requests_of.Given as goal
 
 abbrev pub invariant-commands : goal.invariant-commands
-invariant-commands l = l.requests.items ≡ request_of (hop_to l.place) multi ∷ map (without_asking (address l.place.node)) (args_of (take l.command-index l.commands))
+invariant-commands l = l.requests.items ≡ request_of (hop_to l.hop) multi ∷ map (without_asking (address l.hop.node)) (args_of (take l.command-index l.commands))

@@ -13,5 +13,5 @@ answered-preserved g c =
       len = c.put.ensures.len ∙ c.answered.invariant.len;
       within = within.1;
       told = λ k.
-          queued_same _ (λ n. cond (n == c.in-Some.answer.which) c.in-Some.answer.items.items (queue_in (map (λ q. q.items) c.answered.queues.items) n)) (map items_at (into_iter_items c.next.new.self)) c.put.ensures.put k ∙ told k;
+          queued_same _ (λ n. cond (n == c.in-Some.answer.link) c.in-Some.answer.items.items (queue_in (map (λ q. q.items) c.answered.queues.items) n)) (map items_at (into_iter_items c.next.new.self)) c.put.ensures.put k ∙ told k;
     }

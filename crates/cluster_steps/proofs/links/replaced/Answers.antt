@@ -7,7 +7,7 @@ pub returns : goal.returns
 returns g c =
     let seen = g.L.ConnectionLike.seen in
     let links = c.args.links.now in
-    let pair = get_or links c.args.which c.index-links-which.result in
-    let is : pair ≡ get_or links c.args.which pair = get_or_default links c.args.which c.index-links-which.result pair c.requires in
-    calls_one seen links c.args.which pair c.replace.new.dest (λ before after. (before ≡ seen c.replace.result) × (after ≡ seen c.args.link)) c.requires is
+    let pair = get_or links c.args.index c.index-links-index.result in
+    let is : pair ≡ get_or links c.args.index pair = get_or_default links c.args.index c.index-links-index.result pair c.requires in
+    calls_one seen links c.args.index pair c.replace.new.dest (λ before after. (before ≡ seen c.replace.result) × (after ≡ seen c.args.link)) c.requires is
     (ap seen (sym c.replace.ensures.value), ap seen c.replace.ensures.after)

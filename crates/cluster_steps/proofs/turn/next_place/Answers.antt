@@ -13,5 +13,5 @@ view-ServerError e = search (rules, the_lemmas)
 
 pub returns-in-ServerError-clause-next : goal.returns-in-ServerError-clause-next
 returns-in-ServerError-clause-next g c =
-    let some : (c.args.left == 0) ≡ false = ne_eqb c.args.left 0 c.if-left-eq0.false in
+    let some : (c.args.redirects == 0) ≡ false = ne_eqb c.args.redirects 0 c.if-redirects-eq0.false in
     rw (some, c.in-ServerError.is, view-ServerError c.in-ServerError.error) c.behind_error.ensures.next

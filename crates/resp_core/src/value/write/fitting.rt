@@ -46,10 +46,10 @@ fn is_kind(kind: &PushKind, below: u16) -> bool
 }
 
 #[cycle(fitting)]
-pub(super) fn value_fits(value: &Value, protocol: Protocol, left: u16) -> bool
-    ensures { result ≡ fits protocol left (view value.now) }
+pub(super) fn value_fits(value: &Value, protocol: Protocol, levels: u16) -> bool
+    ensures { result ≡ fits protocol levels (view value.now) }
 {
-    left > 0 && fits_within(value, protocol, left - 1)
+    levels > 0 && fits_within(value, protocol, levels - 1)
 }
 
 #[cycle(fitting)]
@@ -74,39 +74,39 @@ fn fits_within(value: &Value, protocol: Protocol, below: u16) -> bool
 }
 
 #[cycle(fitting)]
-fn list_fits(items: &Vec<Value>, protocol: Protocol, left: u16) -> bool
+fn list_fits(items: &Vec<Value>, protocol: Protocol, levels: u16) -> bool
     ensures { result ≡ (is_few (count (trees_view items.now.items))
-        && fits_all protocol left (trees_view items.now.items)) }
+        && fits_all protocol levels (trees_view items.now.items)) }
 {
-    is_few(count_of(items)) && items_fit(items, protocol, left)
+    is_few(count_of(items)) && items_fit(items, protocol, levels)
 }
 
 #[cycle(fitting)]
-fn map_fits(pairs: &Vec<(Value, Value)>, protocol: Protocol, left: u16) -> bool
+fn map_fits(pairs: &Vec<(Value, Value)>, protocol: Protocol, levels: u16) -> bool
     ensures { result ≡ (is_few (pair_count (pairs_view pairs.now.items))
-        && fits_pairs protocol left (pairs_view pairs.now.items)) }
+        && fits_pairs protocol levels (pairs_view pairs.now.items)) }
 {
-    is_few(pair_count_of(pairs)) && pairs_fit(pairs, protocol, left)
+    is_few(pair_count_of(pairs)) && pairs_fit(pairs, protocol, levels)
 }
 
 // The pairs of an attribute, which RESP2 leaves out.
 #[cycle(fitting)]
-fn beside_fits(pairs: &Vec<(Value, Value)>, protocol: Protocol, left: u16) -> bool
+fn beside_fits(pairs: &Vec<(Value, Value)>, protocol: Protocol, levels: u16) -> bool
     ensures { result ≡ fits_beside protocol (is_few (pair_count (pairs_view pairs.now.items))
-        && fits_pairs protocol left (pairs_view pairs.now.items)) }
+        && fits_pairs protocol levels (pairs_view pairs.now.items)) }
 {
     match protocol {
         Protocol::Resp2 => true,
-        Protocol::Resp3 => map_fits(pairs, protocol, left),
+        Protocol::Resp3 => map_fits(pairs, protocol, levels),
     }
 }
 
 #[cycle(fitting)]
-fn items_fit(items: &Vec<Value>, protocol: Protocol, left: u16) -> bool
-    ensures { result ≡ fits_all protocol left (trees_view items.now.items) }
+fn items_fit(items: &Vec<Value>, protocol: Protocol, levels: u16) -> bool
+    ensures { result ≡ fits_all protocol levels (trees_view items.now.items) }
 {
     'items: for item in items {
-        if !value_fits(item, protocol, left) {
+        if !value_fits(item, protocol, levels) {
             return false;
         }
     }
@@ -114,14 +114,14 @@ fn items_fit(items: &Vec<Value>, protocol: Protocol, left: u16) -> bool
 }
 
 #[cycle(fitting)]
-fn pairs_fit(pairs: &Vec<(Value, Value)>, protocol: Protocol, left: u16) -> bool
-    ensures { result ≡ fits_pairs protocol left (pairs_view pairs.now.items) }
+fn pairs_fit(pairs: &Vec<(Value, Value)>, protocol: Protocol, levels: u16) -> bool
+    ensures { result ≡ fits_pairs protocol levels (pairs_view pairs.now.items) }
 {
     'pairs: for pair in pairs {
-        if !value_fits(&pair.0, protocol, left) {
+        if !value_fits(&pair.0, protocol, levels) {
             return false;
         }
-        if !value_fits(&pair.1, protocol, left) {
+        if !value_fits(&pair.1, protocol, levels) {
             return false;
         }
     }

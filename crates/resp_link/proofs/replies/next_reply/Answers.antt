@@ -15,7 +15,7 @@ pub returns-in_err-value-clause-refused : goal.returns-in_err-value-clause-refus
 returns-in_err-value-clause-refused g c =
     let p = err_from_is_err_and c.from_residual.result c.from_residual.ensures.1 in
     let waits = resting_stands _ c.loop-value.invariant.rests in
-    rw (p.1, p.2) (refused g.R.LinkRead.left g.R.LinkRead.counts c.parse_within.new.reader _ c.parse_within.new.allowed (Stands c.parse_within.new.self) _
+    rw (p.1, p.2) (refused g.R.LinkRead.unread g.R.LinkRead.counts c.parse_within.new.reader _ c.parse_within.new.allowed (Stands c.parse_within.new.self) _
     c.loop-value.invariant.reads
     (λ io. c.in_err-value.ensures.stops (ap Err io) _ waits)
     (λ parse. c.in_err-value.ensures.meets (ap Err parse) _ waits)

@@ -11,5 +11,5 @@ returns-clause-taken g c = IfOk-weaker c.next_reply.result _ _ (λ reply reads. 
 
 pub returns-clause-refused : goal.returns-clause-refused
 returns-clause-refused g c = IfErr-weaker c.next_reply.result _ _
-    (λ e ends. lacks g.R.LinkRead.left g.R.LinkRead.counts c.next_reply.new.reader _ c.next_reply.new.allowed ends.0 _ (ReadsReplies-none _ _) ends.1 (omega arith))
+    (λ e ends. lacks g.R.LinkRead.unread g.R.LinkRead.counts c.next_reply.new.reader _ c.next_reply.new.allowed ends.0 _ (ReadsReplies-none _ _) ends.1 (omega arith))
     c.next_reply.ensures.refused

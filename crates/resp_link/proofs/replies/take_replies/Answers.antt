@@ -16,14 +16,14 @@ returns-in_err-reply-clause-refused g c =
     let p = err_from_is_err_and c.from_residual.result c.from_residual.ensures.1 in
     let fewer : length (map view c.taking.replies.items) < c.args.count = grind (arith, common_steps, c.taking.invariant.count) in
     let ends = c.in_err-reply.ensures.refused in
-    rw (p.1, p.2) (lacks g.R.LinkRead.left g.R.LinkRead.counts c.next_reply.new.reader _ c.next_reply.new.allowed ends.0 _ c.taking.invariant.reads ends.1 fewer)
+    rw (p.1, p.2) (lacks g.R.LinkRead.unread g.R.LinkRead.counts c.next_reply.new.reader _ c.next_reply.new.allowed ends.0 _ c.taking.invariant.reads ends.1 fewer)
 
 pub returns-in_err-push-clause-refused : goal.returns-in_err-push-clause-refused
 returns-in_err-push-clause-refused g c =
     let p = err_from_is_err_and c.from_residual-in_err-push.result c.from_residual-in_err-push.ensures.1 in
     let fewer : length (map view c.taking.replies.items) < c.args.count = grind (arith, common_steps, c.taking.invariant.count) in
     let ends = ReadsReplies-starved _ _ c.in_ok-reply.ensures.reply refl in
-    rw (p.1, p.2) (lacks g.R.LinkRead.left g.R.LinkRead.counts c.next_reply.new.reader _ c.next_reply.new.allowed ends.0 _ c.taking.invariant.reads ends.1 fewer)
+    rw (p.1, p.2) (lacks g.R.LinkRead.unread g.R.LinkRead.counts c.next_reply.new.reader _ c.next_reply.new.allowed ends.0 _ c.taking.invariant.reads ends.1 fewer)
 
 pub taking-preserved : goal.taking-preserved
 taking-preserved g c =

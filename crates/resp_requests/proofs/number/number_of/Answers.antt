@@ -1,7 +1,7 @@
-use Rattle.std.proofs.Common.{◌≡◌, ◌+◌, ◌*◌, ◌-◌, ◌^◌, ◌<◌, ◌≤◌, ℕ, List, true, length, take, Some, refl, sym, ap, subst, ◌∙◌, arith}
-use Rattle.std.proofs.lemmas.List.{length-take-le, take_all}
+use Rattle.std.proofs.Common.{◌≡◌, ℕ, List, take, Some, sym, ap, subst, ◌∙◌, arith}
+use Rattle.std.proofs.lemmas.List.{take_all}
 use Rattle.std.specs.Str.Parse.{AllDigits, digits_value}
-use Rattle.resp_requests.proofs.Digits.{more_digits, more_value, digits_below, well_led_short, not_led, not_digit, all_digits}
+use Rattle.resp_requests.proofs.Digits.{more_digits, more_value, room_for_more, not_led, not_digit, all_digits}
 use Rattle.resp_requests.proofs.number.number_of.Goals as goal
 
 pub returns-then-not-is_well_led : goal.returns-then-not-is_well_led
@@ -13,21 +13,12 @@ returns-then-not-is_ascii_digit c =
 
 pub overflow_mul-value : goal.overflow_mul-value
 overflow_mul-value c =
-    let ds = c.args.digits.now in
-    let i = c.digits.i in
-    let all : length ds ≤ 19 = well_led_short ds (sym c.is_well_led.ensures ∙ c.if-not-is_well_led.false) in
-    let short : length (take i ds) ≤ 18 = omega (arith, all, length-take-le i ds (omega arith)) in
-    let below : digits_value 10 (take i ds) < 1_000_000_000_000_000_000 = digits_below (take i ds) 18 c.digits.invariant.digits short in
-    omega (arith, below, c.digits.invariant.value)
+    omega (arith, room_for_more c.args.digits.now c.digits.i (sym c.is_well_led.ensures ∙ c.if-not-is_well_led.false) (omega arith) c.digits.invariant.digits, c.digits.invariant.value)
 
 pub overflow_add-value : goal.overflow_add-value
 overflow_add-value c =
-    let ds = c.args.digits.now in
-    let i = c.digits.i in
-    let all : length ds ≤ 19 = well_led_short ds (sym c.is_well_led.ensures ∙ c.if-not-is_well_led.false) in
-    let short : length (take i ds) ≤ 18 = omega (arith, all, length-take-le i ds (omega arith)) in
-    let below : digits_value 10 (take i ds) < 1_000_000_000_000_000_000 = digits_below (take i ds) 18 c.digits.invariant.digits short in
-    omega (arith, below, c.digits.invariant.value, c.type_inv.digits i)
+    let room = room_for_more c.args.digits.now c.digits.i (sym c.is_well_led.ensures ∙ c.if-not-is_well_led.false) (omega arith) c.digits.invariant.digits in
+    omega (arith, room, c.digits.invariant.value, c.type_inv.digits c.digits.i)
 
 pub digits-preserved : goal.digits-preserved
 digits-preserved c =

@@ -1,4 +1,4 @@
-use Rattle.std.proofs.Common.{◌≡◌, ◌==◌, ◌≤◌, ◌∙◌, ℕ, true, false, length, get_or, refl, sym, arith}
+use Rattle.std.proofs.Common.{◌∙◌, sym, arith}
 use Rattle.std.proofs.lemmas.Bool.Decides.{nat_tests}
 use Rattle.resp_requests.proofs.WordSteps.{plain_end_at, plain_stops_at, plain_byte_at, plain_double_at, plain_single_at}
 use Rattle.resp_requests.proofs.words.in_plain.Goals as goal
@@ -7,23 +7,13 @@ pub returns-in-empty : goal.returns-in-empty
 returns-in-empty c = plain_end_at c.args.bytes.now (omega arith)
 
 pub returns-in-34 : goal.returns-in-34
-returns-in-34 c =
-    let bs = c.args.bytes.now in
-    let is : get_or bs 0 0 ≡ 34 = omega arith in
-    plain_double_at bs (omega arith) is
+returns-in-34 c = plain_double_at c.args.bytes.now (omega arith) (omega arith)
 
 pub returns-in-39 : goal.returns-in-39
-returns-in-39 c =
-    let bs = c.args.bytes.now in
-    let is : get_or bs 0 0 ≡ 39 = omega arith in
-    plain_single_at bs (omega arith) is
+returns-in-39 c = plain_single_at c.args.bytes.now (omega arith) (omega arith)
 
 pub returns-then-ends_word : goal.returns-then-ends_word
 returns-then-ends_word c = plain_stops_at c.args.bytes.now (omega arith) (sym c.ends_word.ensures ∙ c.if-ends_word.true)
 
 pub returns-else-ends_word : goal.returns-else-ends_word
-returns-else-ends_word c =
-    let bs = c.args.bytes.now in
-    let double : (get_or bs 0 0 == 34) ≡ false = grind (arith, nat_tests) in
-    let single : (get_or bs 0 0 == 39) ≡ false = grind (arith, nat_tests) in
-    plain_byte_at bs (omega arith) double single (sym c.ends_word.ensures ∙ c.if-ends_word.false)
+returns-else-ends_word c = plain_byte_at c.args.bytes.now (omega arith) (grind (arith, nat_tests)) (grind (arith, nat_tests)) (sym c.ends_word.ensures ∙ c.if-ends_word.false)

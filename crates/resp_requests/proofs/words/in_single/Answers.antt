@@ -1,16 +1,13 @@
-use Rattle.std.proofs.Common.{◌≡◌, ◌==◌, ◌≤◌, ◌∙◌, ℕ, true, false, length, get_or, refl, sym, arith}
+use Rattle.std.proofs.Common.{◌∙◌, refl, sym, arith}
 use Rattle.std.proofs.lemmas.Bool.Decides.{nat_tests}
-use Rattle.resp_requests.proofs.WordSteps.{single_end_at, single_byte_at, single_escaped_at, escaped_is_two}
+use Rattle.resp_requests.proofs.WordSteps.{single_end_at, single_byte_at, single_escaped_at}
 use Rattle.resp_requests.proofs.words.in_single.Goals as goal
 
 pub returns-in-empty : goal.returns-in-empty
 returns-in-empty c = (refl, single_end_at c.args.bytes.now (omega arith))
 
 pub returns-in-len1-up : goal.returns-in-len1-up
-returns-in-len1-up c =
-    let bs = c.args.bytes.now in
-    let quote : (get_or bs 0 0 == 39) ≡ false = grind (arith, nat_tests) in
-    single_byte_at bs (omega arith) quote (sym c.is_escaped_quote.ensures ∙ c.if-is_escaped_quote.false)
+returns-in-len1-up c = single_byte_at c.args.bytes.now (omega arith) (grind (arith, nat_tests)) (sym c.is_escaped_quote.ensures ∙ c.if-is_escaped_quote.false)
 
 pub returns-then-is_escaped_quote : goal.returns-then-is_escaped_quote
 returns-then-is_escaped_quote c = single_escaped_at c.args.bytes.now (sym c.is_escaped_quote.ensures ∙ c.if-is_escaped_quote.true)

@@ -28,7 +28,7 @@ exchange_group-requires-clause-within g c =
     let steps : into_iter_items c.groups.group-iterator ≡ c.in-Some.group ∷ into_iter_items c.next.new.self = c.in-Some.ensures.steps.0 in
     let placed = rw steps at c.groups.invariant.placed in
     let at = still_grouped c.groups.invariant.loop _ placed.0 in
-    let within : c.in-Some.group.which < length c.groups.self.links.nodes.items = rw length-map at at.within in
+    let within : c.in-Some.group.link < length c.groups.self.links.nodes.items = rw length-map at at.within in
     rw c.groups.self.links.nodes.ok.0 within
 
 pub exchange_group-requires-clause-room : goal.exchange_group-requires-clause-room

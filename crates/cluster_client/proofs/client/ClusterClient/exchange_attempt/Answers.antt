@@ -4,8 +4,8 @@ use Rattle.std.proofs.Common.{◌∙◌, map, refl, sym, ap}
 use Rattle.std.proofs.lemmas.Result.{err_from_is_err_and}
 use Rattle.resp_core.specs.View.{view}
 use Rattle.cluster_steps.specs.GroupRuns.{is_moved_tree}
-use Rattle.cluster_calls.proofs.LinkLaws.ChainLoop.{or_none}
 use Rattle.cluster_client.proofs.client.ClusterClient.exchange_attempt.Goals as goal
+use Rattle.cluster_calls.proofs.Lists.{or_none}
 
 pub returns-in_err-replies-clause-exchanged : goal.returns-in_err-replies-clause-exchanged
 returns-in_err-replies-clause-exchanged g c =

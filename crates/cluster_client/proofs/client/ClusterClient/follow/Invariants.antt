@@ -7,11 +7,11 @@ use Rattle.cluster_client.proofs.client.ClusterClient.follow.Given as goal
 
 abbrev pub invariant-requests : goal.invariant-requests
 invariant-requests g l = record {
-  loop : Loop (whole g.L.ConnectionLike.seen l.fn.self) (whole g.L.ConnectionLike.seen l.self) (texts l.fn.first.dispatch.args.items) (hop_to l.fn.first.dispatch.place) l.left (hop_to l.request.dispatch.place) l.request.dispatch.place.which;
+  loop : Loop (whole g.L.ConnectionLike.seen l.fn.self) (whole g.L.ConnectionLike.seen l.self) (texts l.fn.first.dispatch.args.items) (hop_to l.fn.first.dispatch.hop) l.redirects (hop_to l.request.dispatch.hop) l.request.dispatch.hop.link;
   same : texts l.request.dispatch.args.items ≡ texts l.fn.first.dispatch.args.items;
-  within : l.request.dispatch.place.which < vec_len l.self.links.nodes;
+  within : l.request.dispatch.hop.link < vec_len l.self.links.nodes;
   room : vec_len l.self.asked + l.fn.parts ≤ vec_capacity l.self.asked;
 }
 
 abbrev pub decreases-requests : goal.decreases-requests
-decreases-requests g l = l.left
+decreases-requests g l = l.redirects

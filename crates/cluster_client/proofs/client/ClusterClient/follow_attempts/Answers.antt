@@ -6,12 +6,12 @@ use Rattle.cluster_calls.specs.Calls.Transactions.{attempt}
 use Rattle.cluster_calls.proofs.LinkLaws.AttemptLoop.{loop_start}
 use Rattle.cluster_steps.specs.Turns.{hop_to}
 use Rattle.cluster_client.specs.Whole.{whole}
-use Rattle.cluster_client.proofs.Transacting.{attempt_answered, attempt_failed, attempt_more, attempt_stopped, attempt_to_place, attempt_with_room}
+use Rattle.cluster_client.proofs.Transacting.{attempt_answered, attempt_failed, attempt_more, attempt_stopped, attempt_to_hop, attempt_with_room}
 use Rattle.cluster_client.proofs.client.ClusterClient.follow_attempts.Goals as goal
 
 pub attempts-init : goal.attempts-init
 attempts-init g c =
-    let within : c.args.first.place.which < length c.args.self.now.links.nodes.items = rw length-map at c.requires.placed.within in
+    let within : c.args.first.hop.link < length c.args.self.now.links.nodes.items = rw length-map at c.requires.placed.within in
     record {
       loop = loop_start _ _ _ _ c.requires.placed.place;
       same = c.requires.placed.requests;
@@ -39,13 +39,13 @@ attempts-preserved g c =
     let goes = rw c.in-On.is at (c.in_ok-value.ensures.turns (λ k. cc k)) in
     let on = rw c.in-On.is at c.in_ok-value.ensures.on in
     let some = rw c.in-On.is at c.in_ok-value.ensures.some in
-    let within : c.in-On.place.which < length c.exchange_attempt.new.self.links.nodes.items = rw length-map at on.1 in
-    let place : c.in_ok-attempt-in-On.attempt.place ≡ c.in-On.place = c.in_ok-attempt-in-On.ensures.place in
-    let more = attempt_more _ _ _ _ _ _ _ _ c.attempts.invariant.loop _ c.attempts.invariant.same _ c.in_ok-replies.ensures.exchanged (hop_to c.in-On.place) c.in-On.place.which goes (some refl) on.0 in
+    let within : c.in-On.hop.link < length c.exchange_attempt.new.self.links.nodes.items = rw length-map at on.1 in
+    let hop : c.in_ok-attempt-in-On.attempt.hop ≡ c.in-On.hop = c.in_ok-attempt-in-On.ensures.hop in
+    let more = attempt_more _ _ _ _ _ _ _ _ c.attempts.invariant.loop _ c.attempts.invariant.same _ c.in_ok-replies.ensures.exchanged (hop_to c.in-On.hop) c.in-On.hop.link goes (some refl) on.0 in
     record {
-      loop = attempt_with_room _ (whole g.L.ConnectionLike.seen c.exchange_attempt.new.self) _ _ _ _ _ _ c.in_ok-attempt-in-On.ensures.log (attempt_to_place _ _ _ _ _ _ _ place more);
-      same = c.in_ok-attempt-in-On.ensures.requests ∙ ap (λ p. attempt (hop_to p) (args_of c.args.commands.now)) (sym place);
-      within = subst (λ p. p.which < c.exchange_attempt.new.self.links.nodes.len) (sym place) (rw c.exchange_attempt.new.self.links.nodes.ok.0 within);
+      loop = attempt_with_room _ (whole g.L.ConnectionLike.seen c.exchange_attempt.new.self) _ _ _ _ _ _ c.in_ok-attempt-in-On.ensures.log (attempt_to_hop _ _ _ _ _ _ _ hop more);
+      same = c.in_ok-attempt-in-On.ensures.requests ∙ ap (λ p. attempt (hop_to p) (args_of c.args.commands.now)) (sym hop);
+      within = subst (λ p. p.link < c.exchange_attempt.new.self.links.nodes.len) (sym hop) (rw c.exchange_attempt.new.self.links.nodes.ok.0 within);
       room = c.in_ok-attempt-in-On.ensures.room;
     }
 
@@ -55,5 +55,5 @@ returns-in_err-attempt-in-On g c =
     let goes = rw c.in-On.is at (c.in_ok-value.ensures.turns (λ k. cc k)) in
     let on = rw c.in-On.is at c.in_ok-value.ensures.on in
     let some = rw c.in-On.is at c.in_ok-value.ensures.some in
-    let more = attempt_more _ _ _ _ _ _ _ _ c.attempts.invariant.loop _ c.attempts.invariant.same _ c.in_ok-replies.ensures.exchanged (hop_to c.in-On.place) c.in-On.place.which goes (some refl) on.0 in
+    let more = attempt_more _ _ _ _ _ _ _ _ c.attempts.invariant.loop _ c.attempts.invariant.same _ c.in_ok-replies.ensures.exchanged (hop_to c.in-On.hop) c.in-On.hop.link goes (some refl) on.0 in
     rw (p.1, p.2) (attempt_stopped _ (whole g.L.ConnectionLike.seen c.exchange_attempt.new.self) _ _ _ _ _ _ c.in_err-attempt-in-On.ensures.log more)

@@ -7,7 +7,7 @@ use Rattle.cluster_client.proofs.client.ClusterClient.link.Goals as goal
 
 pub returns-in-Some : goal.returns-in-Some
 returns-in-Some g c =
-    let place = found (nodes g.L.ConnectionLike.seen c.args.self.now.links.nodes.items) (address c.args.node.now) c.in-Some.which (sym c.in-Some.ensures.place) in
+    let place = found (nodes g.L.ConnectionLike.seen c.args.self.now.links.nodes.items) (address c.args.node.now) c.in-Some.index (sym c.in-Some.ensures.place) in
     sym c.link.ensures ∙ ap (λ o. option_map (λ (n : Node). n.link) o) place.at ∙ sym place.link
 
 pub returns-in-None : goal.returns-in-None

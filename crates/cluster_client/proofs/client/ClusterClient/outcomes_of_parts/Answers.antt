@@ -12,7 +12,7 @@ use Rattle.cluster_steps.proofs.PipeGroups.{all_unmapped, groups_placed}
 use Rattle.cluster_steps.proofs.RequestCounts.{requests_within}
 use Rattle.cluster_client.proofs.EachPiping.{each_made, each_unsent, numbers_within, told_alone}
 use Rattle.cluster_client.proofs.Logged.{room_for_fewer}
-use Rattle.cluster_client.proofs.Piping.{dispatches_within, whiches}
+use Rattle.cluster_client.proofs.Piping.{dispatches_within, group_links}
 use Rattle.cluster_client.proofs.client.ClusterClient.outcomes_of_parts.Goals as goal
 
 pub returns-in_err-dispatches : goal.returns-in_err-dispatches
@@ -39,7 +39,7 @@ send_each-requires-clause-placed g c =
 
 pub send_each-requires-clause-apart : goal.send_each-requires-clause-apart
 send_each-requires-clause-apart g c =
-    subst (IsDistinct nat_eq) (sym (ap (map (λ h. h.which)) c.in_ok-groups.ensures.groups ∙ whiches c.in_ok-dispatches.dispatches.items)) (firsts_distinct nat_eq (map place_in c.in_ok-dispatches.dispatches.items))
+    subst (IsDistinct nat_eq) (sym (ap (map (λ h. h.link)) c.in_ok-groups.ensures.groups ∙ group_links c.in_ok-dispatches.dispatches.items)) (firsts_distinct nat_eq (map place_in c.in_ok-dispatches.dispatches.items))
 
 pub tell_each-requires-clause-numbers : goal.tell_each-requires-clause-numbers
 tell_each-requires-clause-numbers g c =

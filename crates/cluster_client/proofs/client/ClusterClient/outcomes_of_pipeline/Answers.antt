@@ -1,14 +1,29 @@
-use Rattle.std.proofs.Common.{◌≡◌, ◌∙◌, Some, None, sym, ap}
-use Rattle.resp_core.specs.Errors.{position_of}
-use Rattle.cluster_client.proofs.InParts.{each_before, refused_whole, told_whole}
+use Rattle.std.proofs.Common.{◌≡◌, [], Err, refl}
+use Rattle.std.proofs.lemmas.Result.{err_from_is_err_and}
+use Rattle.cluster_calls.specs.Links.Run.{with_log}
+use Rattle.cluster_client.specs.Whole.{whole}
+use Rattle.cluster_client.proofs.InParts.{each_before, unplaced}
 use Rattle.cluster_client.proofs.client.ClusterClient.outcomes_of_pipeline.Goals as goal
 
-pub returns-in-Ok : goal.returns-in-Ok
-returns-in-Ok g c strategy = told_whole strategy _ _ _ _ (c.in-Ok.ensures strategy)
+pub returns-in_err-all : goal.returns-in_err-all
+returns-in_err-all g c strategy =
+    let seen = g.L.ConnectionLike.seen in
+    let old = whole seen c.args.self.now in
+    let mid = whole seen (record c.args.self.now { asked = c.new.result; picked = c.new-2.result }) in
+    let stays : mid ≡ with_log old [] [] = rw (c.new.ensures.items, c.new-2.ensures.items) refl in
+    let p = err_from_is_err_and c.from_residual.result c.from_residual.ensures.1 in
+    rw (p.1, p.2) (unplaced strategy old mid c.args.commands.now _ stays c.in_err-all.ensures.refused)
 
-pub returns-in-Some : goal.returns-in-Some
-returns-in-Some g c strategy = each_before strategy _ _ _ _ _ (c.in-Err.ensures strategy).told.stays (c.outcomes_in_parts.ensures strategy)
+pub outcomes_in_parts-requires-clause-emptied : goal.outcomes_in_parts-requires-clause-emptied
+outcomes_in_parts-requires-clause-emptied g c = rw (c.new.ensures.items, c.new-2.ensures.items) refl
 
-pub returns-in-None : goal.returns-in-None
-returns-in-None g c strategy =
-    refused_whole strategy _ _ _ _ (λ n is. let bad : None ≡ Some n = sym c.in-None.is ∙ c.position.ensures ∙ ap position_of is in cc) (c.in-Err.ensures strategy)
+pub outcomes_in_parts-requires-clause-parts : goal.outcomes_in_parts-requires-clause-parts
+outcomes_in_parts-requires-clause-parts g c = (c.args.commands.now, c.in_ok-all.ensures.parts)
+
+pub returns : goal.returns
+returns g c strategy =
+    let seen = g.L.ConnectionLike.seen in
+    let old = whole seen c.args.self.now in
+    let mid = whole seen (record c.args.self.now { asked = c.new.result; picked = c.new-2.result }) in
+    let stays : mid ≡ with_log old [] [] = rw (c.new.ensures.items, c.new-2.ensures.items) refl in
+    each_before strategy old mid (whole seen c.outcomes_in_parts.new.self) c.args.commands.now _ stays (c.outcomes_in_parts.ensures strategy c.args.commands.now c.in_ok-all.ensures.parts)

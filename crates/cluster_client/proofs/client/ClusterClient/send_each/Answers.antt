@@ -35,7 +35,7 @@ groups-preserved g c =
     let room = rw steps at c.groups.invariant.room in
     let count = rw steps at c.groups.invariant.count in
     let more = sums _ _ _ _ _ _ c.send_group.new.log.ok.0 c.groups.self.asked.ok.0 c.in-Some.group.requests.ok.0 (ap length c.send_group.ensures.log ∙ length-append _ _) in
-    let within : c.in-Some.group.which < length c.args.self.now.links.nodes.items = rw length-map at placed.0.within in
+    let within : c.in-Some.group.link < length c.args.self.now.links.nodes.items = rw length-map at placed.0.within in
     record {
       loop = rw (c.push.ensures.items, c.unwrap.ensures) (send_more _ _ _ _ (group_of c.in-Some.group) _ _ _ loop c.send_group.ensures.sent c.send_group.ensures.log refl refl refl refl);
       placed = placed.1;
@@ -43,7 +43,7 @@ groups-preserved g c =
       log_room = room_behind _ _ _ _ _ _ _ log_room c.in-Some.group.requests.ok.0 more c.send_group.ensures.log_capacity;
       room = grind (arith, common_steps);
       count = grind (arith, common_steps);
-      within = rw (c.push.ensures.items, c.unwrap.ensures) (all_last _ _ _ c.groups.invariant.within (rw (c.send_group.ensures.sent.which, c.args.self.now.links.nodes.ok.0) within));
+      within = rw (c.push.ensures.items, c.unwrap.ensures) (all_last _ _ _ c.groups.invariant.within (rw (c.send_group.ensures.sent.link, c.args.self.now.links.nodes.ok.0) within));
     }
 
 pub returns-clause-sent : goal.returns-clause-sent
@@ -52,4 +52,4 @@ returns-clause-sent g c =
     send_done _ _ _ _ (rw none at c.groups.invariant.loop) (all_mapped _ group_of _ c.requires.placed) c.requires.apart
 
 pub returns-clause-within : goal.returns-clause-within
-returns-clause-within g c = subst (λ n. AllByRecursion (λ s. s.which < n) c.groups.sent.items) (sym c.groups.invariant.links) c.groups.invariant.within
+returns-clause-within g c = subst (λ n. AllByRecursion (λ s. s.link < n) c.groups.sent.items) (sym c.groups.invariant.links) c.groups.invariant.within

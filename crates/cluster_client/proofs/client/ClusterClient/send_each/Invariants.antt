@@ -16,5 +16,5 @@ invariant-groups g l = record {
   log_room : vec_len l.self.asked + request_count (map group_of (into_iter_items l.group-iterator)) ≤ vec_capacity l.self.asked;
   room : vec_len l.sent + length (into_iter_items l.group-iterator) ≤ vec_capacity l.sent;
   count : vec_len l.sent + length (into_iter_items l.group-iterator) ≡ vec_len l.fn.groups;
-  within : AllByRecursion (λ s. s.which < vec_len l.fn.self.links.nodes) l.sent.items;
+  within : AllByRecursion (λ s. s.link < vec_len l.fn.self.links.nodes) l.sent.items;
 }

@@ -9,11 +9,11 @@ use Rattle.cluster_client.proofs.client.ClusterClient.set_link.Goals as goal
 pub returns-in-Some-clause-put : goal.returns-in-Some-clause-put
 returns-in-Some-clause-put g c =
     ap (λ ns. record (whole g.L.ConnectionLike.seen c.args.self.now) { nodes = ns })
-    (replaced (nodes g.L.ConnectionLike.seen c.args.self.now.links.nodes.items) _ (address c.args.node) c.in-Some.which _ _ (sym c.in-Some.ensures.place) c.replace.ensures)
+    (replaced (nodes g.L.ConnectionLike.seen c.args.self.now.links.nodes.items) _ (address c.args.node) c.in-Some.index _ _ (sym c.in-Some.ensures.place) c.replace.ensures)
 
 pub returns-in-Some-clause-old : goal.returns-in-Some-clause-old
 returns-in-Some-clause-old g c =
-    gave_way (nodes g.L.ConnectionLike.seen c.args.self.now.links.nodes.items) _ (address c.args.node) c.in-Some.which _ _ (sym c.in-Some.ensures.place) c.replace.ensures
+    gave_way (nodes g.L.ConnectionLike.seen c.args.self.now.links.nodes.items) _ (address c.args.node) c.in-Some.index _ _ (sym c.in-Some.ensures.place) c.replace.ensures
 
 pub returns-in_ok-push-in-None-clause-put : goal.returns-in_ok-push-in-None-clause-put
 returns-in_ok-push-in-None-clause-put g c =

@@ -1,4 +1,5 @@
 use Rattle.std.proofs.Common.{◌≡◌, IfOk, subst}
+use Rattle.cluster_routing.specs.Directions.{shown_direction}
 use Rattle.cluster_routing.specs.Info.{texts}
 use Rattle.cluster_routing.proofs.DirectionRules.{no_word, some_word}
 use Rattle.cluster_routing.proofs.direction.Direction.for_routable.Goals as goal
@@ -8,6 +9,6 @@ returns-in-None g c = no_word (g.R.Routable.args c.args.r.now) (texts c.args.rea
 
 pub returns-in-Some : goal.returns-in-Some
 returns-in-Some g c =
-    subst (λ d. IfOk c.direction_by_word.result (λ direction. direction ≡ d))
+    subst (λ d. IfOk c.direction_by_word.result (λ direction. shown_direction direction ≡ d))
     (some_word c.in-Some.word.now (g.R.Routable.args c.args.r.now) (texts c.args.read_only.now) (rw c.in-Some.is at c.arg_idx.ensures))
     c.direction_by_word.ensures

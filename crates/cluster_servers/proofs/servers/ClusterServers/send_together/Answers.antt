@@ -1,6 +1,7 @@
-use Rattle.std.proofs.Common.{◌≡◌, ◌≢◌, None, Some, refl, sym, ap, inr, arith}
+use Rattle.std.proofs.Common.{◌≡◌, ◌≢◌, ◌∙◌, None, Some, map, refl, sym, ap, inr, arith}
 use Rattle.resp_core.specs.Errors.{by_cause, cause_of}
 use Rattle.resp_core.specs.declared.errors.redis_error.Cause.TheVariants.{Memory}
+use Rattle.cluster_client.specs.InParts.{entry_of}
 use Rattle.cluster_servers.specs.Seen.{cluster}
 use Rattle.cluster_servers.proofs.Asking.{refused_asks}
 use Rattle.cluster_servers.proofs.servers.ClusterServers.send_together.Goals as goal
@@ -8,14 +9,15 @@ use Rattle.cluster_servers.proofs.servers.ClusterServers.send_together.Goals.{in
 
 pub returns-in-Some-Memory-clause-refused : goal.returns-in-Some-Memory-clause-refused
 returns-in-Some-Memory-clause-refused g c =
-    let made = rw c.in-Err.is at c.query_each.ensures None in
+    let made = rw c.in-Err.is at c.query_each_directed.ensures None in
     refused_asks (cluster g.L.ConnectionLike.seen c.args.self.now) _ made.told.stays refl refl
 
 pub returns-clause-told : goal.returns-clause-told
 returns-clause-told g c =
-    let made = rw c.in-Err.is at c.query_each.ensures None in
+    let made = rw c.in-Err.is at c.query_each_directed.ensures None in
     let other : c.in-Err.error ≢ by_cause Memory = λ e. elim c.in_default.branch [
       | in_default-via-in-Some+in_default w ↦ grind (arith, c.cause.ensures, w.in_default, ap cause_of e)
       | in_default-via-in_default w ↦ grind (arith, c.cause.ensures, w.in_default, ap cause_of e)
     ] in
-    rw (sym c.in_ok-pipeline.ensures) (inr (c.in-Err.error, other, made.told))
+    let entries = ap (map entry_of) c.deref.ensures.value ∙ c.in_ok-directed.ensures.entries in
+    rw (sym entries) (inr (c.in-Err.error, other, made.told))

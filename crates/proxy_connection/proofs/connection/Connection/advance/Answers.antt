@@ -1,6 +1,6 @@
 use Rattle.std.proofs.Common.{◌≡◌, ◌∙◌, refl, subst}
 use Rattle.std.proofs.lemmas.Result.{err_from_is_err_and}
-use Rattle.proxy_core.specs.Guests.{is_open_at, openings, queue_at, queues}
+use Rattle.proxy_core.specs.Guests.{is_open_at, queue_at}
 use Rattle.proxy_connection.specs.Moves.{Advances}
 use Rattle.proxy_connection.specs.Ways.{ways}
 use Rattle.proxy_connection.proofs.Served.{advances_behind, rests_advances}
@@ -12,11 +12,11 @@ returns-in-Some-clause-ok g c =
 
 pub returns-clause-ok : goal.returns-clause-ok
 returns-clause-ok g c =
-    let w = ways g.C.Command.overlaps g.V.Written.written g.T.Translator.translates g.T.Translator.refuses g.T.Translator.has_ended in
+    let w = ways g.C.Command.overlaps g.V.Written.written g.T.Translator in
     let old = c.args.proxy.now in
     let same : c.understand.new.self.guest ≡ c.args.self.now.guest = c.understand.ensures.guest ∙ c.hear.ensures.guest in
-    let put = subst (λ n. Advances w g.C.Bytes.bytes g.V.Bytes.bytes old.limits.share (is_open_at (openings old.guests.items) n) n c.understand.new.self c.put.new.self
-    (queues old.guests.items) (queues c.put.new.proxy.guests.items) c.in_ok-progress-2.progress) same c.in_ok-progress-2.ensures.ok in
+    let put = subst (λ n. Advances w g.C.Bytes.bytes g.V.Bytes.bytes old.limits.share (is_open_at old.openings n) n c.understand.new.self c.put.new.self
+    old.queues c.put.new.proxy.queues c.in_ok-progress-2.progress) same c.in_ok-progress-2.ensures.ok in
     advances_behind _ _ _ _ _ _ c.understand.new.self c.put.new.self _ _ c.args.self.now c.in_ok-progress-2.progress
     (λ q h s. c.understand.ensures.stays q h (c.hear.ensures.stays q h s)) put
 
@@ -25,11 +25,11 @@ returns-in_err-progress-clause-due g c =
     let e = err_from_is_err_and c.from_residual.result c.from_residual.ensures.1 in
     let old = c.args.proxy.now in
     let n = c.args.self.now.guest in
-    rw e.1 (c.in_err-progress.ensures.due old.limits.share (is_open_at (openings old.guests.items) n) (queue_at (queues old.guests.items) n))
+    rw e.1 (c.in_err-progress.ensures.due old.limits.share (is_open_at old.openings n) (queue_at old.queues n))
 
 pub returns-in_err-understand-clause-due : goal.returns-in_err-understand-clause-due
 returns-in_err-understand-clause-due g c =
     let e = err_from_is_err_and c.from_residual-in_err-understand.result c.from_residual-in_err-understand.ensures.1 in
     let old = c.args.proxy.now in
     let n = c.args.self.now.guest in
-    rw e.1 (c.in_err-understand.ensures.due old.limits.share (is_open_at (openings old.guests.items) n) (queue_at (queues old.guests.items) n))
+    rw e.1 (c.in_err-understand.ensures.due old.limits.share (is_open_at old.openings n) (queue_at old.queues n))

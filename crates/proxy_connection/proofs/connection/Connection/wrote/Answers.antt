@@ -8,8 +8,10 @@ returns-in-Some-clause-rest g c =
     let same = ap length c.written.ensures in
     let fits = c.written.type_inv.0 in
     let small : length bytes ≤ 18446744073709551615 = omega arith in
-    rw c.in-Some.is
-    (rest_behind bytes c.args.self.now.count c.args.count c.saturating_add.result c.min-self.result 18446744073709551615 c.saturating_add.ensures (rw c.written.ensures at c.min-self.ensures) small)
+    rw (← c.self.view_is, c.in-Some.is)
+    (rest_behind bytes c.self.inside.count c.args.count c.saturating_add.result c.min-self-inside.result 18446744073709551615 c.saturating_add.ensures (rw c.written.ensures at c.min-self-inside.ensures) small)
 
 pub returns-in-Some-clause-goes : goal.returns-in-Some-clause-goes
-returns-in-Some-clause-goes g c = λ q h s. bytes_written _ c.args.self.now q h c.args.count _ (returns-in-Some-clause-rest g c) s
+returns-in-Some-clause-goes g c =
+    let rest = rw (← c.self.view_is) at (returns-in-Some-clause-rest g c) in
+    rw (← c.self.view_is) (λ q h s. bytes_written _ _ q h c.args.count _ rest s)

@@ -1,8 +1,8 @@
-use Rattle.std.proofs.Common.{length, refl, sym, ◌∙◌, ap, subst}
+use Rattle.std.proofs.Common.{refl, sym, ◌∙◌, ap, subst}
 use Rattle.proxy_core.specs.declared.queue.Entry.{Entry}
-use Rattle.proxy_core.specs.Guests.{queues, queue_at, openings, is_open_at, entry_bytes, queue_bytes}
-use Rattle.proxy_core.specs.Moves.{IsDue}
-use Rattle.proxy_core.specs.declared.run.Call.TheVariants as calls
+use Rattle.proxy_core.specs.Guests.{queue_at, is_open_at}
+use Rattle.proxy_core.specs.Moves.{IsPutDue}
+use Rattle.proxy_core.specs.declared.play.Call.TheVariants as calls
 use Rattle.proxy_core.specs.Steps.{Joined, NotJoined, Put, NotPut, Took, NotTook, Left, Turned, NotTurned}
 use Rattle.proxy_core.proofs.proxy.Proxy.answer_to.Goals as goal
 
@@ -23,10 +23,8 @@ pub returns-in-Err-put : goal.returns-in-Err-put
 returns-in-Err-put g c =
     let e = c.in-Err-put.ensures in
     let r = c.in-Err-put.refused in
-    let q = queue_at (queues c.args.self.now.guests.items) c.in-Put.guest in
-    let command = g.C.Bytes.bytes in
-    let reply = g.V.Bytes.bytes in
-    let why = subst (λ (x : Entry g.row.C.Denot g.row.V.Denot). IsDue r.why (is_open_at (openings c.args.self.now.guests.items) c.in-Put.guest) c.args.self.now.limits.share (length q) (queue_bytes command reply q) (entry_bytes command reply x)) (sym e.entry) e.why in
+    let old = c.args.self.now in
+    let why = subst (λ (x : Entry g.row.C.Denot g.row.V.Denot). IsPutDue g.C.Bytes.bytes g.V.Bytes.bytes old.limits.share (queue_at old.queues c.in-Put.guest) x (is_open_at old.openings c.in-Put.guest) r.why) (sym e.entry) e.why in
     (NotPut c.in-Put.guest r.value r.why, c.in-Put.is ∙ ap (calls.Put c.in-Put.guest) (sym e.entry), refl, (why, (e.err, (e.openings, e.limits)), refl))
 
 pub returns-in-Some : goal.returns-in-Some

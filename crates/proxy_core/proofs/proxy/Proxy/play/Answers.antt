@@ -10,5 +10,5 @@ calls-preserved g c =
     record {
       left = omega arith;
       plays = rw (c.push.ensures.items, c.unwrap.ensures, c.in_ok-reserve.ensures.items)
-          (plays_more _ _ _ _ _ _ _ _ _ _ _ _ _ _ _ _ _ inv.plays first c.answer_to-answer.ensures);
+          (plays_more _ _ _ _ _ _ _ _ _ _ _ _ _ _ _ _ inv.plays first c.answer_to-answer.ensures);
     }

@@ -1,5 +1,4 @@
 use Rattle.std.proofs.Common.{◌≡◌, ◌+◌, length}
-use Rattle.proxy_core.specs.Seen.{state_of}
 use Rattle.proxy_core.specs.Steps.{Plays}
 use Rattle.proxy_core.proofs.proxy.Proxy.play.Given as goal
 
@@ -7,5 +6,5 @@ abbrev pub invariant-calls : goal.invariant-calls
 invariant-calls g l = record {
   left : l._i + length l.calls.items ≡ length l.fn.calls.items;
   plays : Plays g.C.Command.overlaps g.C.Bytes.bytes g.V.Bytes.bytes g.S.Servers.asks l.fn.calls.items l.calls.items l.fn.answers.items l.answers.items
-      (state_of l.fn.self.guests.items l.fn.self.limits) l.fn.servers (state_of l.self.guests.items l.self.limits) l.servers;
+      l.fn.self l.fn.servers l.self l.servers;
 }

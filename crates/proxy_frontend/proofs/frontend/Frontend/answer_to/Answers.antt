@@ -2,7 +2,6 @@ use Rattle.std.proofs.Common.{List, ℕ, ◌<◌, length, refl, subst}
 use Rattle.proxy_connection.specs.Ways.{ways}
 use Rattle.proxy_frontend.specs.Histories.{heard}
 use Rattle.proxy_frontend.specs.Serving.{AllGo}
-use Rattle.proxy_frontend.specs.State.{state_of}
 use Rattle.proxy_frontend.specs.Steps.{Joined, NotJoined, Heard, NotHeard, NotAdvanced, WroteNothing, NotWritten, Left, Turned, NotTurned}
 use Rattle.proxy_frontend.proofs.Running.{advanced, written, of_call}
 use Rattle.proxy_frontend.proofs.frontend.Frontend.answer_to.Goals as goal
@@ -17,10 +16,10 @@ returns-in-Join g c =
 
 pub returns-in-Ok-hear : goal.returns-in-Ok-hear
 returns-in-Ok-hear g c =
-    let old = state_of c.args.self.now in
-    let new = state_of c.hear.new.self in
+    let old = c.args.self.now in
+    let new = c.hear.new.self in
     let e = c.in-Ok-hear.ensures in
-    let w = ways g.C.Command.overlaps g.V.Written.written g.T.Translator.translates g.T.Translator.refuses g.T.Translator.has_ended in
+    let w = ways g.C.Command.overlaps g.V.Written.written g.T.Translator in
     let goes = subst (λ (bytes : List ℕ). AllGo w old new (heard c.in-Hear.guest bytes)) c.deref.ensures.value e.ok in
     (Heard c.in-Hear.guest c.in-Hear.bytes, c.in-Hear.is, refl, (goes, (e.limits, e.shares), refl))
 
@@ -32,8 +31,8 @@ returns-in-Hear g c =
 
 pub returns-in-Ok-advance : goal.returns-in-Ok-advance
 returns-in-Ok-advance g c =
-    let old = state_of c.args.self.now in
-    let new = state_of c.advance.new.self in
+    let old = c.args.self.now in
+    let new = c.advance.new.self in
     let e = c.in-Ok-advance.ensures in
     of_call _ _ _ _ c.in-Advance.is (advanced _ _ _ _ c.in-Advance.guest c.in-Ok-advance.progress old new _ _ refl (e.limits, e.shares) e.ok)
 
@@ -44,8 +43,8 @@ returns-in-Advance g c =
 
 pub returns-in-Ok-Some : goal.returns-in-Ok-Some
 returns-in-Ok-Some g c =
-    let old = state_of c.args.self.now in
-    let new = state_of c.next_of.new.self in
+    let old = c.args.self.now in
+    let new = c.next_of.new.self in
     let e = c.in-Ok-Some.ensures in
     of_call _ _ _ _ c.in-Write.is (written _ _ _ _ c.in-Write.guest c.in-Ok-Some.bytes old new _ _ refl (e.limits, e.shares) (rw c.in-Ok-Some.field-0-is at e.ok))
 

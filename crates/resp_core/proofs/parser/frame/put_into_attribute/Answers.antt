@@ -1,11 +1,9 @@
 use Rattle.std.proofs.Common.{◌≡◌, ◌+◌, ◌-◌, ◌*◌, ◌/◌, ℕ, suc, List, [], ◌∷◌, ◌++◌, map, Some, None, Ok, Err, refl, sym, ap, subst, ◌∙◌, arith}
 use Rattle.resp_core.specs.Trees.{Tree, attribute}
 use Rattle.resp_core.specs.View.{view, pair_view, pairs_view}
-use Rattle.std.proofs.lemmas.List.{map_push}
 use Rattle.resp_core.specs.Reading.{flat}
-use Rattle.resp_core.proofs.Groups.{flat_push}
 use Rattle.resp_core.specs.Frames.{attribute_of}
-use Rattle.resp_core.proofs.Rows.{row_next, attribute_ends}
+use Rattle.resp_core.proofs.Rows.{pair_seen, row_next, attribute_ends}
 use Rattle.resp_core.proofs.Views.{view-Attribute}
 use Rattle.resp_core.proofs.parser.frame.put_into_attribute.Goals as goal
 
@@ -13,9 +11,7 @@ pub returns-in-Some : goal.returns-in-Some
 returns-in-Some c k bs =
     let a = c.args in
     let key : a.key.now ≡ Some c.in-Some.first = sym c.take.ensures.value ∙ c.in-Some.is in
-    let pushed : flat (map pair_view c.push.new.self.items) ≡ (flat (map pair_view a.pairs.now.items) ++ view c.in-Some.first ∷ []) ++ view a.value ∷ [] =
-    ap flat (ap (map pair_view) c.in_ok-push.ensures.items ∙ map_push pair_view a.pairs.now.items (c.in-Some.first, a.value)) ∙ flat_push (map pair_view a.pairs.now.items) (view c.in-Some.first) (view a.value) in
-    rw (key, c.take.ensures.after) (row_next k attribute_of _ _ (2 * a.to_come.now + 1) (2 * a.to_come.now) bs pushed (omega arith))
+    rw (key, c.take.ensures.after) (row_next k attribute_of _ _ (2 * a.to_come.now + 1) (2 * a.to_come.now) bs (pair_seen _ _ _ _ c.in_ok-push.ensures.items) (omega arith))
 
 pub returns-then-to_come-eq0 : goal.returns-then-to_come-eq0
 returns-then-to_come-eq0 c k bs =

@@ -1,25 +1,17 @@
 use Rattle.std.proofs.Common.{◌≡◌, ◌+◌, ◌*◌, ◌-◌, ◌^◌, ◌<◌, ◌≤◌, ℕ, List, true, length, get_or, take, Some, pos, ℤ, refl, sym, ap, subst, ◌∙◌, arith}
-use Rattle.std.proofs.lemmas.List.{length-take-le, take_all}
+use Rattle.std.proofs.lemmas.List.{take_all}
 use Rattle.std.specs.Str.Parse.{AllDigits, digits_value}
 use Rattle.resp_core.specs.Table.{number}
-use Rattle.resp_core.proofs.PlainNumbers.{digits_text, digits_number, digits_below, more_digits, more_value}
+use Rattle.resp_core.proofs.PlainNumbers.{digits_text, digits_number, digits_below, room_for_more, more_digits, more_value}
 use Rattle.resp_core.proofs.parser.line.plain_number.Goals as goal
 
 pub overflow_mul-value : goal.overflow_mul-value
-overflow_mul-value c =
-    let bs = c.args.line.now in
-    let i = c.digits.i in
-    let short : length (take i bs) ≤ 17 = omega (arith, length-take-le i bs (omega arith)) in
-    let below : digits_value 10 (take i bs) < 100_000_000_000_000_000 = digits_below (take i bs) 17 c.digits.invariant.digits short in
-    omega (arith, below, c.digits.invariant.value)
+overflow_mul-value c = omega (arith, room_for_more c.args.line.now c.digits.i (omega arith) (omega arith) c.digits.invariant.digits, c.digits.invariant.value)
 
 pub overflow_add-value : goal.overflow_add-value
 overflow_add-value c =
-    let bs = c.args.line.now in
-    let i = c.digits.i in
-    let short : length (take i bs) ≤ 17 = omega (arith, length-take-le i bs (omega arith)) in
-    let below : digits_value 10 (take i bs) < 100_000_000_000_000_000 = digits_below (take i bs) 17 c.digits.invariant.digits short in
-    omega (arith, below, c.digits.invariant.value, c.type_inv.line i)
+    let room = room_for_more c.args.line.now c.digits.i (omega arith) (omega arith) c.digits.invariant.digits in
+    omega (arith, room, c.digits.invariant.value, c.type_inv.line c.digits.i)
 
 pub digits-preserved : goal.digits-preserved
 digits-preserved c =

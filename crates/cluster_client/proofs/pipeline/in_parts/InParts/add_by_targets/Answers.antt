@@ -2,36 +2,42 @@ use Rattle.std.specs.Prelude.{option_map}
 use Rattle.std.proofs.Common.{◌∙◌, ◌≡◌, [], None, false, refl, ap, sym}
 use Rattle.resp_args.specs.Packed.{sent}
 use Rattle.cluster_routing.specs.Info.{shown_split}
-use Rattle.cluster_calls.specs.Calls.Call.{Entry}
+use Rattle.cluster_routing.proofs.DirectionViews.{own_splitting}
 use Rattle.cluster_calls.specs.Calls.InParts.{split_at}
-use Rattle.cluster_calls.specs.Calls.Parts.{if_one_slot, parts_of, reads_several_slots, whole_part}
+use Rattle.cluster_calls.specs.Calls.Parts.{if_one_slot, parts_of, whole_part}
 use Rattle.cluster_steps.specs.CodeParts.{split_in, targets_in}
 use Rattle.cluster_steps.specs.WholeParts.{whole_by}
-use Rattle.cluster_client.specs.InParts.{places_of}
+use Rattle.cluster_client.specs.InParts.{entry, places_of}
 use Rattle.cluster_steps.proofs.PartTargets.{whole_by_targets}
-use Rattle.cluster_client.proofs.InParts.{goes_as, split_by_targets}
+use Rattle.cluster_client.proofs.InParts.{goes_as, several_is, split_by_targets}
 use Rattle.cluster_client.proofs.pipeline.in_parts.InParts.add_by_targets.Goals as goal
 
 pub add_whole-requires : goal.add_whole-requires
 add_whole-requires c =
-    let command = c.args.command.now.command in
+    let command = c.args.command.now in
     let several = c.in_ok-reads_several.reads_several in
     sym (ap (option_map (whole_by (sent command))) c.in-Some.is) ∙ c.one_route.ensures (sent command)
     ∙ ap (if_one_slot several) (whole_by_targets (sent command) (targets_in c.args.targets) (parts_of [] command 0) c.requires.targets)
-    ∙ ap (λ b. if_one_slot b (whole_part (sent command) (parts_of [] command 0))) (c.in_ok-reads_several.ensures ∙ ap (λ (x : Entry). reads_several_slots x.command.args) c.command.view_is)
+    ∙ ap (λ b. if_one_slot b (whole_part (sent command) (parts_of [] command 0))) c.in_ok-reads_several.ensures
 
 pub returns-in_default-several_slots-clause-refused : goal.returns-in_default-several_slots-clause-refused
 returns-in_default-several_slots-clause-refused c m =
-    let e = c.args.command.now in
+    let e = entry c.args.command.now false in
     let several = c.in_ok-reads_several.reads_several in
     let none : None ≡ places_of (split_at e) = sym (ap (option_map shown_split) c.in_default-several_slots.is) ∙ c.several_slots.ensures
     ∙ split_by_targets e (targets_in c.args.targets) (option_map shown_split (split_in c.args.targets)) c.requires.targets c.requires.split in
     let part = sym (ap (option_map (whole_by (sent e.command))) c.in_default.is) ∙ c.one_route.ensures (sent e.command)
     ∙ ap (if_one_slot several) (whole_by_targets (sent e.command) (targets_in c.args.targets) (parts_of [] e.command 0) c.requires.targets)
-    ∙ ap (λ b. if_one_slot b (whole_part (sent e.command) (parts_of [] e.command 0))) (c.in_ok-reads_several.ensures ∙ ap (λ (x : Entry). reads_several_slots x.command.args) c.command.view_is) in
+    ∙ ap (λ b. if_one_slot b (whole_part (sent e.command) (parts_of [] e.command 0))) c.in_ok-reads_several.ensures in
     (goes_as e None false none part refl, c.at_position.ensures)
 
-pub add_parts-requires : goal.add_parts-requires
-add_parts-requires c =
+pub add_parts-requires-clause-own : goal.add_parts-requires-clause-own
+add_parts-requires-clause-own c =
+    let some = several_is (targets_in c.args.targets) (option_map shown_split (split_in c.args.targets)) (shown_split c.in-Some-several_slots.split)
+    (sym (ap (option_map shown_split) c.in-Some-several_slots.is) ∙ c.several_slots.ensures) in
+    own_splitting [] c.args.command.now.args (shown_split c.in-Some-several_slots.split) (some ∙ c.requires.split)
+
+pub add_parts-requires-clause-split : goal.add_parts-requires-clause-split
+add_parts-requires-clause-split c =
     sym (ap (option_map shown_split) c.in-Some-several_slots.is) ∙ c.several_slots.ensures
-    ∙ split_by_targets c.args.command.now (targets_in c.args.targets) (option_map shown_split (split_in c.args.targets)) c.requires.targets c.requires.split
+    ∙ split_by_targets (entry c.args.command.now false) (targets_in c.args.targets) (option_map shown_split (split_in c.args.targets)) c.requires.targets c.requires.split

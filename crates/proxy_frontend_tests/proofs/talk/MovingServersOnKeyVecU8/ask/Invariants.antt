@@ -1,5 +1,0 @@
-use Rattle.std.proofs.Common.{◌≡◌, length}
-use Rattle.proxy_frontend_tests.proofs.talk.MovingServersOnKeyVecU8.ask.Given as goal
-
-abbrev pub invariant-batch : goal.invariant-batch
-invariant-batch l = length l.outcomes.items ≡ l.i
