@@ -13,7 +13,7 @@ use Rattle.resp_link.specs.Replies.{replies_of}
 use Rattle.cluster_routing.specs.Address.{Address, same_address}
 use Rattle.cluster_routing.specs.Choice.{Strategy}
 use Rattle.cluster_routing.specs.Lists.{among, concat, firsts, front, rest, IsDistinct}
-use Rattle.cluster_steps.specs.declared.dispatch.Dispatch.{Dispatch as CodeDispatch}
+use Rattle.cluster_steps.specs.Requests.{CodeDispatch}
 use Rattle.cluster_calls.specs.Links.EachMade.{EachHappened, WholesMade, refusal_by, refusals_of}
 use Rattle.cluster_calls.specs.Links.Events.{Event, Ending, answers, fails, AllTo, LinkCalled, Runs, log_of, exchanges_at, exchanges_of}
 use Rattle.cluster_calls.specs.Links.Happened.{client_of}

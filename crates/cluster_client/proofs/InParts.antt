@@ -37,7 +37,7 @@ use Rattle.cluster_calls.specs.Links.World.{World}
 use Rattle.cluster_steps.specs.Joins.{AreOutcomesBy, HasRoom, IsJoinedBy, IsTold, shown_join, width_by, width_of_all}
 use Rattle.cluster_steps.specs.FirstPlaces.{part_of}
 use Rattle.cluster_steps.specs.declared.join.Join.{Join}
-use Rattle.cluster_steps.specs.declared.route.Part.{Part as CodePart}
+use Rattle.cluster_steps.specs.Requests.{CodePart}
 use Rattle.cluster_steps.specs.CodeParts.{part_targets, routed_at, routed_part}
 use Rattle.cluster_steps.specs.WholeParts.{whole_by}
 use Rattle.cluster_client.specs.InParts.{AreInParts, AreReady, IsAdded, if_several_targets, joined_by, joins_after, places_of, shown_joins}

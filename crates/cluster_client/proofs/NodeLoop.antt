@@ -12,7 +12,7 @@ use Rattle.cluster_routing.specs.Address.{Address, same_address}
 use Rattle.cluster_routing.specs.Lists.{among}
 use Rattle.cluster_routing.specs.Policies.{Outcome}
 use Rattle.cluster_routing.specs.Seen.{address}
-use Rattle.cluster_steps.specs.declared.dispatch.Dispatch.{Dispatch as CodeDispatch}
+use Rattle.cluster_steps.specs.Requests.{CodeDispatch}
 use Rattle.cluster_calls.specs.Links.Request.{Request, requests_to, skipped}
 use Rattle.cluster_calls.specs.Links.Log.{Exchange, is_moved_reply}
 use Rattle.cluster_calls.specs.Links.World.{World, Node, is_usable, one_reply, tree_result}
@@ -209,7 +209,7 @@ module _ (old now new : World) (ds : List Dispatch) (d : Dispatch) (rest : List 
 -- ---- places of other nodes stay
 
 abbrev pub node_of : CodeDispatch → Address
-node_of e = address e.hop.node
+node_of e = address e.to.node
 
 not_to : (a : Address) (d : Dispatch) (log : List Request) → log ≡ direct d ∷ [] → same_address d.node a ≡ false → requests_to a log ≡ []
 not_to a d log is ne = ap (requests_to a) is ∙ none
@@ -226,7 +226,7 @@ other_placed old new d o m e ne p =
         place = place;
         linked = linked new.nodes (node_of e) ∙ ap is_usable (left.unasked (node_of e) (not_to (node_of e) d (log_of m.events) (m.answered (λ k. cc k)).sent ne)) ∙ sym (linked old.nodes (node_of e)) ∙ p.place.linked;
       };
-      within = place_within new.nodes (node_of e) e.hop.link place;
+      within = place_within new.nodes (node_of e) e.to.link place;
       direct = p.direct;
     }
 

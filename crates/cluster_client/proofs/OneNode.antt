@@ -24,7 +24,7 @@ use Rattle.cluster_calls.specs.Links.Happened.{CallMade, client_of}
 use Rattle.cluster_calls.specs.Links.Places.{IsOpenAt}
 use Rattle.cluster_calls.specs.Links.Request.{Request, skipped}
 use Rattle.cluster_calls.specs.Links.World.{World, open_links, one_reply, tree_result}
-use Rattle.cluster_steps.specs.declared.dispatch.Dispatch.{Dispatch as CodeDispatch}
+use Rattle.cluster_steps.specs.Requests.{CodeDispatch}
 use Rattle.cluster_steps.specs.Dispatches.{IsPlaced}
 use Rattle.cluster_steps.specs.FirstPlaces.{node_with_link}
 use Rattle.cluster_steps.specs.Groups.{request_in}
@@ -45,7 +45,7 @@ same_shown (Err refusal) = refl
 told_by : (reply : Result Value Refusal) (result : Result Tree Refusal) → tree_or_refusal reply ≡ outcome_in result → tree_result view reply ≡ told result
 told_by reply result e = same_shown reply ∙ e ∙ same_told result
 
-request_is : (d : CodeDispatch) (node : Address) (command : Command) → address d.hop.node ≡ node → texts d.args.items ≡ sent command → d.hop.asking ≡ false
+request_is : (d : CodeDispatch) (node : Address) (command : Command) → address d.to.node ≡ node → texts d.args.items ≡ sent command → d.to.asking ≡ false
     → request_in d ≡ record { node = node; args = sent command; asking = false }
 request_is d node command there args direct = λ i. record { node = there i; args = args i; asking = direct i }
 
@@ -57,15 +57,15 @@ found node = Ok node
 
 -- the whole call, from the dispatch that was made ready and from its exchange
 module _ (strategy : Option Strategy) (old new : World) (node : Address) (command : Command) (waits : command.no_response ≡ false) (d : CodeDispatch) (placed : IsPlaced old.nodes d)
-    (named : found (address d.hop.node) ≡ node_with_link (open_links old.nodes) (first_of [] [] (at_node node))) (args : texts d.args.items ≡ sent command) (ready : CodeDispatch) (same : ready ≡ d)
+    (named : found (address d.to.node) ≡ node_with_link (open_links old.nodes) (first_of [] [] (at_node node))) (args : texts d.args.items ≡ sent command) (ready : CodeDispatch) (same : ready ≡ d)
     (entries : new.entries ≡ old.entries) (settings : new.settings ≡ old.settings) (none : new.picked ≡ []) (before : List Request) (empty : before ≡ []) (result : Result Tree Refusal)
     (flag : new.needs_refresh ≡ (old.needs_refresh || is_moved_reply (tree_in result)))
-    (exchange : Exchanges old.nodes new.nodes ready.hop.link before new.log (request_in ready ∷ []) (skipped ready.hop.asking) 1 (one_reply result)) where
-  there : address d.hop.node ≡ node
-  there = placed_node (open_links old.nodes) node (address d.hop.node) named
+    (exchange : Exchanges old.nodes new.nodes ready.to.link before new.log (request_in ready ∷ []) (skipped ready.to.asking) 1 (one_reply result)) where
+  there : address d.to.node ≡ node
+  there = placed_node (open_links old.nodes) node (address d.to.node) named
 
-  at : IsOpenAt old.nodes node d.hop.link
-  at = subst (λ a. IsOpenAt old.nodes a d.hop.link) there placed.place
+  at : IsOpenAt old.nodes node d.to.link
+  at = subst (λ a. IsOpenAt old.nodes a d.to.link) there placed.place
 
   -- memory was refused for the error that the reply holds, or the reply is told
   abbrev Ended : Result Value Refusal → Type 0
@@ -74,7 +74,7 @@ module _ (strategy : Option Strategy) (old new : World) (node : Address) (comman
   pub sent_there : (reply : Result Value Refusal) → Ended reply → ReplyMade strategy old new (At node command) (tree_result view reply)
   sent_there reply ends =
       at_made strategy old new node command waits at.linked entries settings none result (flag ∙ ap (λ r. old.needs_refresh || is_moved_reply r) (sym (same_reply result)))
-      ready.hop.link (subst (λ (k : CodeDispatch). IsOpenAt old.nodes node k.hop.link) (sym same) at) before empty (request_in ready)
+      ready.to.link (subst (λ (k : CodeDispatch). IsOpenAt old.nodes node k.to.link) (sym same) at) before empty (request_in ready)
       (ap request_in same ∙ request_is d node command there args placed.direct) exchange (tree_result view reply) (by ends)
     where
       by : Ended reply → Ends result (tree_result view reply)

@@ -43,7 +43,7 @@ use Rattle.cluster_calls.proofs.LinkLaws.Played.{call_made}
 use Rattle.cluster_calls.proofs.Lists.{same_values}
 use Rattle.cluster_calls.proofs.LogLaws.PipePlans.{IsWholePart, pipeline_nodes, primary_of, whole_parts_are}
 use Rattle.cluster_calls.proofs.LogLaws.Plans.{IsFor, dispatches_for}
-use Rattle.cluster_steps.specs.declared.dispatch.Dispatch.{Dispatch as CodeDispatch}
+use Rattle.cluster_steps.specs.Requests.{CodeDispatch}
 use Rattle.cluster_steps.specs.Dispatches.{IsPlaced, IsPlanned, dispatch_of}
 use Rattle.cluster_steps.specs.Groups.{NodeRequests, group_at, place_in, request_in}
 use Rattle.cluster_steps.specs.GroupRuns.{GroupByGroup, AreGroupResults, GroupsMade, request_lists}

@@ -10,8 +10,8 @@ use Rattle.cluster_routing.specs.Choice.{Strategy}
 use Rattle.cluster_routing.specs.Info.{shown_parts, shown_split}
 use Rattle.cluster_routing.specs.Split.{parts_by_place}
 use Rattle.cluster_routing.specs.declared.split.SplitParts.{SplitParts}
-use Rattle.cluster_steps.specs.declared.dispatch.Dispatch.{Dispatch as CodeDispatch}
-use Rattle.cluster_steps.specs.declared.route.Part.{Part as CodePart}
+use Rattle.cluster_steps.specs.Requests.{CodeDispatch}
+use Rattle.cluster_steps.specs.Requests.{CodePart}
 use Rattle.cluster_steps.specs.Dispatches.{AreDispatched, IsPlanned, dispatch_of}
 use Rattle.cluster_steps.specs.CodeParts.{routed_at, routed_part}
 use Rattle.cluster_steps.specs.FirstPlaces.{part_of}

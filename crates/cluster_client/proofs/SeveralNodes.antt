@@ -59,7 +59,7 @@ use Rattle.cluster_calls.proofs.LinkLaws.OneCommand.{Untouched, not_sent, refuse
 use Rattle.cluster_calls.proofs.LinkLaws.PartedCalls.{happened_by}
 use Rattle.cluster_calls.proofs.LinkLaws.Played.{call_made}
 use Rattle.cluster_calls.proofs.LogLaws.SentOnce.{nodes_once_ascending}
-use Rattle.cluster_steps.specs.declared.dispatch.Dispatch.{Dispatch as CodeDispatch}
+use Rattle.cluster_steps.specs.Requests.{CodeDispatch}
 use Rattle.cluster_steps.specs.Dispatches.{AreDispatched, IsPlanned, dispatch_of}
 use Rattle.cluster_steps.specs.FirstPlaces.{FindsFirst, ArePicksAt, node_with_link}
 use Rattle.cluster_steps.proofs.Dispatched.{plan_made, plan_refused, plan_unparted, picks_made, picks_unparted}

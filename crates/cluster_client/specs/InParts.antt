@@ -9,6 +9,7 @@ use Rattle.cluster_calls.specs.Calls.Call.{Entry}
 use Rattle.cluster_calls.specs.Calls.Parts.{Part, Target, pipeline_parts}
 use Rattle.cluster_calls.specs.Calls.InParts.{entries_by, first_unplaced, goes_to_slots, in_parts, split_at, splits_in}
 use Rattle.cluster_steps.specs.FirstPlaces.{part_of}
+use Rattle.cluster_steps.specs.Requests.{CodePart}
 use Rattle.cluster_steps.specs.Joins.{HasRoom, shown_join}
 use Rattle.cluster_steps.specs.declared.join.Join.{Join}
 use Rattle.cluster_client.specs.declared.pipeline.Directed.{Directed}
@@ -51,6 +52,10 @@ joins_after n p = joined_by n (shown_joins p.joins.items)
 
 abbrev pub AreReady : List (Option Join) → Type 0
 AreReady joins = AllByRecursion (λ j. IfSome j HasRoom) joins
+
+-- these are the parts of a pipeline whose commands all go whole
+abbrev pub ArePartsOf : List CodePart → List Entry → Type 0
+ArePartsOf parts entries = pipeline_parts 0 entries ≡ Ok (map part_of parts)
 
 -- the command at a position goes to slots, and stands behind the others, whole or in its parts
 pub record IsAdded (position : ℕ) (command : Entry) (old new : InParts) : Type 0 where

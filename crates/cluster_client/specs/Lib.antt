@@ -1,7 +1,9 @@
 pub mod Whole
 pub mod Relinks
+pub mod Streams
 pub mod Shown
 pub mod NodeRuns
+pub mod CommandCalls
 pub mod Ended
 pub mod PreparedReads
 pub mod Outcomes

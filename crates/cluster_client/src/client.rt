@@ -18,10 +18,11 @@ ghost use Rattle.cluster_calls.specs.Links.Chains.{ChainMade};
 ghost use Rattle.cluster_calls.specs.Links.Converted.{ReplyMade, ValueMade, refresh_answer, value_answer};
 ghost use Rattle.cluster_calls.specs.Links.Happened.{CallMade, Happened, LacksLate, client_of};
 ghost use Rattle.cluster_steps.specs.Dispatches.{IsPlaced, IsPlanned, dispatch_of, dispatches_in, is_whole, prepared_by, set_out_by, split_in};
-ghost use Rattle.cluster_calls.specs.Links.Orders.{command_call, routes_in_order};
+ghost use Rattle.cluster_calls.specs.Links.Orders.{routes_in_order};
 ghost use Rattle.cluster_calls.specs.Links.PartRuns.{PartsMade};
 ghost use Rattle.cluster_calls.specs.Links.Places.{IsOpenAt};
 ghost use Rattle.cluster_steps.specs.Turns.{hop_to};
+ghost use Rattle.cluster_client.specs.CommandCalls.{call_by, call_of, given_order};
 ghost use Rattle.cluster_client.specs.Ended.{CommandEnded};
 ghost use Rattle.cluster_client.specs.Whole.{whole};
 ghost use Rattle.cluster_calls.specs.Links.Run.{with_log};
@@ -34,33 +35,39 @@ mod relink;
 
 use cluster_routing::{ClusterTopology, NodeAddress, ReadRoutingStrategy, SlotMap, SplitParts};
 use cluster_steps::asked::{Asked, sent_again};
-use cluster_steps::dispatch::{Dispatch, Outset, Prepared, dispatches_over, one_dispatch_in};
-use cluster_steps::exchange::exchange_one_over;
+use cluster_steps::dispatch::{Dispatch, Outset, Prepared, dispatches, one_dispatch};
+use cluster_steps::exchange::exchange_one;
 use cluster_steps::known_links::KnownLinks;
 use cluster_steps::node_links::NodeLinks;
 use cluster_steps::numbered_map::NumberedMap;
 use cluster_steps::order::{fits_order, prepared_in_order};
+use cluster_steps::picker::Picker;
 use cluster_steps::ready::{Ready, make_all_ready, make_ready};
 use cluster_steps::reply::{needs_refresh, reply_of_parts};
 use cluster_steps::route::{Targets, push_split, targets_of, whole_part};
 use cluster_steps::slots::{slot_map_in, slots_dispatch};
-use cluster_steps::turn::{Turn, turn_over};
+use cluster_steps::turn::{Turn, turn_by};
 use resp_args::{Cmd, FromRedisValue, from_redis_value};
-use resp_core::{Cause, ErrorKind, PushInfo, RedisError, Value};
+use resp_core::{Cause, PushInfo, RedisError, Value};
 use resp_link::ConnectionLike;
 use std::alloc::{AllocError, Global};
 
-/// Whether memory was refused.
-fn lacks_memory<T>(reply: &Result<T, RedisError>) -> bool
-    ensures { (result ≡ true) ↔ (reply.now ≡ Err (by_cause Memory)) }
+/// A command as it is sent: its parts in the order given, where one is, and where any node may serve
+/// it, to the one with this number.
+#[derive(Clone, Copy)]
+pub(crate) struct CommandCall<'a> {
+    pub command: &'a Cmd,
+    pub order: Option<&'a [usize]>,
+    pub number: u64,
+}
+
+/// Empties the log and the picks, as each call does first. It takes no memory.
+pub(crate) fn begin(alloc: Global, asked: &mut Vec<Asked>, picked: &mut Vec<NodeAddress>)
+    ensures asked { asked.new.items ≡ [] }
+    ensures picked { picked.new.items ≡ [] }
 {
-    match reply {
-        Ok(_) => false,
-        Err(e) => match e.kind() {
-            ErrorKind::Memory => true,
-            _ => false,
-        },
-    }
+    *asked = Vec::new(alloc);
+    *picked = Vec::new(alloc);
 }
 
 /// A client of a Redis Cluster over links that its maker hands in, one for each node.
@@ -92,8 +99,7 @@ impl<L: ConnectionLike + Drop> ClusterClient<L> {
         read_only: Vec<Vec<u8>>,
         budget: u16,
     ) -> Result<ClusterClient<L>, RedisError>
-        ensures made { IfOk result
-            (λ client. whole L.seen client
+        ensures made { IfOk result (λ client. whole L.seen client
             ≡ new_world (nodes L.seen links.items)
             (record { budget = budget; read_only = texts read_only.items })) }
         ensures repeated { (result ≡ Err (by_cause RepeatedAddress))
@@ -125,14 +131,13 @@ impl<L: ConnectionLike + Drop> ClusterClient<L> {
             (Refresh (address node.now)) (refresh_answer result) }
         ensures picks { (whole L.seen self.new).picked ≡ [] }
     {
-        self.asked = Vec::new(alloc);
-        self.picked = Vec::new(alloc);
+        begin(alloc, &mut self.asked, &mut self.picked);
         let Some(link) = self.links.open_place(node) else {
             return Err(RedisError::from(Cause::NoLink));
         };
         let dispatch = slots_dispatch(alloc, node, link)?;
         let request = make_ready(alloc, &mut self.asked, dispatch, 1)?;
-        let reply = exchange_one_over(&mut self.links, alloc, &mut self.asked, request)?;
+        let reply = exchange_one(alloc, &mut self.links, &mut self.asked, request)?;
         let slots = slot_map_in(alloc, reply, node)?;
         self.slots.renew(slots);
         self.needs_refresh = false;
@@ -197,37 +202,46 @@ impl<L: ConnectionLike + Drop> ClusterClient<L> {
         ensures unpicked { result ≡ Err (by_cause Memory) → (whole L.seen self.new).log ≡ []
             → (whole L.seen self.new).picked ≡ [] }
     {
-        let reply = self.reply_to(alloc, cmd, number, strategy)?;
+        let call = CommandCall {
+            command: cmd,
+            order: None,
+            number,
+        };
+        self.value_of(alloc, &call, strategy)
+    }
+
+    /// The one reply to a command, as a `T`.
+    fn value_of<T: FromRedisValue>(
+        &mut self,
+        alloc: Global,
+        call: &CommandCall<'_>,
+        strategy: Option<&dyn ReadRoutingStrategy>,
+    ) -> Result<T, RedisError>
+        ensures happened { Happened (strategy_of admits strategy.entry) (whole L.seen self.old)
+            (whole L.seen self.new) (call_of call.now) }
+        ensures answered { ValueMade (strategy_of admits strategy.entry) (whole L.seen self.old)
+            (whole L.seen self.new) (call_of call.now) T.meaning T.convert result }
+        ensures room { result ≡ Err (by_cause Memory) → (whole L.seen self.new).log ≢ []
+            → LacksLate (strategy_of admits strategy.entry) (whole L.seen self.old)
+            (whole L.seen self.new) (call_of call.now) }
+        ensures unpicked { result ≡ Err (by_cause Memory) → (whole L.seen self.new).log ≡ []
+            → (whole L.seen self.new).picked ≡ [] }
+    {
+        let reply = self.reply_to(alloc, call, strategy)?;
         Ok(from_redis_value(alloc, reply)?)
     }
 
-    /// The one reply to a command, made of those of its parts, which are sent as they first appear.
+    /// The one reply to a command, made of those of its parts.
     pub(crate) fn reply_to(
         &mut self,
         alloc: Global,
-        cmd: &Cmd,
-        number: u64,
+        call: &CommandCall<'_>,
         strategy: Option<&dyn ReadRoutingStrategy>,
     ) -> Result<Value, RedisError>
         ensures { ReplyMade (strategy_of admits strategy.entry) (whole L.seen self.old)
-            (whole L.seen self.new) (Query cmd.now number) (tree_result view result) }
+            (whole L.seen self.new) (call_of call.now) (tree_result view result) }
     {
-        self.reply_in_order(alloc, cmd, None, number, strategy)
-    }
-
-    /// The same of a command whose parts are sent in the order given, where one is.
-    pub(crate) fn reply_in_order(
-        &mut self,
-        alloc: Global,
-        cmd: &Cmd,
-        order: Option<&[usize]>,
-        number: u64,
-        strategy: Option<&dyn ReadRoutingStrategy>,
-    ) -> Result<Value, RedisError>
-        ensures { ReplyMade (strategy_of admits strategy.entry) (whole L.seen self.old) (whole L.seen self.new)
-            (command_call cmd.now (option_map (λ o. o.now) order.entry) number) (tree_result view result) }
-    {
-        let reply = self.reply_with_picks(alloc, cmd, order, number, strategy);
+        let reply = self.reply_with_picks(alloc, call, strategy);
         self.unpick(&reply);
         reply
     }
@@ -236,16 +250,13 @@ impl<L: ConnectionLike + Drop> ClusterClient<L> {
     fn reply_with_picks(
         &mut self,
         alloc: Global,
-        cmd: &Cmd,
-        order: Option<&[usize]>,
-        number: u64,
+        call: &CommandCall<'_>,
         strategy: Option<&dyn ReadRoutingStrategy>,
     ) -> Result<Value, RedisError>
         ensures { CommandEnded (strategy_of admits strategy.entry) (whole L.seen self.old)
-            (whole L.seen self.new) (command_call cmd.now (option_map (λ o. o.now) order.entry) number)
-            (value_answer (tree_result view result)) }
+            (whole L.seen self.new) (call_of call.now) (value_answer (tree_result view result)) }
     {
-        match self.prepare(alloc, cmd, order, number, strategy)? {
+        match self.prepare(alloc, call, strategy)? {
             Outset::Whole(dispatch) => self.follow_whole(alloc, dispatch),
             Outset::InParts(Prepared { dispatches, split }) => {
                 let replies = self.follow_all(alloc, dispatches)?;
@@ -263,8 +274,10 @@ impl<L: ConnectionLike + Drop> ClusterClient<L> {
         ensures kept { (reply.now ≡ Err (by_cause Memory) → (whole L.seen self.old).log ≢ [])
             → addresses self.new.picked.items ≡ addresses self.old.picked.items }
     {
-        if self.asked.is_empty() && lacks_memory(reply) {
-            self.picked = Vec::new(*self.picked.allocator());
+        if let Err(e) = reply {
+            if self.asked.is_empty() && e.is_memory() {
+                self.picked = Vec::new(*self.picked.allocator());
+            }
         }
     }
 
@@ -273,46 +286,41 @@ impl<L: ConnectionLike + Drop> ClusterClient<L> {
     fn prepare(
         &mut self,
         alloc: Global,
-        cmd: &Cmd,
-        order: Option<&[usize]>,
-        number: u64,
+        call: &CommandCall<'_>,
         strategy: Option<&dyn ReadRoutingStrategy>,
     ) -> Result<Outset, RedisError>
         ensures stays { whole L.seen self.new
             ≡ with_log (whole L.seen self.old) [] (addresses self.new.picked.items) }
         ensures planned { result ≢ Err (by_cause Memory)
             → IsPlanned (strategy_of admits strategy.entry) (client_of (whole L.seen self.old))
-            (command_call cmd.now (option_map (λ o. o.now) order.entry) number)
-            (addresses self.new.picked.items) (set_out_by result) }
+            (call_of call.now) (addresses self.new.picked.items) (set_out_by result) }
         ensures placed { IfOk result
             (λ o. AllByRecursion (IsPlaced (nodes L.seen self.new.links.nodes.items)) (dispatches_in o)) }
-        ensures split { IfOk result
-            (λ o. option_map shown_split (split_in o)
-            ≡ option_map (routes_in_order (option_map (λ o. o.now) order.entry))
-            (parts_by_place cmd.now.args (texts self.new.read_only.items))) }
-        ensures whole { IfOk result (λ o. is_whole o ≡ not (has_split_word cmd.now.args)) }
+        ensures split { IfOk result (λ o. option_map shown_split (split_in o)
+            ≡ option_map (routes_in_order (given_order call.now))
+            (parts_by_place call.now.command.now.args (texts self.new.read_only.items))) }
+        ensures whole { IfOk result
+            (λ o. is_whole o ≡ not (has_split_word call.now.command.now.args)) }
     {
-        self.asked = Vec::new(alloc);
-        self.picked = Vec::new(alloc);
-        let targets = targets_of(alloc, cmd, &self.read_only, number)?;
+        begin(alloc, &mut self.asked, &mut self.picked);
+        let targets = targets_of(alloc, call.command, &self.read_only, call.number)?;
         match targets {
             Targets::Split(split) => {
-                let prepared = self.prepare_parts(alloc, cmd, split, order, strategy)?;
+                let prepared = self.prepare_parts(alloc, call, split, strategy)?;
                 Ok(Outset::InParts(prepared))
             }
             Targets::Whole(target) => {
-                let part = whole_part(cmd, target)?;
-                if !fits_order(alloc, order, 1)? {
+                let part = whole_part(call.command, target)?;
+                if !fits_order(alloc, call.order, 1)? {
                     return Err(RedisError::from(Cause::BadOrder));
                 }
-                let dispatch = one_dispatch_in(
-                    &self.links,
-                    alloc,
-                    &mut self.slots,
-                    part,
+                let mut picker = Picker {
                     strategy,
-                    &mut self.picked,
-                )?;
+                    picked: Vec::new(alloc),
+                };
+                let placed = one_dispatch(alloc, &self.links, &mut self.slots, part, &mut picker);
+                self.picked = picker.picked;
+                let dispatch = placed?;
                 Ok(Outset::Whole(dispatch))
             }
         }
@@ -322,46 +330,42 @@ impl<L: ConnectionLike + Drop> ClusterClient<L> {
     fn prepare_parts(
         &mut self,
         alloc: Global,
-        cmd: &Cmd,
+        call: &CommandCall<'_>,
         split: SplitParts,
-        order: Option<&[usize]>,
         strategy: Option<&dyn ReadRoutingStrategy>,
     ) -> Result<Prepared, RedisError>
-        requires response { cmd.now.no_response ≡ false }
-        requires split { Some (shown_split split) ≡ parts_by_place cmd.now.args (texts self.old.read_only.items) }
+        requires response { call.now.command.now.no_response ≡ false }
+        requires split { Some (shown_split split)
+            ≡ parts_by_place call.now.command.now.args (texts self.old.read_only.items) }
         ensures stays { whole L.seen self.new
             ≡ with_log (whole L.seen self.old) [] (addresses self.new.picked.items) }
         ensures planned { result ≢ Err (by_cause Memory) → (number : ℕ)
             → IsPlanned (strategy_of admits strategy.entry) (client_of (whole L.seen self.old))
-            (command_call cmd.now (option_map (λ o. o.now) order.entry) number)
-            (addresses self.new.picked.items) (prepared_by result) }
+            (call_by call.now number) (addresses self.new.picked.items) (prepared_by result) }
         ensures placed { IfOk result
             (λ p. AllByRecursion (IsPlaced (nodes L.seen self.new.links.nodes.items)) p.dispatches.items) }
-        ensures split { IfOk result
-            (λ p. option_map shown_split p.split
-            ≡ option_map (routes_in_order (option_map (λ o. o.now) order.entry))
-            (parts_by_place cmd.now.args (texts self.new.read_only.items))) }
+        ensures split { IfOk result (λ p. option_map shown_split p.split
+            ≡ option_map (routes_in_order (given_order call.now))
+            (parts_by_place call.now.command.now.args (texts self.new.read_only.items))) }
     {
-        self.asked = Vec::new(alloc);
-        self.picked = Vec::new(alloc);
+        begin(alloc, &mut self.asked, &mut self.picked);
         let mut list = Vec::with_capacity(alloc, split.routes.len())?;
-        push_split(alloc, &mut list, cmd, &split)?;
-        if !fits_order(alloc, order, list.len())? {
+        push_split(alloc, &mut list, call.command, &split)?;
+        if !fits_order(alloc, call.order, list.len())? {
             return Err(RedisError::from(Cause::BadOrder));
         }
-        let dispatches = dispatches_over(
-            &self.links,
-            alloc,
-            self.slots.map(),
-            list,
+        let mut picker = Picker {
             strategy,
-            &mut self.picked,
-        )?;
+            picked: Vec::new(alloc),
+        };
+        let placed = dispatches(alloc, &self.links, &mut self.slots, list, &mut picker);
+        self.picked = picker.picked;
+        let dispatches = placed?;
         let prepared = Prepared {
             dispatches,
             split: Some(split),
         };
-        Ok(prepared_in_order(alloc, prepared, order)?)
+        Ok(prepared_in_order(alloc, prepared, call.order)?)
     }
 
     /// The reply to a command that goes out whole, behind its redirects.
@@ -396,20 +400,20 @@ impl<L: ConnectionLike + Drop> ClusterClient<L> {
     /// many parts, this one among them, and when it is answered for the others.
     fn follow(&mut self, alloc: Global, first: Ready, parts: usize) -> Result<Value, RedisError>
         requires place { IsOpenAt (nodes L.seen self.old.links.nodes.items)
-            (address first.dispatch.hop.node) first.dispatch.hop.link }
-        requires within { first.dispatch.hop.link < vec_len self.old.links.nodes }
+            (address first.dispatch.to.node) first.dispatch.to.link }
+        requires within { first.dispatch.to.link < vec_len self.old.links.nodes }
         requires some { 0 < parts }
         requires room { vec_len self.old.asked + parts ≤ vec_capacity self.old.asked }
-        ensures made { ChainMade (whole L.seen self.old) (whole L.seen self.new) (hop_to first.dispatch.hop)
+        ensures made { ChainMade (whole L.seen self.old) (whole L.seen self.new) (hop_to first.dispatch.to)
             (texts first.dispatch.args.items) (tree_result view result) }
         ensures room { OnOk result (vec_len self.new.asked + parts ≤ vec_capacity self.new.asked + 1) }
     {
         let mut request = first;
         let mut redirects = self.budget;
         'requests: loop {
-            let reply = exchange_one_over(&mut self.links, alloc, &mut self.asked, request)?;
+            let reply = exchange_one(alloc, &mut self.links, &mut self.asked, request)?;
             self.needs_refresh = needs_refresh(self.needs_refresh, &reply);
-            match turn_over(alloc, &self.links, redirects, reply)? {
+            match turn_by(alloc, &self.links, redirects, reply)? {
                 Turn::Answered(value) => return Ok(value),
                 Turn::On(next) => {
                     redirects -= 1;

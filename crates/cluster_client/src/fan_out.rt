@@ -28,17 +28,18 @@ ghost use Rattle.cluster_client.specs.NodeRuns.{NodesAsked, all_outcomes, listed
 ghost use Rattle.cluster_client.specs.Whole.{whole};
 ghost use Rattle.cluster_calls.specs.Links.World.{nodes, open_links, tree_result};
 
-use crate::client::ClusterClient;
+use crate::client::{ClusterClient, begin};
 use cluster_routing::{Direction, NodeAddress, ResponsePolicy, SlotMap, combine_nodes};
 use cluster_steps::dispatch::Dispatch;
-use cluster_steps::exchange::exchange_one_over;
+use cluster_steps::exchange::exchange_one;
 use cluster_steps::hop::Hop;
 use cluster_steps::known_links::KnownLinks;
 use cluster_steps::node_links::NodeLinks;
 use cluster_steps::ready::{Ready, make_all_ready};
 use cluster_steps::reply::needs_refresh;
+use cluster_steps::request::Request;
 use resp_args::Cmd;
-use resp_core::{Cause, ErrorKind, RedisError, Value};
+use resp_core::{Cause, RedisError, Value};
 use resp_link::ConnectionLike;
 use std::alloc::{AllocError, Global};
 
@@ -78,8 +79,7 @@ pub(crate) fn dispatch_to<L: ConnectionLike>(
     node: &NodeAddress,
     cmd: &Cmd,
 ) -> Result<Dispatch, RedisError>
-    ensures node { result ≢ Err (by_cause Memory)
-        → node_by (λ d. address d.hop.node) result
+    ensures node { result ≢ Err (by_cause Memory) → node_by (λ d. address d.to.node) result
         ≡ node_with_link (open_links (nodes L.seen links.now.nodes.items))
         (first_of [] [] (at_node (address node.now))) }
     ensures args { IfOk result (λ d. texts d.args.items ≡ sent cmd.now) }
@@ -88,13 +88,13 @@ pub(crate) fn dispatch_to<L: ConnectionLike>(
     let Some(link) = links.open_place(node) else {
         return Err(RedisError::from(Cause::NoLink));
     };
-    let hop = Hop {
+    let to = Hop {
         node: node.clone()?,
         link,
         asking: false,
     };
-    Ok(Dispatch {
-        hop,
+    Ok(Request {
+        to,
         args: cmd.wire_args()?,
     })
 }
@@ -104,8 +104,8 @@ pub(crate) fn dispatch_to<L: ConnectionLike>(
 /// # Errors
 /// `NoLink` where no usable link leads to one of them; `Memory`.
 fn dispatches_to<L: ConnectionLike>(
-    links: &KnownLinks<L>,
     alloc: Global,
+    links: &KnownLinks<L>,
     addresses: Vec<&NodeAddress>,
     cmd: &Cmd,
 ) -> Result<Vec<Dispatch>, RedisError>
@@ -140,8 +140,8 @@ struct NodeDispatches {
 /// nodes; `NoNode` where the slot map has no node; `NoLink` where no usable link leads to one of
 /// them; `Memory`.
 fn node_dispatches<L: ConnectionLike>(
-    links: &KnownLinks<L>,
     alloc: Global,
+    links: &KnownLinks<L>,
     slots: &SlotMap,
     read_only: &[Vec<u8>],
     cmd: &Cmd,
@@ -164,7 +164,7 @@ fn node_dispatches<L: ConnectionLike>(
     if addresses.is_empty() {
         return Err(RedisError::from(Cause::NoNode));
     }
-    let list = dispatches_to(links, alloc, addresses, cmd)?;
+    let list = dispatches_to(alloc, links, addresses, cmd)?;
     Ok(NodeDispatches {
         list,
         policy: policy_in(&direction),
@@ -176,7 +176,7 @@ fn node_dispatches<L: ConnectionLike>(
 struct Question {
     node: NodeAddress,
     request: Ready,
-    ghost same: { address node ≡ address request.dispatch.hop.node },
+    ghost same: { address node ≡ address request.dispatch.to.node },
 }
 
 /// The requests with the addresses of their nodes.
@@ -187,7 +187,7 @@ fn questions(alloc: Global, requests: Vec<Ready>) -> Result<Vec<Question>, Alloc
 {
     let mut all = Vec::new(alloc);
     'requests: for request in requests {
-        let node = request.dispatch.hop.node.clone()?;
+        let node = request.dispatch.to.node.clone()?;
         all.push(Question { node, request })?;
     }
     Ok(all)
@@ -214,10 +214,7 @@ fn unless_memory(
 {
     match outcome {
         Ok(value) => Ok(Ok(value)),
-        Err(e) => match e.kind() {
-            ErrorKind::Memory => Err(RedisError::from(Cause::Memory)),
-            _ => Ok(Err(e)),
-        },
+        Err(e) => { if e.is_memory() { Err(e) } else { Ok(Err(e)) } }
     }
 }
 
@@ -296,11 +293,10 @@ impl<L: ConnectionLike + Drop> ClusterClient<L> {
             → CallMade strategy (whole L.seen self.old) (whole L.seen self.new) (FanOut cmd.now)
             (value_answer (tree_result view result)) }
     {
-        self.asked = Vec::new(alloc);
-        self.picked = Vec::new(alloc);
+        begin(alloc, &mut self.asked, &mut self.picked);
         let NodeDispatches { list, policy } = node_dispatches(
-            &self.links,
             alloc,
+            &self.links,
             self.slots.map(),
             &self.read_only,
             cmd,
@@ -318,7 +314,7 @@ impl<L: ConnectionLike + Drop> ClusterClient<L> {
     ) -> Result<Vec<(NodeAddress, Result<Value, RedisError>)>, RedisError>
         requires placed { AllByRecursion
             (IsPlaced (nodes L.seen self.old.links.nodes.items)) dispatches.items }
-        requires apart { IsDistinct same_address (map (λ d. address d.hop.node) dispatches.items) }
+        requires apart { IsDistinct same_address (map (λ d. address d.to.node) dispatches.items) }
         ensures { NodesAsked (whole L.seen self.old) (whole L.seen self.new)
             (map dispatch_of dispatches.items) (all_outcomes result) }
     {
@@ -346,7 +342,7 @@ impl<L: ConnectionLike + Drop> ClusterClient<L> {
         ensures log_capacity { vec_capacity self.old.asked ≤ vec_capacity self.new.asked }
     {
         let Question { node, request } = question;
-        let reply = exchange_one_over(&mut self.links, alloc, &mut self.asked, request);
+        let reply = exchange_one(alloc, &mut self.links, &mut self.asked, request);
         self.needs_refresh = needs_refresh_by(self.needs_refresh, &reply);
         let reply = unless_memory(reply)?;
         Ok((node, reply))

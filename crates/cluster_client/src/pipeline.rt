@@ -107,8 +107,7 @@ impl ClusterPipeline {
     ///
     /// It is refused only for want of memory, and then changes nothing.
     pub fn cmd(&mut self, alloc: Global, name: &str) -> Result<(), AllocError>
-        ensures { self.new ≡
-            (if is_ok result then self.old
+        ensures { self.new ≡ (if is_ok result then self.old
             ++ record { command = record new_command { args = Simple name.now ∷ [] }; ignored = false } ∷ []
             else self.old) }
     {

@@ -1,17 +1,16 @@
 //! Runs of calls, one after another, each with what it answered and the requests that it made.
-mod streams;
-
-ghost use Rattle.std.specs.Prelude.{Option, is_ok, map};
+ghost use Rattle.std.specs.Prelude.{◌≡◌, Option, is_ok, map};
 ghost use Rattle.cluster_routing.specs.Choice.{Strategy, strategy_of};
 ghost use Rattle.cluster_routing.specs.Seen.{address};
-ghost use Rattle.cluster_calls.specs.Calls.Call.{At, Each, FanOut, Ordered, Pipeline, Query, Refresh, Transaction};
+ghost use Rattle.cluster_calls.specs.Calls.Call.{At, Each, FanOut, Pipeline, Query, Refresh, Transaction};
 ghost use Rattle.cluster_calls.specs.Links.Happened.{CallMade};
 ghost use Rattle.cluster_calls.specs.Links.Play.{Plays, PlaysOne};
 ghost use Rattle.cluster_client.specs.Shown.{answer_result, call_in, shown};
 ghost use Rattle.cluster_client.specs.Whole.{whole};
 
-use crate::client::ClusterClient;
+use crate::client::{ClusterClient, CommandCall};
 use crate::pipeline::ClusterPipeline;
+use crate::streams::Claimant;
 use cluster_routing::{NodeAddress, ReadRoutingStrategy};
 use cluster_steps::asked::Asked;
 use resp_args::Cmd;
@@ -79,13 +78,13 @@ pub enum Call {
     },
     /// `ClusterClient::xclaim`.
     Xclaim {
-        claimant: Claimant,
+        claimant: Claimant<Vec<u8>, Vec<u8>, Vec<u8>>,
         ids: Vec<Vec<u8>>,
         options: StreamClaimOptions,
     },
     /// `ClusterClient::xautoclaim`.
     Xautoclaim {
-        claimant: Claimant,
+        claimant: Claimant<Vec<u8>, Vec<u8>, Vec<u8>>,
         start: Vec<u8>,
         options: StreamAutoClaimOptions,
     },
@@ -113,15 +112,6 @@ pub enum Call {
         ids: Vec<Vec<u8>>,
         policy: StreamDeletionPolicy,
     },
-}
-
-/// Who claims entries: a consumer of a group, those that were idle for so many milliseconds.
-#[derive(Drop)]
-pub struct Claimant {
-    pub key: Vec<u8>,
-    pub group: Vec<u8>,
-    pub consumer: Vec<u8>,
-    pub min_idle: usize,
 }
 
 /// What a call answers: each as the call of the same name does.
@@ -187,9 +177,14 @@ impl<L: PipelinedLink + Drop> ClusterClient<L> {
         match call {
             Call::Refresh(node) => self.answer_to_refresh(alloc, node),
             Call::Query { cmd, number } => self.answer_to_query(alloc, cmd, *number, strategy),
-            Call::Ordered { cmd, order, number } => self.answer_to_ordered(
-                alloc, cmd, order, *number, strategy,
-            ),
+            Call::Ordered { cmd, order, number } => {
+                let call = CommandCall {
+                    command: cmd,
+                    order: Some(order),
+                    number: *number,
+                };
+                Ok(Answer::Value(self.reply_to(alloc, &call, strategy)?))
+            }
             Call::Pipeline(pipeline) => self.answer_to_pipeline(alloc, pipeline),
             Call::Each(pipeline) => self.answer_to_each(alloc, pipeline),
             Call::FanOut(cmd) => self.answer_to_fan_out(alloc, cmd),
@@ -200,33 +195,41 @@ impl<L: PipelinedLink + Drop> ClusterClient<L> {
                 options,
                 id,
                 fields,
-            } => self.answer_to_xadd(alloc, key, options, id, fields, strategy),
-            Call::Xtrim { key, options } => self.answer_to_xtrim(alloc, key, options, strategy),
-            Call::Xread { streams, options } => self.answer_to_xread(
-                alloc, streams, options, strategy,
-            ),
-            Call::Xrange { key, start, end } => self.answer_to_xrange(
-                alloc, key, start, end, strategy,
-            ),
+            } => Ok(Answer::Added(self.xadd(alloc, key, options, id, fields, strategy)?)),
+            Call::Xtrim { key, options } => {
+                Ok(Answer::Trimmed(self.xtrim(alloc, key, options, strategy)?))
+            }
+            Call::Xread { streams, options } => {
+                Ok(Answer::Read(self.xread(alloc, streams, options, strategy)?))
+            }
+            Call::Xrange { key, start, end } => {
+                Ok(Answer::Range(self.xrange(alloc, key, start, end, strategy)?))
+            }
             Call::Xclaim {
                 claimant,
                 ids,
                 options,
-            } => self.answer_to_xclaim(alloc, claimant, ids, options, strategy),
+            } => Ok(Answer::Claim(self.xclaim(alloc, claimant, ids, options, strategy)?)),
             Call::Xautoclaim {
                 claimant,
                 start,
                 options,
-            } => self.answer_to_xautoclaim(alloc, claimant, start, options, strategy),
-            Call::Xpending { key, group } => self.answer_to_xpending(alloc, key, group, strategy),
-            Call::XinfoStream { key } => self.answer_to_xinfo_stream(alloc, key, strategy),
-            Call::XinfoGroups { key } => self.answer_to_xinfo_groups(alloc, key, strategy),
-            Call::XinfoConsumers { key, group } => self.answer_to_xinfo_consumers(
-                alloc, key, group, strategy,
-            ),
-            Call::XdelEx { key, ids, policy } => self.answer_to_xdel_ex(
-                alloc, key, ids, policy, strategy,
-            ),
+            } => Ok(Answer::AutoClaim(self.xautoclaim(alloc, claimant, start, options, strategy)?)),
+            Call::Xpending { key, group } => {
+                Ok(Answer::Pending(self.xpending(alloc, key, group, strategy)?))
+            }
+            Call::XinfoStream { key } => Ok(Answer::Stream(self.xinfo_stream(
+                alloc, key, strategy,
+            )?)),
+            Call::XinfoGroups { key } => Ok(Answer::Groups(self.xinfo_groups(
+                alloc, key, strategy,
+            )?)),
+            Call::XinfoConsumers { key, group } => {
+                Ok(Answer::Consumers(self.xinfo_consumers(alloc, key, group, strategy)?))
+            }
+            Call::XdelEx { key, ids, policy } => {
+                Ok(Answer::Deleted(self.xdel_ex(alloc, key, ids, same(policy), strategy)?))
+            }
         }
     }
 
@@ -249,22 +252,12 @@ impl<L: PipelinedLink + Drop> ClusterClient<L> {
         ensures { CallMade (strategy_of admits strategy.entry) (whole L.seen self.old)
             (whole L.seen self.new) (Query cmd.now number) (answer_result result) }
     {
-        let reply = self.reply_to(alloc, cmd, number, strategy)?;
-        Ok(Answer::Value(reply))
-    }
-
-    fn answer_to_ordered(
-        &mut self,
-        alloc: Global,
-        cmd: &Cmd,
-        order: &[usize],
-        number: u64,
-        strategy: Option<&dyn ReadRoutingStrategy>,
-    ) -> Result<Answer, RedisError>
-        ensures { CallMade (strategy_of admits strategy.entry) (whole L.seen self.old)
-            (whole L.seen self.new) (Ordered cmd.now order.now number) (answer_result result) }
-    {
-        let reply = self.reply_in_order(alloc, cmd, Some(order), number, strategy)?;
+        let call = CommandCall {
+            command: cmd,
+            order: None,
+            number,
+        };
+        let reply = self.reply_to(alloc, &call, strategy)?;
         Ok(Answer::Value(reply))
     }
 
@@ -331,6 +324,17 @@ impl<L: PipelinedLink + Drop> ClusterClient<L> {
     }
 }
 
+/// The policy once more; it takes no memory.
+fn same(policy: &StreamDeletionPolicy) -> StreamDeletionPolicy
+    ensures { result ≡ policy.now }
+{
+    match policy {
+        StreamDeletionPolicy::KeepRef => StreamDeletionPolicy::KeepRef,
+        StreamDeletionPolicy::DelRef => StreamDeletionPolicy::DelRef,
+        StreamDeletionPolicy::Acked => StreamDeletionPolicy::Acked,
+    }
+}
+
 /// Makes the calls one after another, and puts behind `played` what each answered and asked for.
 ///
 /// A refused call does not end the run: its refusal is its answer, want of memory too. What the
@@ -341,8 +345,8 @@ impl<L: PipelinedLink + Drop> ClusterClient<L> {
 /// `AllocError` where memory is refused for what a call is to show; this is found before the call,
 /// which is not made then, and `played` holds those that were.
 pub fn play<L: PipelinedLink + Drop>(
-    client: &mut ClusterClient<L>,
     alloc: Global,
+    client: &mut ClusterClient<L>,
     calls: &[Call],
     strategy: Option<&dyn ReadRoutingStrategy>,
     played: &mut Vec<Played>,

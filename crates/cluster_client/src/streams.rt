@@ -10,19 +10,18 @@
 //!
 //! Source: the documentation of the crate `redis`, stream commands; the Redis documentation of each
 //! command.
-ghost use Rattle.std.specs.Prelude.{◌≡◌, [], None, IfOk, map, option_map, string_bytes, pos};
+ghost use Rattle.std.specs.Prelude.{◌≡◌, [], map, option_map, string_bytes, pos};
 ghost use Rattle.cluster_routing.specs.Choice.{strategy_of};
 ghost use Rattle.stream_commands.specs.InfoViews.{consumer_view, group_view, pending_view, stream_info_view};
 ghost use Rattle.stream_commands.specs.RecordViews.{autoclaim_view, entries_view, rows_view};
 ghost use Rattle.cluster_calls.specs.Calls.Answer.{Answer, Added, Trimmed, Read, Range, Claim, AutoClaim, Pending, Stream, Groups, Consumers, Deleted};
 ghost use Rattle.cluster_calls.specs.Calls.Call.{StreamCall, Xadd, Xtrim, Xread, Xrange, Xclaim, Xautoclaim, Xpending, XinfoStream, XinfoGroups, XinfoConsumers, XdelEx};
-ghost use Rattle.stream_commands.specs.Commands.{plain_command};
-ghost use Rattle.cluster_calls.specs.Calls.Task.{sentence, sentence_task, stream_refusal, stream_task};
 ghost use Rattle.cluster_calls.specs.Links.Run.{with_log};
 ghost use Rattle.cluster_calls.specs.Links.Typed.{IsReadBy, StreamCallMade, deletion_of, streams_by};
+ghost use Rattle.cluster_client.specs.Streams.{GoesOutAs, claimant_by, fields_by};
 ghost use Rattle.cluster_client.specs.Whole.{whole};
 
-use crate::client::ClusterClient;
+use crate::client::{ClusterClient, CommandCall, begin};
 use cluster_routing::ReadRoutingStrategy;
 use cluster_steps::read_checks::{Reading, reading_of};
 use resp_args::{Cmd, FromRedisValue, ToSingleRedisArg, from_redis_value};
@@ -35,6 +34,16 @@ use stream_commands::{
     StreamInfoStreamReply, StreamPendingReply, StreamRangeReply, StreamReadOptions,
     StreamReadReply, StreamTrimOptions, XDelExStatusCode, commands,
 };
+
+/// Who claims pending entries: a consumer of a group, of the stream `key`, those that were idle for
+/// `min_idle` milliseconds.
+#[derive(Drop)]
+pub struct Claimant<K, G, C> {
+    pub key: K,
+    pub group: G,
+    pub consumer: C,
+    pub min_idle: usize,
+}
 
 impl<L: ConnectionLike + Drop> ClusterClient<L> {
     /// Adds an entry of these fields, by `XADD`, and answers its id, or `None` where no stream is there
@@ -54,9 +63,8 @@ impl<L: ConnectionLike + Drop> ClusterClient<L> {
         strategy: Option<&dyn ReadRoutingStrategy>,
     ) -> Result<Option<String>, RedisError>
         ensures { StreamCallMade (strategy_of admits strategy.entry) (whole L.seen self.old)
-            (whole L.seen self.new)
-            (Xadd (K.arg key) options.now (I.arg id) (map (λ f. (F.arg f.0, V.arg f.1)) fields.now))
-            (λ id. Added (option_map string_bytes id)) result }
+            (whole L.seen self.new) (Xadd (K.arg key) options.now (I.arg id)
+            (fields_by F.arg V.arg fields.now)) (λ id. Added (option_map string_bytes id)) result }
     {
         let cmd = commands::xadd(alloc, &key, options, &id, fields);
         self.reply_as(alloc, cmd, strategy)
@@ -138,63 +146,70 @@ impl<L: ConnectionLike + Drop> ClusterClient<L> {
         self.reply_as(alloc, cmd, strategy)
     }
 
-    /// Takes over pending entries that were idle for `min_idle` milliseconds, by `XCLAIM`.
+    /// Takes over pending entries for this consumer, by `XCLAIM`.
     ///
     /// # Errors
     /// Before all others `ClaimsIdsAlone` where the options ask for the ids alone, of which the reply is
     /// no list of entries.
     pub fn xclaim<
-        K: ToSingleRedisArg + Drop,
-        G: ToSingleRedisArg + Drop,
-        C: ToSingleRedisArg + Drop,
+        K: ToSingleRedisArg,
+        G: ToSingleRedisArg,
+        C: ToSingleRedisArg,
         I: ToSingleRedisArg,
     >(
         &mut self,
         alloc: Global,
-        key: K,
-        group: G,
-        consumer: C,
-        min_idle: usize,
+        claimant: &Claimant<K, G, C>,
         ids: &[I],
         options: &StreamClaimOptions,
         strategy: Option<&dyn ReadRoutingStrategy>,
     ) -> Result<StreamClaimReply, RedisError>
         ensures { StreamCallMade (strategy_of admits strategy.entry) (whole L.seen self.old)
-            (whole L.seen self.new) (Xclaim (record
-            { key = K.arg key; group = G.arg group; consumer = C.arg consumer; min_idle = min_idle })
+            (whole L.seen self.new) (Xclaim (claimant_by K.arg G.arg C.arg claimant.now)
             (map I.arg ids.now) options.now) (λ reply. Claim (entries_view reply.ids.items)) result }
     {
         if options.justid() {
             return Err(self.refuse(alloc, RedisError::from(Cause::ClaimsIdsAlone)));
         }
-        let cmd = commands::xclaim(alloc, &key, &group, &consumer, min_idle, ids, options);
+        let cmd = commands::xclaim(
+            alloc,
+            &claimant.key,
+            &claimant.group,
+            &claimant.consumer,
+            claimant.min_idle,
+            ids,
+            options,
+        );
         self.reply_as(alloc, cmd, strategy)
     }
 
-    /// Takes over pending entries from an id on that were idle for `min_idle` milliseconds, by
-    /// `XAUTOCLAIM`.
+    /// Takes over pending entries from an id on for this consumer, by `XAUTOCLAIM`.
     pub fn xautoclaim<
-        K: ToSingleRedisArg + Drop,
-        G: ToSingleRedisArg + Drop,
-        C: ToSingleRedisArg + Drop,
+        K: ToSingleRedisArg,
+        G: ToSingleRedisArg,
+        C: ToSingleRedisArg,
         S: ToSingleRedisArg + Drop,
     >(
         &mut self,
         alloc: Global,
-        key: K,
-        group: G,
-        consumer: C,
-        min_idle: usize,
+        claimant: &Claimant<K, G, C>,
         start: S,
         options: &StreamAutoClaimOptions,
         strategy: Option<&dyn ReadRoutingStrategy>,
     ) -> Result<StreamAutoClaimReply, RedisError>
         ensures { StreamCallMade (strategy_of admits strategy.entry) (whole L.seen self.old)
-            (whole L.seen self.new) (Xautoclaim
-            (record { key = K.arg key; group = G.arg group; consumer = C.arg consumer; min_idle = min_idle })
+            (whole L.seen self.new) (Xautoclaim (claimant_by K.arg G.arg C.arg claimant.now)
             (S.arg start) options.now) (λ reply. AutoClaim (autoclaim_view reply)) result }
     {
-        let cmd = commands::xautoclaim(alloc, &key, &group, &consumer, min_idle, &start, options);
+        let cmd = commands::xautoclaim(
+            alloc,
+            &claimant.key,
+            &claimant.group,
+            &claimant.consumer,
+            claimant.min_idle,
+            &start,
+            options,
+        );
         self.reply_as(alloc, cmd, strategy)
     }
 
@@ -284,15 +299,18 @@ impl<L: ConnectionLike + Drop> ClusterClient<L> {
         cmd: Result<Cmd, AllocError>,
         strategy: Option<&dyn ReadRoutingStrategy>,
     ) -> Result<T, RedisError>
-        ensures { (call : StreamCall) (shown : T.Meaning → Answer) → stream_refusal call ≡ None
-            → stream_task call ≡ sentence_task call
-            → IfOk cmd (λ c. c ≡ plain_command (sentence call)) → IsReadBy call T.convert shown
-            → StreamCallMade (strategy_of admits strategy.entry) (whole L.seen self.old)
-            (whole L.seen self.new) call (λ value. shown (T.meaning value)) result }
+        ensures { (call : StreamCall) (shown : T.Meaning → Answer) → GoesOutAs call cmd
+            → IsReadBy call T.convert shown → StreamCallMade (strategy_of admits strategy.entry)
+            (whole L.seen self.old) (whole L.seen self.new) call (λ v. shown (T.meaning v)) result }
     {
         match cmd {
             Ok(cmd) => {
-                let reply = self.reply_to(alloc, &cmd, 0, strategy)?;
+                let call = CommandCall {
+                    command: &cmd,
+                    order: None,
+                    number: 0,
+                };
+                let reply = self.reply_to(alloc, &call, strategy)?;
                 Ok(from_redis_value(alloc, reply)?)
             }
             Err(e) => Err(self.refuse(alloc, RedisError::from(e))),
@@ -304,8 +322,7 @@ impl<L: ConnectionLike + Drop> ClusterClient<L> {
         ensures same { result ≡ refusal }
         ensures stays { whole L.seen self.new ≡ with_log (whole L.seen self.old) [] [] }
     {
-        self.asked = Vec::new(alloc);
-        self.picked = Vec::new(alloc);
+        begin(alloc, &mut self.asked, &mut self.picked);
         refusal
     }
 }

@@ -19,13 +19,14 @@ ghost use Rattle.cluster_steps.specs.Attempts.{AttemptExchanged, IsFirstAttempt,
 ghost use Rattle.cluster_steps.specs.Turns.{hop_to};
 ghost use Rattle.cluster_client.specs.Whole.{whole};
 
-use crate::client::ClusterClient;
+use crate::client::{ClusterClient, begin};
 use crate::pipeline::reply::refresh_needed;
 use crate::transaction::slot::common_slot;
 use cluster_routing::{Route, SlotAddr};
-use cluster_steps::attempt::{Attempt, exchange_attempt_over, make_attempt_ready};
-use cluster_steps::attempt_turn::attempt_turn_over;
-use cluster_steps::hop::first_hop_over;
+use cluster_steps::attempt::{Attempt, exchange_attempt, make_attempt_ready};
+use cluster_steps::attempt_turn::attempt_turn;
+use cluster_steps::hop::first_hop;
+use cluster_steps::picker::Picker;
 use cluster_steps::route::Target;
 use cluster_steps::turn::Turn;
 use resp_args::{Cmd, FromRedisValue, from_redis_value};
@@ -57,21 +58,16 @@ impl<L: ConnectionLike + Drop> ClusterClient<L> {
         ensures room { IfOk result
             (λ o. IfSome o (λ a. vec_len self.new.asked + vec_len a.requests ≤ vec_capacity self.new.asked)) }
     {
-        self.asked = Vec::new(alloc);
-        self.picked = Vec::new(alloc);
+        begin(alloc, &mut self.asked, &mut self.picked);
         let Some(slot) = common_slot(alloc, commands)? else {
             return Ok(None);
         };
         let target = Target::Slot(Route::new(slot, SlotAddr::Master));
-        let mut picked = Vec::new(alloc);
-        let hop = first_hop_over(
-            &self.links,
-            alloc,
-            self.slots.map(),
-            &target,
-            None,
-            &mut picked,
-        )?;
+        let mut picker = Picker {
+            strategy: None,
+            picked: Vec::new(alloc),
+        };
+        let hop = first_hop(alloc, &self.links, &mut self.slots, &target, &mut picker)?;
         let attempt = make_attempt_ready(alloc, &mut self.asked, hop, commands)?;
         Ok(Some(attempt))
     }
@@ -89,7 +85,7 @@ impl<L: ConnectionLike + Drop> ClusterClient<L> {
             attempt.hop.link attempt.requests.items (skipped attempt.hop.asking)
             (tree_results view result) }
     {
-        let replies = exchange_attempt_over(&mut self.links, alloc, &mut self.asked, attempt)?;
+        let replies = exchange_attempt(alloc, &mut self.links, &mut self.asked, attempt)?;
         self.needs_refresh = refresh_needed(self.needs_refresh, &replies);
         Ok(replies)
     }
@@ -110,7 +106,7 @@ impl<L: ConnectionLike + Drop> ClusterClient<L> {
         let mut redirects = self.budget;
         'attempts: loop {
             let replies = self.exchange_attempt(alloc, attempt)?;
-            match attempt_turn_over(alloc, &self.links, redirects, replies)? {
+            match attempt_turn(alloc, &self.links, redirects, replies)? {
                 Turn::Answered(value) => return Ok(value),
                 Turn::On(hop) => {
                     redirects -= 1;

@@ -2,8 +2,4 @@
 #![tactic(auto)]
 
 #[cfg(test)]
-mod failing;
-#[cfg(test)]
-mod memory;
-#[cfg(test)]
-mod rows;
+mod tests;

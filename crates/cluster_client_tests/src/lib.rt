@@ -2,20 +2,4 @@
 #![tactic(auto)]
 
 #[cfg(test)]
-mod answers;
-#[cfg(test)]
-mod at_once;
-#[cfg(test)]
-mod each_position;
-#[cfg(test)]
-mod limits;
-#[cfg(test)]
-mod links;
-#[cfg(test)]
-mod pipelines;
-#[cfg(test)]
-mod reads;
-#[cfg(test)]
-mod streams;
-#[cfg(test)]
-mod transactions;
+mod tests;

@@ -2,44 +2,24 @@
 use Rattle.std.specs.Prelude.{int_le, option_and_then}
 use Rattle.std.proofs.Common.{◌≡◌, ℤ, ◌+ℤ◌, Bool, true, false, cond, List, [], ◌∷◌, ◌++◌, Option, Some, None, option_map, refl, sym, ap, ◌∙◌, arith}
 use Rattle.std.proofs.lemmas.Int.{ints}
-use Rattle.resp_core.specs.Trees.{Tree, nil, int, bulk, array, simple, okay, attribute, set, double, boolean, verbatim, big_number, push, server_error}
-use Rattle.resp_core.specs.Trees.{map as map_tree}
+use Rattle.resp_core.specs.Trees.{Tree, int}
 use Rattle.cluster_routing.specs.Combine.{as_int, plus, sum_of, sum_tree}
 use Rattle.cluster_routing.specs.CombineLaws.{AggregatesInAnyOrder}
 use Rattle.cluster_routing.specs.Policies.{aggregate_tree, int_in, least, least_of, min_tree}
 use Rattle.cluster_routing.specs.declared.policy.AggregateOp.{AggregateOp}
 use Rattle.cluster_routing.specs.declared.policy.AggregateOp.TheVariants.{Min, Sum}
 use Rattle.cluster_routing.proofs.AnyOrder.{OfNeighbours, in_any_order, read_swap, traverse_swap}
+use Rattle.cluster_routing.proofs.Totals.{plus_in}
 
 -- ---- sums
 
 plus_again : (n m s : ℤ) → (n +ℤ (m +ℤ s)) ≡ (m +ℤ (n +ℤ s))
 plus_again n m s = omega (arith, ints)
 
-plus_by : Option ℤ → Option ℤ → Option ℤ
-plus_by None sum = None
-plus_by (Some n) sum = option_map (λ m. n +ℤ m) sum
-
-plus_is : (t : Tree) (sum : Option ℤ) → plus t sum ≡ plus_by (int_in t) sum
-unfolding plus_by
-plus_is nil sum = refl
-plus_is (int n) sum = refl
-plus_is (bulk b) sum = refl
-plus_is (array ts) sum = refl
-plus_is (simple s) sum = refl
-plus_is okay sum = refl
-plus_is (map_tree ps) sum = refl
-plus_is (attribute t ps) sum = refl
-plus_is (set ts) sum = refl
-plus_is (double s) sum = refl
-plus_is (boolean b) sum = refl
-plus_is (verbatim f s) sum = refl
-plus_is (big_number b) sum = refl
-plus_is (push k ts) sum = refl
-plus_is (server_error err) sum = refl
+abbrev plus_by : Option ℤ → Option ℤ → Option ℤ
+plus_by o sum = option_and_then (λ n. option_map (λ m. n +ℤ m) sum) o
 
 both_plus : (n m sum : Option ℤ) → plus_by n (plus_by m sum) ≡ plus_by m (plus_by n sum)
-unfolding plus_by
 both_plus None None sum = refl
 both_plus None (Some m) sum = refl
 both_plus (Some n) None sum = refl
@@ -47,7 +27,7 @@ both_plus (Some n) (Some m) None = refl
 both_plus (Some n) (Some m) (Some s) = ap Some (plus_again n m s)
 
 plus_swap : (t u : Tree) (sum : Option ℤ) → plus t (plus u sum) ≡ plus u (plus t sum)
-plus_swap t u sum = plus_is t (plus u sum) ∙ ap (plus_by (int_in t)) (plus_is u sum) ∙ both_plus (int_in t) (int_in u) sum ∙ sym (ap (plus_by (int_in u)) (plus_is t sum)) ∙ sym (plus_is u (plus t sum))
+plus_swap t u sum = plus_in t (plus u sum) ∙ ap (plus_by (int_in t)) (plus_in u sum) ∙ both_plus (int_in t) (int_in u) sum ∙ sym (ap (plus_by (int_in u)) (plus_in t sum)) ∙ sym (plus_in u (plus t sum))
 
 sum_swap : (before behind : List Tree) (t u : Tree) → sum_of (before ++ t ∷ u ∷ behind) ≡ sum_of (before ++ u ∷ t ∷ behind)
 sum_swap [] behind t u = plus_swap t u (sum_of behind)

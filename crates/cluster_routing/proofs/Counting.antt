@@ -16,14 +16,13 @@ use Rattle.std.proofs.lemmas.Int.{ints}
 use Rattle.std.proofs.lemmas.Map.{lookup-none}
 use Rattle.std.proofs.lemmas.Map.Entries.{none_below_head}
 use Rattle.std.proofs.Common.{rules}
-use Rattle.resp_core.specs.Trees.{Tree, pair, map as map_tree}
-use Rattle.resp_core.specs.View as seen
-use Rattle.resp_core.specs.View.{pair_view, view}
+use Rattle.resp_core.specs.Trees.{Tree, map as map_tree}
+use Rattle.resp_core.specs.View.{pair_view, pairs_of, view}
 use Rattle.resp_core.specs.declared.value.Value.{Value, Map, the_lemmas}
 use Rattle.resp_args.specs.Convert.{traverse}
 use Rattle.cluster_routing.specs.Counted.{shown_count, shown_counts, AreWithin}
 use Rattle.cluster_routing.specs.Lists.{concat}
-use Rattle.cluster_routing.specs.Policies.{Counts, add_count, count_pair, counts_in, counts_tree, map_of_counts, pairs_of}
+use Rattle.cluster_routing.specs.Policies.{Counts, add_count, count_pair, counts_in, counts_tree, map_of_counts}
 
 abbrev pub Key : Type 0
 Key = Vec ℕ Global
@@ -125,15 +124,8 @@ unjoined olds news vs rest v fits d e f =
 
 -- ---- as a map
 
-pub pairs_alike : (ps : List (Tree × Tree)) → seen.pairs_of ps ≡ pairs_of ps
-pairs_alike [] = refl
-pairs_alike (p ∷ ps) = ap (λ qs. pair p.0 p.1 qs) (pairs_alike ps)
-
 pub map_view : (v : Vec (Value × Value) Global) → view (Map v) ≡ map_tree (pairs_of (map pair_view v.items))
-map_view v = view-Map v ∙ ap (λ ps. map_tree ps) (pairs_alike (map pair_view v.items))
-  where
-    view-Map : (v : Vec (Value × Value) Global) → view (Map v) ≡ map_tree (seen.pairs_of (map pair_view v.items))
-    view-Map v = search (rules, the_lemmas)
+map_view v = search (rules, the_lemmas)
 
 abbrev pub as_map : Vec (Value × Value) Global → Tree
 as_map v = map_tree (pairs_of (map pair_view v.items))

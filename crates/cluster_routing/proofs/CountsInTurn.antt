@@ -7,10 +7,11 @@ use Rattle.std.proofs.Common.{◌≡◌, ℕ, ℤ, ◌+ℤ◌, true, List, [], �
 use Rattle.std.proofs.lemmas.Int.{ints}
 use Rattle.std.proofs.lemmas.Map.Text.{is_eq-slice_cmp}
 use Rattle.resp_core.specs.Trees.{map as map_tree}
+use Rattle.resp_core.specs.View.{pairs_of}
 use Rattle.resp_args.specs.Convert.{traverse}
 use Rattle.cluster_routing.specs.CombineLaws.{CountsInAnyOrder}
 use Rattle.cluster_routing.specs.Lists.{concat}
-use Rattle.cluster_routing.specs.Policies.{Counts, add_count, count_pair, counts_in, counts_tree, map_of_counts, pairs_of}
+use Rattle.cluster_routing.specs.Policies.{Counts, add_count, count_pair, counts_in, counts_tree, map_of_counts}
 use Rattle.cluster_routing.proofs.AnyOrder.{OfNeighbours, in_any_order, read_swap, traverse_swap}
 
 plus_again : (n m s : ℤ) → (n +ℤ (m +ℤ s)) ≡ (m +ℤ (n +ℤ s))
@@ -66,31 +67,23 @@ low_high c d l (e ∷ s) = by (key_cmp c.0 e.0) refl (key_cmp d.0 e.0) refl (low
         ap (add_count d) (put c e s Greater f) ∙ put d e (add_count c s) Greater higher ∙ ap (λ z. e ∷ z) ih
         ∙ sym (ap (add_count c) (put d e s Greater higher) ∙ put c e (add_count d s) Greater f)
 
+only_equal : (o : Ordering) → is_eq o ≡ true → o ≡ Equal
+only_equal Less h = cc
+only_equal Equal h = refl
+only_equal Greater h = cc
+
+itself : (k : List ℕ) → key_cmp k k ≡ Equal
+itself k = only_equal (key_cmp k k) (is_eq-slice_cmp k k ∙ (bytes_decides k k).1 refl)
+
 -- one key
 one_key : (k : List ℕ) (n m : ℤ) (s : Counts) → add_count (k, m) (add_count (k, n) s) ≡ add_count (k, n) (add_count (k, m) s)
-one_key k n m [] = put (k, m) (k, n) [] Equal itself ∙ ap (λ x. (k, x) ∷ []) (plus_turned m n) ∙ sym (put (k, n) (k, m) [] Equal itself)
-  where
-    only_equal : (o : Ordering) → is_eq o ≡ true → o ≡ Equal
-    only_equal Less h = cc
-    only_equal Equal h = refl
-    only_equal Greater h = cc
-
-    itself : key_cmp k k ≡ Equal
-    itself = only_equal (key_cmp k k) (is_eq-slice_cmp k k ∙ (bytes_decides k k).1 refl)
+one_key k n m [] = put (k, m) (k, n) [] Equal (itself k) ∙ ap (λ x. (k, x) ∷ []) (plus_turned m n) ∙ sym (put (k, n) (k, m) [] Equal (itself k))
 one_key k n m (e ∷ s) = by (key_cmp k e.0) refl (one_key k n m s)
   where
-    only_equal : (o : Ordering) → is_eq o ≡ true → o ≡ Equal
-    only_equal Less h = cc
-    only_equal Equal h = refl
-    only_equal Greater h = cc
-
-    itself : key_cmp k k ≡ Equal
-    itself = only_equal (key_cmp k k) (is_eq-slice_cmp k k ∙ (bytes_decides k k).1 refl)
-
     by : (o : Ordering) → key_cmp k e.0 ≡ o → add_count (k, m) (add_count (k, n) s) ≡ add_count (k, n) (add_count (k, m) s) → add_count (k, m) (add_count (k, n) (e ∷ s)) ≡ add_count (k, n) (add_count (k, m) (e ∷ s))
     by Less f ih =
-        ap (add_count (k, m)) (put (k, n) e s Less f) ∙ put (k, m) (k, n) (e ∷ s) Equal itself ∙ ap (λ x. (k, x) ∷ e ∷ s) (plus_turned m n)
-        ∙ sym (ap (add_count (k, n)) (put (k, m) e s Less f) ∙ put (k, n) (k, m) (e ∷ s) Equal itself)
+        ap (add_count (k, m)) (put (k, n) e s Less f) ∙ put (k, m) (k, n) (e ∷ s) Equal (itself k) ∙ ap (λ x. (k, x) ∷ e ∷ s) (plus_turned m n)
+        ∙ sym (ap (add_count (k, n)) (put (k, m) e s Less f) ∙ put (k, n) (k, m) (e ∷ s) Equal (itself k))
     by Equal f ih =
         ap (add_count (k, m)) (put (k, n) e s Equal f) ∙ put (k, m) (e.0, n +ℤ e.1) s Equal f ∙ ap (λ x. (e.0, x) ∷ s) (plus_again m n e.1)
         ∙ sym (ap (add_count (k, n)) (put (k, m) e s Equal f) ∙ put (k, n) (e.0, m +ℤ e.1) s Equal f)

@@ -1,11 +1,13 @@
 -- The parts of a split, gathered in one walk over its slots.
 use Rattle.std.specs.Prelude.{nat_eq, slice_index_or, slice_set}
-use Rattle.std.proofs.Common.{◌≡◌, ◌≤◌, ◌<◌, ℕ, zero, suc, ◌+◌, nat_lt, Option, Some, None, Bool, true, false, not, ◌||◌, if◌then◌else◌, List, [], ◌∷◌, ◌++◌, length, map, filter, refl, sym, ap, ◌∙◌, append-nil, arith, Vec}
+use Rattle.std.proofs.Common.{◌≡◌, ◌≤◌, ◌<◌, ℕ, zero, suc, ◌+◌, nat_lt, Option, Some, None, Bool, true, false, not, ◌||◌, if◌then◌else◌, List, [], ◌∷◌, ◌++◌, length, map, filter, refl, sym, ap, ◌∙◌, append-nil, add-one, arith, get_or, take, Vec}
 use Rattle.std.specs.Global.{Global}
 use Rattle.std.specs.List.{position, position_or_len}
 use Rattle.indexmap.specs.IndexSet.{insert_key}
+use Rattle.std.proofs.Math.Seq.{take-suc}
 use Rattle.std.proofs.lemmas.Bool.{eqb-true, ltb-false}
 use Rattle.std.proofs.lemmas.Bool.Decides.{nat_tests}
+use Rattle.std.proofs.lemmas.List.{length-take}
 use Rattle.std.proofs.lemmas.List.Elements.{filter-append}
 use Rattle.cluster_routing.specs.declared.route.Route.{Route}
 use Rattle.cluster_routing.specs.declared.route.SlotAddr.{SlotAddr}
@@ -283,3 +285,15 @@ module _ (role : SlotAddr) (xs : List ℕ) (s : ℕ) where
           ∙ ap (λ ys. behind (firsts nat_eq xs) ++ (route_to role s, ys) ∷ []) own
           ∙ sym (behind_append (firsts nat_eq xs))
           ∙ ap behind (sym (firsts_more xs s ∙ ap (λ a. if a then firsts nat_eq xs else firsts nat_eq xs ++ s ∷ []) h))
+
+-- the place of one slot more of many
+pub put_slot : (role : SlotAddr) (all : List ℕ) (i : ℕ) (parts : List (Route × List ℕ)) → i < length all → parts ≡ map (part_to role) (groups (take i all))
+    → put_place (route_to role (get_or all i 0)) i parts ≡ map (part_to role) (groups (take (i + 1) all))
+put_slot role all i parts within same =
+    let s : ℕ = get_or all i 0 in
+    let l : length (take i all) ≡ i = length-take i all ∙ omega (arith, within) in
+    let more : take (i + 1) all ≡ take i all ++ s ∷ [] = rw add-one (take-suc all i 0 within) in
+    ap (put_place (route_to role s) i) same
+    ∙ ap (λ n. put_place (route_to role s) n (map (part_to role) (groups (take i all)))) (sym l)
+    ∙ put_next role (take i all) s
+    ∙ ap (λ ys. map (part_to role) (groups ys)) (sym more)

@@ -4,11 +4,11 @@ use Rattle.std.proofs.Common.{◌≡◌, ℕ, List, [], ◌∷◌, ◌++◌, map
 use Rattle.std.proofs.lemmas.List.{map-append}
 use Rattle.resp_core.specs.Errors.{Refusal}
 use Rattle.resp_core.specs.Trees.{Tree, nil, bulk, map as map_tree}
-use Rattle.resp_core.specs.View.{pair_view, view}
+use Rattle.resp_core.specs.View.{pair_view, pairs_of, view}
 use Rattle.resp_core.specs.declared.value.Value.{Value, BulkString, Map}
 use Rattle.cluster_routing.specs.Address.{Address, written}
 use Rattle.cluster_routing.specs.Outcomes.{map_or_refusal, outcomes_of, trees_or_refusal}
-use Rattle.cluster_routing.specs.Policies.{Outcome, all_replies, all_succeeded, and_tree, bad_reply, combine_outcomes, combine_replies, first_not_nil, one_succeeded, or_bad_reply, or_first_refusal, or_later_reply, or_not_nil, pairs_of, reply_by_policy, tree_or_refusal, trees_by, with_reply}
+use Rattle.cluster_routing.specs.Policies.{Outcome, all_replies, all_succeeded, and_tree, bad_reply, combine_outcomes, combine_replies, first_not_nil, one_succeeded, or_bad_reply, or_first_refusal, or_later_reply, or_not_nil, reply_by_policy, tree_or_refusal, trees_by, with_reply}
 use Rattle.cluster_routing.specs.Seen.{address}
 use Rattle.cluster_routing.specs.declared.address.NodeAddress.{NodeAddress}
 use Rattle.cluster_routing.specs.declared.policy.ResponsePolicy.{ResponsePolicy}

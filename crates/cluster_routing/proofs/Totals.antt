@@ -10,7 +10,7 @@ use Rattle.resp_core.specs.declared.value.Value.{Value}
 use Rattle.cluster_routing.specs.Combine.{plus, sum_of}
 use Rattle.cluster_routing.specs.Policies.{int_in}
 
-plus_in : (t : Tree) (o : Option ℤ) → plus t o ≡ option_and_then (λ n. option_map (λ m. n +ℤ m) o) (int_in t)
+pub plus_in : (t : Tree) (o : Option ℤ) → plus t o ≡ option_and_then (λ n. option_map (λ m. n +ℤ m) o) (int_in t)
 plus_in (int n) o = refl
 plus_in nil o = refl
 plus_in (bulk b) o = refl

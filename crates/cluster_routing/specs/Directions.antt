@@ -1,13 +1,13 @@
 -- Where a command goes: whole to its destination, in parts to the slots of its keys, or nowhere, and why (Redis
 -- Cluster specification; documentation of the crate `redis`, `cluster_routing`).
-use Rattle.std.specs.Prelude.{ℕ, if◌then◌else◌, List, Option, Some, None, option_and_then}
+use Rattle.std.specs.Prelude.{ℕ, Bool, if◌then◌else◌, List, Option, Some, None, option_and_then}
 use Rattle.resp_core.specs.declared.errors.redis_error.Cause.{Cause}
 use Rattle.resp_core.specs.declared.errors.redis_error.Cause.TheVariants.{BrokenTuples, CursorInSplit, NoRoute}
 use Rattle.cluster_routing.specs.Command.{Args, all_bytes}
 use Rattle.cluster_routing.specs.Info.{shown_split}
-use Rattle.cluster_routing.specs.Routing.{Destination, to_any_node, to_route, to_all_nodes, to_all_primaries, to_some_parts, destination, destination_by}
+use Rattle.cluster_routing.specs.Routing.{Destination, to_any_node, to_route, to_all_nodes, to_all_primaries, to_some_parts, destination, destination_by, role_of}
 use Rattle.cluster_routing.specs.Split.{PartsByPlace, has_split_word, parts_by_place, parts_by_role}
-use Rattle.cluster_routing.specs.Table.{Rule, split}
+use Rattle.cluster_routing.specs.Table.{Rule, rule_of, split}
 use Rattle.cluster_routing.specs.declared.direction.Direction.{Direction as CodeDirection}
 use Rattle.cluster_routing.specs.declared.direction.Direction.TheVariants as directions
 use Rattle.cluster_routing.specs.declared.route.SlotAddr.{SlotAddr}
@@ -51,6 +51,11 @@ abbrev pub direction_by : SlotAddr → Args → Rule → Direction
 direction_by role args (split pattern policy) = split_direction (all_bytes args)
     (option_and_then (parts_by_role role (record { pattern = pattern; policy = policy })) (all_bytes args))
 direction_by role args rule = whole_direction (destination_by role args rule)
+
+-- the same by a name, which is one word or has a second one
+abbrev pub direction_of_name : List ℕ → Bool → Args → List (List ℕ) → Direction
+direction_of_name name family args read_only = direction_by (role_of name read_only) args
+    (rule_of name family)
 
 -- its parts, where it goes in parts
 abbrev pub parts_in : Direction → Option PartsByPlace

@@ -31,6 +31,10 @@ lent args = map (λ (a : Bor (List ℕ)). a.now) args
 abbrev pub shown_part : Route × Vec ℕ Global → Route × List ℕ
 shown_part p = (p.0, p.1.items)
 
+-- the positions of each part's arguments
+abbrev pub positions_in : List (Route × Vec ℕ Global) → List (List ℕ)
+positions_in parts = map (λ (p : Route × List ℕ). p.1) (map shown_part parts)
+
 -- several of them
 abbrev pub shown_parts : List (Route × Vec ℕ Global) → List (Route × List ℕ)
 shown_parts parts = map shown_part parts

@@ -2,12 +2,12 @@
 ghost use Rattle.std.specs.Prelude.{◌≡◌, ◌+◌, ◌<◌, ◌^◌, codes, map, option_and_then, slice_get, IfOk, None, Option, Some};
 ghost use Rattle.resp_core.specs.Numbers.{number_below};
 ghost use Rattle.cluster_routing.specs.Command.{Args, all_bytes, bytes_of, place_of};
-ghost use Rattle.cluster_routing.specs.Directions.{direction, direction_by, shown_direction, split_direction, whole_direction};
+ghost use Rattle.cluster_routing.specs.Directions.{direction, direction_by, direction_of_name, shown_direction, split_direction, whole_direction};
 ghost use Rattle.cluster_routing.specs.Info.{lent, shown_splitting, texts};
-ghost use Rattle.cluster_routing.specs.Routing.{Destination, name_of_word, role_of, to_counted_key, to_key, to_key_behind};
+ghost use Rattle.cluster_routing.specs.Routing.{Destination, name_of_word, to_counted_key, to_key, to_key_behind};
 ghost use Rattle.cluster_routing.specs.Rows.{shown_rule};
 ghost use Rattle.cluster_routing.specs.Split.{parts_by_role};
-ghost use Rattle.cluster_routing.specs.Table.{is_family, rule_of};
+ghost use Rattle.cluster_routing.specs.Table.{is_family};
 
 use crate::policy::{MultiSlotArgPattern, ResponsePolicy};
 use crate::routable::{Routable, spelled_name};
@@ -72,10 +72,8 @@ fn direction_by_word<R: Routable>(
     word: &[u8],
     read_only: &[Vec<u8>],
 ) -> Result<Direction, AllocError>
-    ensures { IfOk result
-        (λ d. shown_direction d
-        ≡ direction_by (role_of (name_of_word word.now (R.args r.now)) (texts read_only.now))
-        (R.args r.now) (rule_of (name_of_word word.now (R.args r.now)) (is_family word.now))) }
+    ensures { IfOk result (λ d. shown_direction d ≡ direction_of_name
+        (name_of_word word.now (R.args r.now)) (is_family word.now) (R.args r.now) (texts read_only.now)) }
 {
     if !is_family(word) {
         return direction_by_name(alloc, r, word, false, read_only);
@@ -91,9 +89,8 @@ fn direction_by_name<R: Routable>(
     family: bool,
     read_only: &[Vec<u8>],
 ) -> Result<Direction, AllocError>
-    ensures { IfOk result
-        (λ d. shown_direction d
-        ≡ direction_by (role_of name.now (texts read_only.now)) (R.args r.now) (rule_of name.now family)) }
+    ensures { IfOk result (λ d. shown_direction d
+        ≡ direction_of_name name.now family (R.args r.now) (texts read_only.now)) }
 {
     direction_by_rule(alloc, r, role_of(name, read_only), rule_for(name, family))
 }
@@ -139,9 +136,8 @@ fn key_at<R: Routable>(r: &R, role: SlotAddr, place: usize) -> Direction
 /// That of a command whose key stands behind a count of keys; of none, elsewhere.
 fn counted_key<R: Routable>(r: &R, role: SlotAddr, place: u8, elsewhere: Direction) -> Direction
     ensures { (d : Option Destination) → shown_direction elsewhere ≡ whole_direction d
-        → shown_direction result
-        ≡ whole_direction (to_counted_key role d (slice_get (R.args r.now) place)
-        (slice_get (R.args r.now) (place + 1))) }
+        → shown_direction result ≡ whole_direction (to_counted_key role d
+        (slice_get (R.args r.now) place) (slice_get (R.args r.now) (place + 1))) }
 {
     match number_at(r, place as usize) {
         None => nowhere(),

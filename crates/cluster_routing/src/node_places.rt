@@ -58,8 +58,7 @@ fn push_nodes<'a>(
     ensures addresses { IfOk result
         (λ _. ascending (map (λ p. address p.node.now) placed.new.items)
         ≡ put_addresses (ascending (map (λ p. address p.node.now) placed.old.items)) (node_list nodes.now)) }
-    ensures places { IfOk result
-        (λ _. (at : NodePlace → Option Address)
+    ensures places { IfOk result (λ _. (at : NodePlace → Option Address)
         → ((n : ℕ) → at (record { range = range; node = n }) ≡ slice_get (node_list nodes.now) n)
         → AreAt at placed.old.items → AreAt at placed.new.items) }
 {

@@ -1,7 +1,8 @@
 //! Asking a node for the map of slots, and reading its reply.
 
-ghost use Rattle.std.specs.Prelude.{◌≡◌, ◌∷◌, ◌++◌, [], codes, map, None, false, option_map, IfOk};
+ghost use Rattle.std.specs.Prelude.{◌≡◌, ◌∷◌, ◌++◌, [], codes, map, None, option_map, IfOk};
 ghost use Rattle.std.specs.String.{string_bytes};
+ghost use Rattle.resp_args.specs.Command.{new_command};
 ghost use Rattle.resp_args.specs.declared.cmd.Arg.TheVariants.{Simple};
 ghost use Rattle.resp_core.specs.View.{view};
 ghost use Rattle.cluster_routing.specs.Seen.{address, addresses};
@@ -18,12 +19,8 @@ use std::alloc::{AllocError, Global};
 /// # Errors
 /// `AllocError` where memory is refused.
 pub fn slot_cmd(alloc: Global) -> Result<Cmd, AllocError>
-    ensures { IfOk result
-        (λ c. c ≡ record {
-          args = Simple (codes "CLUSTER") ∷ Simple (codes "SLOTS") ∷ [];
-          cursor = None;
-          no_response = false;
-        }) }
+    ensures { IfOk result (λ c. c ≡ record new_command
+        { args = Simple (codes "CLUSTER") ∷ Simple (codes "SLOTS") ∷ [] }) }
 {
     let mut cmd = Cmd::new(alloc);
     cmd.arg("CLUSTER")?;

@@ -1,9 +1,9 @@
 //! The parts of a split command, and the command of each.
 
-ghost use Rattle.std.specs.Prelude.{◌≡◌, ◌++◌, map, flat_map, option_map, option_and_then, IfOk, Some};
+ghost use Rattle.std.specs.Prelude.{◌≡◌, ◌++◌, map, flat_map, option_map, IfOk, Some};
 ghost use Rattle.resp_args.specs.Command.{new_command};
 ghost use Rattle.cluster_routing.specs.Info.{lent, lent_texts, shown_parts, shown_routed, shown_split, shown_splitting, texts};
-ghost use Rattle.cluster_routing.specs.Split.{IsOwnSplitting, text_list, parts_by_role, parts_by_place, shared_in, shared_text, shared_with, parts_with_routes, splitting_of, sub_at, sub_of, text_at, with_texts};
+ghost use Rattle.cluster_routing.specs.Split.{IsOwnSplitting, lent_splitting, text_list, parts_by_role, parts_by_place, shared_in, shared_text, shared_with, parts_with_routes, splitting_of, sub_at, sub_of, text_at, with_texts};
 
 use crate::direction::Direction;
 use crate::policy::{MultiSlotArgPattern, ResponsePolicy};
@@ -234,10 +234,8 @@ fn write_shared(
     word: Option<&[u8]>,
     behind: &[Option<&[u8]>],
 ) -> Result<(), AllocError>
-    ensures { IfOk result
-        (λ _. cmd.new ≡ with_texts cmd.old
-        (shared_text (option_and_then splitting_of (option_map (λ a. a.now) word.entry))
-        (lent_texts behind.now))) }
+    ensures { IfOk result (λ _. cmd.new ≡ with_texts cmd.old
+        (shared_text (lent_splitting word.entry) (lent_texts behind.now))) }
 {
     match splitting_in(word) {
         None => Ok(()),
@@ -246,8 +244,7 @@ fn write_shared(
 }
 
 fn splitting_in(word: Option<&[u8]>) -> Option<(MultiSlotArgPattern, ResponsePolicy)>
-    ensures { option_map shown_splitting result
-        ≡ option_and_then splitting_of (option_map (λ a. a.now) word.entry) }
+    ensures { option_map shown_splitting result ≡ lent_splitting word.entry }
 {
     match word {
         None => None,
@@ -286,8 +283,7 @@ fn shared_in<'a>(args: &[Option<&'a [u8]>]) -> Option<&'a [u8]>
 
 fn shared_behind<'a>(word: Option<&[u8]>, behind: &[Option<&'a [u8]>]) -> Option<&'a [u8]>
     ensures { text_list (Some (option_map (λ a. a.now) result))
-        ≡ shared_text (option_and_then splitting_of (option_map (λ a. a.now) word.entry))
-        (lent_texts behind.now) }
+        ≡ shared_text (lent_splitting word.entry) (lent_texts behind.now) }
 {
     match splitting_in(word) {
         None => None,

@@ -2,7 +2,7 @@
 
 ghost use Rattle.std.specs.Prelude.{◌≡◌, [], IfOk, option_copied};
 ghost use Rattle.std.specs.Slice.Iter.{iter_rest};
-ghost use Rattle.cluster_routing.specs.Seen.{address, addresses};
+ghost use Rattle.cluster_routing.specs.Seen.{address, addresses, primary_with};
 ghost use Rattle.cluster_routing.specs.Topology.{put_places, put_ranges, shard_at};
 
 use crate::address::NodeAddress;
@@ -35,10 +35,8 @@ impl Shard {
         primary: NodeAddress,
         replicas: Vec<NodeAddress>,
     ) -> Shard
-        ensures { result ≡ record {
-          ranges = slot_ranges.items;
-          nodes = record { primary = address primary; replicas = addresses replicas.items };
-        } }
+        ensures { result
+            ≡ record { ranges = slot_ranges.items; nodes = primary_with primary replicas.items } }
     {
         Shard {
             slot_ranges,

@@ -96,7 +96,7 @@ fn tuple_count(width: usize, len: usize) -> Option<usize>
 }
 
 /// How many arguments a tuple has.
-fn width_of(pattern: MultiSlotArgPattern) -> usize
+pub(crate) fn width_of(pattern: MultiSlotArgPattern) -> usize
     ensures width { result ≡ width_of pattern }
     ensures some { 0 < result }
 {

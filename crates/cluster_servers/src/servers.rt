@@ -12,7 +12,7 @@ use crate::reply::Reply;
 use crate::together::{directed_of, some_redirected, tell_all};
 use cluster_client::ClusterClient;
 use proxy_core::{Outcome, Servers, Waiting};
-use resp_core::{Cause, RedisError, Value};
+use resp_core::{RedisError, Value};
 use resp_link::{ConnectionLike, PipelinedLink};
 use std::alloc::{AllocError, Global};
 
@@ -63,10 +63,13 @@ impl<L: PipelinedLink + Drop> ClusterServers<L> {
         let directed = directed_of(alloc, batch)?;
         match self.client.query_each_directed(alloc, &directed) {
             Ok(told) => Ok(Some(told)),
-            Err(error) => match error.cause() {
-                Some(Cause::Memory) => Err(AllocError),
-                _ => Ok(None),
-            },
+            Err(error) => {
+                if error.is_memory() {
+                    Err(AllocError)
+                } else {
+                    Ok(None)
+                }
+            }
         }
     }
 }

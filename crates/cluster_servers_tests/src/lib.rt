@@ -2,12 +2,4 @@
 #![tactic(auto)]
 
 #[cfg(test)]
-mod bytes;
-#[cfg(test)]
-mod guests;
-#[cfg(test)]
-mod memory;
-#[cfg(test)]
-mod pieces;
-#[cfg(test)]
-mod turns;
+mod tests;

@@ -7,7 +7,7 @@ use Rattle.std.proofs.lemmas.List.{map-append}
 use Rattle.std.proofs.lemmas.List.Elements.{filter-append}
 use Rattle.std.proofs.lemmas.Option.{slice_get-map}
 use Rattle.cluster_routing.specs.Lists.{among, firsts, IsDistinct}
-use Rattle.cluster_steps.specs.declared.dispatch.Dispatch.{Dispatch as CodeDispatch}
+use Rattle.cluster_steps.specs.Requests.{CodeDispatch}
 use Rattle.cluster_steps.specs.declared.grouped.Gathered.{Gathered}
 use Rattle.cluster_calls.specs.Links.Request.{Request}
 use Rattle.cluster_steps.specs.Groups.{NodeRequests, AreNumbered, Puts, empty_group, group_at, gathered_of, place_in, places_in_use, request_in, with_place, with_request}

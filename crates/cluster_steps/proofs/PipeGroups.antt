@@ -8,7 +8,7 @@ use Rattle.cluster_routing.specs.Address.{Address, same_address}
 use Rattle.cluster_routing.specs.Info.{texts}
 use Rattle.cluster_routing.specs.Lists.{firsts, IsDistinct}
 use Rattle.cluster_routing.specs.Seen.{address}
-use Rattle.cluster_steps.specs.declared.dispatch.Dispatch.{Dispatch as CodeDispatch}
+use Rattle.cluster_steps.specs.Requests.{CodeDispatch}
 use Rattle.cluster_calls.specs.Links.Log.{Exchange, requests, is_unanswered}
 use Rattle.cluster_calls.specs.Links.World.{Node, addresses_of, place_at}
 use Rattle.cluster_calls.specs.Links.Events.{AllTo}
@@ -135,7 +135,7 @@ by_node (g ∷ gs) xs h = at (length (map direct g)) (length g) (length-map g di
 -- ---- the dispatches of a pipeline, each with the place of its open link
 
 abbrev pub node_of : CodeDispatch → Address
-node_of d = address d.hop.node
+node_of d = address d.to.node
 
 -- the requests to the place of a dispatch
 abbrev pub alike : List CodeDispatch → CodeDispatch → List CodeDispatch

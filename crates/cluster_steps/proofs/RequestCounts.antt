@@ -2,7 +2,7 @@
 use Rattle.std.specs.Prelude.{filter, nat_eq}
 use Rattle.std.proofs.Common.{◌≡◌, ◌≤◌, ℕ, suc, ◌+◌, ◌==◌, Bool, true, false, cond, List, [], ◌∷◌, map, length, refl, ap, ◌∙◌, subst, arith, eqb-true}
 use Rattle.cluster_routing.specs.Lists.{among, firsts, IsDistinct}
-use Rattle.cluster_steps.specs.declared.dispatch.Dispatch.{Dispatch as CodeDispatch}
+use Rattle.cluster_steps.specs.Requests.{CodeDispatch}
 use Rattle.cluster_steps.specs.Groups.{group_at, place_in, request_count, request_in}
 use Rattle.cluster_calls.proofs.LinkLaws.LinkRuns.{or_parts}
 use Rattle.cluster_calls.proofs.ServerLaws.Distinct.{firsts_distinct}

@@ -7,7 +7,7 @@ use Rattle.cluster_routing.specs.Seen.{address}
 use Rattle.cluster_routing.specs.Info.{texts}
 use Rattle.cluster_routing.specs.Choice.{Strategy}
 use Rattle.cluster_routing.specs.SlotMap.{SlotEntries}
-use Rattle.cluster_steps.specs.declared.dispatch.Dispatch.{Dispatch as CodeDispatch}
+use Rattle.cluster_steps.specs.Requests.{CodeDispatch}
 use Rattle.cluster_steps.specs.declared.dispatch.Prepared.{Prepared}
 use Rattle.cluster_steps.specs.declared.dispatch.Outset.{Outset}
 use Rattle.cluster_steps.specs.declared.dispatch.Outset.TheVariants.{Whole, InParts}
@@ -25,7 +25,7 @@ client_with settings entries all = record { settings = settings; entries = entri
 
 -- what the code's dispatches are
 abbrev pub dispatch_of : CodeDispatch → Dispatch
-dispatch_of d = record { node = address d.hop.node; args = texts d.args.items }
+dispatch_of d = record { node = address d.to.node; args = texts d.args.items }
 
 -- the code's dispatches, or why there are none
 abbrev pub dispatches_of : Result (Vec CodeDispatch Global) Refusal → Result (List Dispatch) Refusal
@@ -50,9 +50,9 @@ pub record AreDispatched (strategy : Option Strategy) (client : Client) (parts :
 
 -- a dispatch goes over the open link of its node, without ASKING
 pub record IsPlaced (all : List Node) (d : CodeDispatch) : Type 0 where
-  pub place : IsOpenAt all (address d.hop.node) d.hop.link
-  pub within : d.hop.link < length all
-  pub direct : d.hop.asking ≡ false
+  pub place : IsOpenAt all (address d.to.node) d.to.link
+  pub within : d.to.link < length all
+  pub direct : d.to.asking ≡ false
 
 -- ---- a call before its first byte
 

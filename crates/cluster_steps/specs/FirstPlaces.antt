@@ -7,9 +7,11 @@ use Rattle.cluster_routing.specs.Info.{texts}
 use Rattle.cluster_routing.specs.Candidates.{Candidates}
 use Rattle.cluster_routing.specs.Choice.{Strategy, IsAdmitted}
 use Rattle.cluster_routing.specs.SlotMap.{SlotEntries}
+use Rattle.cluster_routing.specs.Seen.{address}
+use Rattle.cluster_steps.specs.declared.hop.Hop.{Hop}
 use Rattle.cluster_steps.specs.declared.route.Target.{Target as CodeTarget}
 use Rattle.cluster_steps.specs.declared.route.Target.TheVariants as targets
-use Rattle.cluster_steps.specs.declared.route.Part.{Part as CodePart}
+use Rattle.cluster_steps.specs.Requests.{CodePart}
 use Rattle.cluster_calls.specs.Links.World.{is_linked}
 use Rattle.cluster_calls.specs.Calls.Parts.{Target, at_slot, at_number, Part}
 use Rattle.cluster_calls.specs.Calls.Plan.{First, first_of, target_candidates}
@@ -22,7 +24,7 @@ target_of (targets.Number number) = at_number number
 
 -- what a part of the code stands for
 abbrev pub part_of : CodePart → Part
-part_of part = record { target = target_of part.target; args = texts part.args.items }
+part_of part = record { target = target_of part.to; args = texts part.args.items }
 
 -- the node that a target leads to, by these picks; none where no node serves it
 abbrev pub node_in : Option First → Result Address Refusal
@@ -46,6 +48,10 @@ if_linked links node = if is_linked links node then Ok node else Err (by_cause N
 abbrev pub node_by : {A : Type 0} → (A → Address) → Result A Refusal → Result Address Refusal
 node_by node (Ok a) = Ok (node a)
 node_by node (Err refusal) = Err refusal
+
+-- the node of a hop, or why there is none
+abbrev pub node_of_hop : Result Hop Refusal → Result Address Refusal
+node_of_hop hop = node_by (λ p. address p.node) hop
 
 -- the picks for one target: what the strategy answered where it is asked, and no further one
 abbrev pub ArePicksAt : Option Strategy → SlotEntries → Target → List Address → Type 0

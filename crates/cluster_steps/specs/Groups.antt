@@ -3,7 +3,7 @@ use Rattle.std.specs.Prelude.{◌≡◌, ℕ, ◌+◌, ◌==◌, false, if◌the
 use Rattle.cluster_routing.specs.Seen.{address}
 use Rattle.cluster_routing.specs.Info.{texts}
 use Rattle.cluster_routing.specs.Lists.{among}
-use Rattle.cluster_steps.specs.declared.dispatch.Dispatch.{Dispatch as CodeDispatch}
+use Rattle.cluster_steps.specs.Requests.{CodeDispatch}
 use Rattle.cluster_steps.specs.declared.grouped.Gathered.{Gathered}
 use Rattle.cluster_steps.specs.declared.ready.NodeRequests.{NodeRequests as CodeNodeRequests}
 use Rattle.cluster_calls.specs.Links.Request.{Request}
@@ -22,11 +22,11 @@ gathered_of g = record { link = g.link; requests = g.requests.items }
 
 -- the place of the link that a dispatch goes over
 abbrev pub place_in : CodeDispatch → ℕ
-place_in d = d.hop.link
+place_in d = d.to.link
 
 -- the request that a dispatch sends
 abbrev pub request_in : CodeDispatch → Request
-request_in d = record { node = address d.hop.node; args = texts d.args.items; asking = d.hop.asking }
+request_in d = record { node = address d.to.node; args = texts d.args.items; asking = d.to.asking }
 
 abbrev pub empty_group : ℕ → NodeRequests
 empty_group link = record { link = link; requests = [] }

@@ -1,6 +1,8 @@
 pub mod Links
 pub mod LinkTable
+pub mod Requests
 pub mod FirstPlaces
+pub mod Picker
 pub mod CodeParts
 pub mod Dispatches
 pub mod Turns

@@ -3,7 +3,7 @@ use Rattle.std.specs.Prelude.{ℕ, List, [], ◌∷◌, map, Option, None, Resul
 use Rattle.std.specs.declared.alloc.Global.{Global}
 use Rattle.resp_core.specs.Errors.{Refusal}
 use Rattle.cluster_routing.specs.declared.route.Route.{Route}
-use Rattle.cluster_steps.specs.declared.route.Part.{Part as CodePart}
+use Rattle.cluster_steps.specs.Requests.{CodePart}
 use Rattle.cluster_calls.specs.Calls.Parts.{Part, Target, at_slot, if_at_slot, part_to}
 use Rattle.cluster_steps.specs.FirstPlaces.{part_of}
 

@@ -2,10 +2,11 @@
 ghost use Rattle.std.specs.Prelude.{◌≡◌, ◌<◌, length, map, IfOk, Some};
 ghost use Rattle.cluster_routing.specs.Info.{texts};
 ghost use Rattle.cluster_calls.specs.Links.Log.{last_of};
-ghost use Rattle.cluster_calls.specs.Links.Request.{Request};
+ghost use Rattle.cluster_calls.specs.Links.Request.{Request as Logged};
 
 use crate::dispatch::Dispatch;
 use crate::hop::Hop;
+use crate::request::Request;
 use cluster_routing::NodeAddress;
 use std::alloc::{AllocError, Global};
 use std::marker::Model;
@@ -35,12 +36,12 @@ impl Model for Asked {
 /// The last request of the log once more, by this hop; its arguments are copied.
 pub fn sent_again(alloc: Global, log: &[Asked], hop: Hop) -> Result<Dispatch, AllocError>
     requires { 0 < length log.now }
-    ensures hop { IfOk result (λ d. d.hop ≡ hop) }
-    ensures args { IfOk result (λ d. (q : Request) → last_of log.now ≡ Some q → texts d.args.items ≡ q.args) }
+    ensures hop { IfOk result (λ d. d.to ≡ hop) }
+    ensures args { IfOk result (λ d. (q : Logged) → last_of log.now ≡ Some q → texts d.args.items ≡ q.args) }
 {
     let last = &log[log.len() - 1];
-    Ok(Dispatch {
-        hop,
+    Ok(Request {
+        to: hop,
         args: copied(alloc, &last.args)?,
     })
 }

@@ -40,8 +40,8 @@ pub(crate) fn sent_over<L: PipelinedLink>(
 
 /// Takes so many replies that the link at this place owes.
 pub(crate) fn received_over<L: PipelinedLink>(
-    links: &mut [(NodeAddress, L)],
     alloc: Global,
+    links: &mut [(NodeAddress, L)],
     index: usize,
     count: usize,
 ) -> Result<Vec<Value>, RedisError>
@@ -105,8 +105,8 @@ pub fn send_group<L: PipelinedLink + Drop>(
 
 /// Takes the replies to what went out. Only the link call takes memory.
 pub fn receive_group<L: PipelinedLink + Drop>(
-    links: &mut KnownLinks<L>,
     alloc: Global,
+    links: &mut KnownLinks<L>,
     sent: Sent,
 ) -> Result<Vec<Value>, Cause>
     requires within { sent.link < vec_len links.old.nodes }

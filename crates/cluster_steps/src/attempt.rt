@@ -8,18 +8,16 @@ ghost use Rattle.cluster_calls.specs.Calls.OneSlot.{args_of};
 ghost use Rattle.cluster_calls.specs.Calls.Transactions.{attempt};
 ghost use Rattle.cluster_calls.specs.Links.Exchanges.{Exchanges};
 ghost use Rattle.cluster_calls.specs.Links.Request.{bytes_of, skipped};
-ghost use Rattle.cluster_calls.specs.Links.World.{nodes, tree_results};
+ghost use Rattle.cluster_calls.specs.Links.World.{tree_results};
 ghost use Rattle.cluster_steps.specs.Turns.{hop_to};
 
 use crate::asked::Asked;
 use crate::hop::Hop;
-use crate::links::Links;
-use crate::node_links::NodeLinks;
+use crate::node_links::{NodeLinks, Wanted};
 use crate::ready::bytes_of;
 use cluster_routing::NodeAddress;
 use resp_args::Cmd;
 use resp_core::{RedisError, Value};
-use resp_link::ConnectionLike;
 use std::alloc::{AllocError, Global};
 
 /// The requests of an attempt, the hop that they go by, and their bytes.
@@ -94,37 +92,18 @@ pub fn make_attempt_ready(
 
 /// The exchange of an attempt at a transaction, for which the log has room: one write for all of its
 /// requests, and their replies without that to ASKING.
-pub fn exchange_attempt<L: ConnectionLike>(
-    links: &mut Links<L>,
+pub fn exchange_attempt<K: NodeLinks>(
     alloc: Global,
-    log: &mut Vec<Asked>,
-    attempt: Attempt,
-) -> Result<Vec<Value>, RedisError>
-    requires within { attempt.hop.link < vec_len links.old.nodes }
-    requires room { vec_len log.old + vec_len attempt.requests ≤ vec_capacity log.old }
-    ensures len { vec_len links.new.nodes ≡ vec_len links.old.nodes }
-    ensures exchange { Exchanges (nodes L.seen links.old.nodes.items)
-        (nodes L.seen links.new.nodes.items) attempt.hop.link log.old.items log.new.items
-        attempt.requests.items (skipped attempt.hop.asking) (vec_len attempt.requests)
-        (tree_results view result) }
-{
-    exchange_attempt_over(links, alloc, log, attempt)
-}
-
-/// The same for any links.
-pub fn exchange_attempt_over<K: NodeLinks>(
     links: &mut K,
-    alloc: Global,
     log: &mut Vec<Asked>,
     attempt: Attempt,
 ) -> Result<Vec<Value>, RedisError>
     requires within { attempt.hop.link < length (K.nodes links.old) }
     requires room { vec_len log.old + vec_len attempt.requests ≤ vec_capacity log.old }
     ensures len { length (K.nodes links.new) ≡ length (K.nodes links.old) }
-    ensures exchange { Exchanges (K.nodes links.old)
-        (K.nodes links.new) attempt.hop.link log.old.items log.new.items
-        attempt.requests.items (skipped attempt.hop.asking) (vec_len attempt.requests)
-        (tree_results view result) }
+    ensures exchange { Exchanges (K.nodes links.old) (K.nodes links.new) attempt.hop.link
+        log.old.items log.new.items attempt.requests.items (skipped attempt.hop.asking)
+        (vec_len attempt.requests) (tree_results view result) }
 {
     let Attempt {
         hop,
@@ -134,5 +113,5 @@ pub fn exchange_attempt_over<K: NodeLinks>(
     let offset = if hop.asking { 1 } else { 0 };
     let count = requests.len();
     log.append(&mut requests).unwrap();
-    links.call(alloc, hop.link, &bytes, offset, count)
+    links.call(alloc, hop.link, &bytes, Wanted { offset, count })
 }

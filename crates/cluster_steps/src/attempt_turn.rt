@@ -7,15 +7,13 @@ ghost use Rattle.resp_core.specs.declared.errors.redis_error.Cause.TheVariants.{
 ghost use Rattle.cluster_routing.specs.Policies.{or_bad_reply};
 ghost use Rattle.cluster_calls.specs.Calls.Redirects.{Stays, next_of};
 ghost use Rattle.cluster_calls.specs.Calls.Transactions.{answers, attempt_answer, error_or_bad, exec_answers, exec_reply, fate, first_own_error, first_redirect, is_array, is_nil, is_okay, is_redirect, is_refused, multi_reply, next_attempt, own_error, redirect_in};
-ghost use Rattle.cluster_calls.specs.Links.World.{nodes, open_links, tree_result};
+ghost use Rattle.cluster_calls.specs.Links.World.{open_links, tree_result};
 ghost use Rattle.cluster_steps.specs.Attempts.{AttemptTurnsBy, heard, is_not_done, seen};
 ghost use Rattle.cluster_steps.specs.Turns.{LeadsOn, TurnsOn, goes_on, next_by, turns_on};
 
-use crate::links::Links;
 use crate::node_links::NodeLinks;
 use crate::turn::{Onward, Turn, next_place};
 use resp_core::{Cause, RedisError, ServerErrorKind, Value};
-use resp_link::ConnectionLike;
 use std::alloc::Global;
 
 fn is_okay(reply: &Value) -> bool
@@ -247,26 +245,7 @@ fn answered(replies: Vec<Value>) -> Result<Turn, RedisError>
 
 /// The answer that the replies make, why the transaction is refused, or where they send it on, with so many
 /// redirects left.
-pub fn attempt_turn<L: ConnectionLike>(
-    alloc: Global,
-    links: &Links<L>,
-    redirects: u16,
-    replies: Vec<Value>,
-) -> Result<Turn, RedisError>
-    ensures turns { result ≢ Err (by_cause Memory)
-        → AttemptTurnsBy (next_attempt (open_links (nodes L.seen links.now.nodes.items)) redirects
-        (heard (map view replies.items))) (heard (map view replies.items)) result }
-    ensures on { IfOk result (λ turn. TurnsOn (nodes L.seen links.now.nodes.items) turn) }
-    ensures some { IfOk result (λ turn. turns_on turn ≡ true → redirects ≢ 0) }
-    // Memory is taken for a redirect alone.
-    ensures unanswered { result ≡ Err (by_cause Memory)
-        → exec_answers (heard (map view replies.items)) ≡ false }
-{
-    attempt_turn_over(alloc, links, redirects, replies)
-}
-
-/// The same for any links.
-pub fn attempt_turn_over<K: NodeLinks>(
+pub fn attempt_turn<K: NodeLinks>(
     alloc: Global,
     links: &K,
     redirects: u16,

@@ -3,45 +3,24 @@
 ghost use Rattle.std.specs.Prelude.{◌≡◌, ◌<◌, ◌≤◌, ◌+◌, ◌∷◌, [], length, vec_capacity, vec_len};
 ghost use Rattle.resp_core.specs.View.{view};
 ghost use Rattle.cluster_calls.specs.Links.Request.{skipped};
-ghost use Rattle.cluster_calls.specs.Links.World.{Called, CallsLink, nodes, one_reply, tree_result, tree_results};
+ghost use Rattle.cluster_calls.specs.Links.World.{Called, CallsLink, one_reply, tree_result, tree_results};
 ghost use Rattle.cluster_calls.specs.Links.Exchanges.{Exchanges};
 ghost use Rattle.cluster_steps.specs.Groups.{request_in};
 
 use crate::asked::Asked;
 use crate::dispatch::request_of;
-use crate::links::Links;
-use crate::node_links::NodeLinks;
+use crate::node_links::{NodeLinks, Wanted};
 use crate::ready::{NodeRequests, Ready};
 use resp_core::{RedisError, Value};
-use resp_link::ConnectionLike;
 use std::alloc::Global;
 
 /// Writes a group's requests to the log, which has room for them, and makes their link call: one write
 /// for all of them, and then their replies.
 ///
 /// Where it is refused the link has done what its own contract says.
-pub fn exchange<L: ConnectionLike>(
-    links: &mut Links<L>,
+pub fn exchange<K: NodeLinks>(
     alloc: Global,
-    log: &mut Vec<Asked>,
-    group: NodeRequests,
-) -> Result<Vec<Value>, RedisError>
-    requires within { group.link < vec_len links.old.nodes }
-    requires room { vec_len log.old + vec_len group.requests ≤ vec_capacity log.old }
-    ensures len { vec_len links.new.nodes ≡ vec_len links.old.nodes }
-    ensures log_len { vec_len log.new ≡ vec_len log.old + vec_len group.requests }
-    ensures log_capacity { vec_capacity log.old ≤ vec_capacity log.new }
-    ensures exchange { Exchanges (nodes L.seen links.old.nodes.items)
-        (nodes L.seen links.new.nodes.items) group.link log.old.items log.new.items
-        group.requests.items 0 (vec_len group.requests) (tree_results view result) }
-{
-    exchange_over(links, alloc, log, group)
-}
-
-/// The same for any links.
-pub fn exchange_over<K: NodeLinks>(
     links: &mut K,
-    alloc: Global,
     log: &mut Vec<Asked>,
     group: NodeRequests,
 ) -> Result<Vec<Value>, RedisError>
@@ -50,9 +29,9 @@ pub fn exchange_over<K: NodeLinks>(
     ensures len { length (K.nodes links.new) ≡ length (K.nodes links.old) }
     ensures log_len { vec_len log.new ≡ vec_len log.old + vec_len group.requests }
     ensures log_capacity { vec_capacity log.old ≤ vec_capacity log.new }
-    ensures exchange { Exchanges (K.nodes links.old)
-        (K.nodes links.new) group.link log.old.items log.new.items
-        group.requests.items 0 (vec_len group.requests) (tree_results view result) }
+    ensures exchange { Exchanges (K.nodes links.old) (K.nodes links.new) group.link
+        log.old.items log.new.items group.requests.items 0 (vec_len group.requests)
+        (tree_results view result) }
 {
     let NodeRequests {
         link,
@@ -61,57 +40,36 @@ pub fn exchange_over<K: NodeLinks>(
     } = group;
     let count = requests.len();
     log.append(&mut requests).unwrap();
-    links.call(alloc, link, &bytes, 0, count)
+    links.call(alloc, link, &bytes, Wanted { offset: 0, count })
 }
 
 /// The exchange of one request, for which the log has room: its reply is the one behind that to ASKING.
-pub fn exchange_one<L: ConnectionLike>(
-    links: &mut Links<L>,
+pub fn exchange_one<K: NodeLinks>(
     alloc: Global,
-    log: &mut Vec<Asked>,
-    ready: Ready,
-) -> Result<Value, RedisError>
-    requires within { ready.dispatch.hop.link < vec_len links.old.nodes }
-    requires room { vec_len log.old < vec_capacity log.old }
-    ensures len { vec_len links.new.nodes ≡ vec_len links.old.nodes }
-    ensures log_len { vec_len log.new ≡ vec_len log.old + 1 }
-    ensures log_capacity { vec_capacity log.old ≤ vec_capacity log.new }
-    ensures exchange { Exchanges (nodes L.seen links.old.nodes.items)
-        (nodes L.seen links.new.nodes.items) ready.dispatch.hop.link log.old.items log.new.items
-        (request_in ready.dispatch ∷ []) (skipped ready.dispatch.hop.asking) 1
-        (one_reply (tree_result view result)) }
-{
-    exchange_one_over(links, alloc, log, ready)
-}
-
-/// The same for any links.
-pub fn exchange_one_over<K: NodeLinks>(
     links: &mut K,
-    alloc: Global,
     log: &mut Vec<Asked>,
     ready: Ready,
 ) -> Result<Value, RedisError>
-    requires within { ready.dispatch.hop.link < length (K.nodes links.old) }
+    requires within { ready.dispatch.to.link < length (K.nodes links.old) }
     requires room { vec_len log.old < vec_capacity log.old }
     ensures len { length (K.nodes links.new) ≡ length (K.nodes links.old) }
     ensures log_len { vec_len log.new ≡ vec_len log.old + 1 }
     ensures log_capacity { vec_capacity log.old ≤ vec_capacity log.new }
-    ensures exchange { Exchanges (K.nodes links.old)
-        (K.nodes links.new) ready.dispatch.hop.link log.old.items log.new.items
-        (request_in ready.dispatch ∷ []) (skipped ready.dispatch.hop.asking) 1
-        (one_reply (tree_result view result)) }
+    ensures exchange { Exchanges (K.nodes links.old) (K.nodes links.new) ready.dispatch.to.link
+        log.old.items log.new.items (request_in ready.dispatch ∷ [])
+        (skipped ready.dispatch.to.asking) 1 (one_reply (tree_result view result)) }
 {
     let Ready { dispatch, bytes } = ready;
-    let link = dispatch.hop.link;
-    let asking = dispatch.hop.asking;
+    let link = dispatch.to.link;
+    let asking = dispatch.to.asking;
     log.push(request_of(dispatch)).unwrap();
-    reply_to_one(links, alloc, link, &bytes, asking)
+    reply_to_one(alloc, links, link, &bytes, asking)
 }
 
 /// The reply to one request, which is the one behind that to ASKING where that was sent before it.
 fn reply_to_one<K: NodeLinks>(
-    links: &mut K,
     alloc: Global,
+    links: &mut K,
     link: usize,
     bytes: &[u8],
     asking: bool,
@@ -124,6 +82,10 @@ fn reply_to_one<K: NodeLinks>(
     if !asking {
         return links.call_one(alloc, link, bytes);
     }
-    let mut replies = links.call(alloc, link, bytes, 1, 1)?;
+    let wanted = Wanted {
+        offset: 1,
+        count: 1,
+    };
+    let mut replies = links.call(alloc, link, bytes, wanted)?;
     Ok(replies.remove(0))
 }

@@ -33,7 +33,7 @@ pub fn places_of(alloc: Global, dispatches: &[Dispatch]) -> Result<Vec<usize>, A
 {
     let mut places = Vec::with_capacity(alloc, dispatches.len())?;
     'dispatches: for dispatch in dispatches {
-        places.push(dispatch.hop.link)?;
+        places.push(dispatch.to.link)?;
     }
     Ok(places)
 }
@@ -114,7 +114,7 @@ pub fn grouped(
     let mut gathered = Vec::new(alloc);
     let mut numbers = Vec::with_capacity(alloc, dispatches.len())?;
     'dispatches: for dispatch in dispatches {
-        let number = number_of(alloc, &mut table, &mut gathered, dispatch.hop.link)?;
+        let number = number_of(alloc, &mut table, &mut gathered, dispatch.to.link)?;
         put(&mut gathered, number, request_of(dispatch))?;
         numbers.push(number)?;
     }

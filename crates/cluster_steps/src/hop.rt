@@ -1,25 +1,24 @@
 //! Where a part goes first: the node that serves its slot, that a strategy picks or that a number
 //! chooses, and the place of its link.
-ghost use Rattle.std.specs.Prelude.{◌≡◌, ◌≢◌, ◌<◌, is_some, length, vec_len, IfOk, Err, option_map, false};
+ghost use Rattle.std.specs.Prelude.{◌≡◌, ◌≢◌, ◌<◌, is_some, length, IfOk, Err, option_map, false};
 ghost use Rattle.resp_core.specs.Errors.{by_cause};
 ghost use Rattle.resp_core.specs.declared.errors.redis_error.Cause.TheVariants.{Memory};
-ghost use Rattle.cluster_routing.specs.AllNodes.{all_nodes};
 ghost use Rattle.cluster_routing.specs.Choice.{strategy_of};
-ghost use Rattle.cluster_routing.specs.Seen.{address, addresses};
+ghost use Rattle.cluster_routing.specs.Seen.{address};
 ghost use Rattle.cluster_routing.specs.SlotMap.{nodes_at};
-ghost use Rattle.cluster_calls.specs.Links.World.{nodes, open_links};
+ghost use Rattle.cluster_calls.specs.Links.World.{open_links};
 ghost use Rattle.cluster_calls.specs.Links.Places.{IsOpenAt};
-ghost use Rattle.cluster_steps.specs.FirstPlaces.{FindsFirst, IsPickOf, if_linked, node_by, node_by_place, node_in, node_with_link, target_of};
+ghost use Rattle.cluster_steps.specs.FirstPlaces.{IsPickOf, if_linked, node_by, node_in, node_of_hop, node_with_link, target_of};
+ghost use Rattle.cluster_steps.specs.Picker.{FindsBy};
 ghost use Rattle.cluster_calls.specs.Calls.Parts.{at_slot};
-ghost use Rattle.cluster_calls.specs.Calls.Plan.{by_number, is_read, target_candidates};
+ghost use Rattle.cluster_calls.specs.Calls.Plan.{is_read, target_candidates};
 
-use crate::links::Links;
 use crate::node_links::NodeLinks;
 use crate::numbered_map::NumberedMap;
+use crate::picker::Picker;
 use crate::route::Target;
 use cluster_routing::{NodeAddress, ReadRoutingStrategy, Route, SlotAddr, SlotMap};
 use resp_core::{Cause, RedisError};
-use resp_link::ConnectionLike;
 use std::alloc::Global;
 
 /// A node, the place of its link, and whether ASKING goes before the request.
@@ -73,16 +72,15 @@ fn primary(slots: &SlotMap, route: Route) -> Option<&NodeAddress>
 fn node_at_slot<'a>(
     slots: &'a SlotMap,
     route: Route,
-    strategy: Option<&dyn ReadRoutingStrategy>,
-    picked: &mut Vec<NodeAddress>,
+    picker: &mut Picker<&dyn ReadRoutingStrategy>,
 ) -> Result<&'a NodeAddress, RedisError>
-    ensures { result ≢ Err (by_cause Memory)
-        → FindsFirst (strategy_of admits strategy.entry) slots.now (at_slot route)
-        (addresses picked.old.items) (addresses picked.new.items)
+    ensures found { result ≢ Err (by_cause Memory)
+        → FindsBy admits picker.old picker.new slots.now (at_slot route)
         (λ first. node_by (λ node. address node.now) result ≡ node_in first) }
+    ensures kept { picker.new.strategy ≡ picker.old.strategy }
 {
-    if let Some(node) = pick(slots, route, strategy) {
-        picked.push(node.clone()?)?;
+    if let Some(node) = pick(slots, route, picker.strategy) {
+        picker.picked.push(node.clone()?)?;
         return Ok(node);
     }
     match primary(slots, route) {
@@ -91,124 +89,30 @@ fn node_at_slot<'a>(
     }
 }
 
-/// The item with a number among these, modulo their count.
-pub(crate) fn item_among<T>(all: &[T], number: u64) -> Option<&T>
-    ensures { option_map (λ item. item.now) result ≡ by_number number all.now }
-{
-    if all.is_empty() {
-        return None;
-    }
-    Some(&all[(number % all.len() as u64) as usize])
-}
-
-/// The node with a number among all nodes, ascending.
-pub(crate) fn node_by_number<'a>(
-    alloc: Global,
-    slots: &'a SlotMap,
-    number: u64,
-) -> Result<&'a NodeAddress, RedisError>
-    ensures { result ≢ Err (by_cause Memory)
-        → node_by (λ node. address node.now) result ≡ node_by_place (by_number number (all_nodes slots.now)) }
-{
-    let all = slots.addresses_for_all_nodes(alloc)?;
-    match item_among(&all, number) {
-        None => Err(RedisError::from(Cause::NoNode)),
-        Some(node) => Ok(*node),
-    }
-}
-
-/// The node that a part goes to first.
-fn first_node<'a>(
-    alloc: Global,
-    slots: &'a SlotMap,
-    target: &Target,
-    strategy: Option<&dyn ReadRoutingStrategy>,
-    picked: &mut Vec<NodeAddress>,
-) -> Result<&'a NodeAddress, RedisError>
-    ensures { result ≢ Err (by_cause Memory)
-        → FindsFirst (strategy_of admits strategy.entry) slots.now (target_of target.now)
-        (addresses picked.old.items) (addresses picked.new.items)
-        (λ first. node_by (λ node. address node.now) result ≡ node_in first) }
-{
-    match target {
-        Target::Slot(route) => node_at_slot(slots, *route, strategy, picked),
-        Target::Number(number) => node_by_number(alloc, slots, *number),
-    }
-}
-
-/// The node that a part goes to first, and the place of its open link.
+/// The node that a part goes to first, and the place of its open link. The map lists its nodes where
+/// one of them is chosen by a number.
 ///
 /// # Errors
 /// `NoNode` where no node serves it; `NoLink` where no usable link leads to the node; `Memory`.
-pub fn first_hop<L: ConnectionLike>(
-    links: &Links<L>,
+pub fn first_hop<K: NodeLinks>(
     alloc: Global,
-    slots: &SlotMap,
-    target: &Target,
-    strategy: Option<&dyn ReadRoutingStrategy>,
-    picked: &mut Vec<NodeAddress>,
-) -> Result<Hop, RedisError>
-    ensures found { result ≢ Err (by_cause Memory)
-        → FindsFirst (strategy_of admits strategy.entry) slots.now (target_of target.now)
-        (addresses picked.old.items) (addresses picked.new.items) (λ first. node_by (λ p. address p.node) result
-        ≡ node_with_link (open_links (nodes L.seen links.now.nodes.items)) first) }
-    ensures place { IfOk result
-        (λ p. IsOpenAt (nodes L.seen links.now.nodes.items) (address p.node) p.link) }
-    ensures direct { IfOk result (λ p. p.asking ≡ false) }
-    ensures within { IfOk result (λ p. p.link < vec_len links.now.nodes) }
-{
-    first_hop_over(links, alloc, slots, target, strategy, picked)
-}
-
-/// The same for any links.
-///
-/// # Errors
-/// Those of `first_hop`.
-pub fn first_hop_over<K: NodeLinks>(
     links: &K,
-    alloc: Global,
-    slots: &SlotMap,
-    target: &Target,
-    strategy: Option<&dyn ReadRoutingStrategy>,
-    picked: &mut Vec<NodeAddress>,
-) -> Result<Hop, RedisError>
-    ensures found { result ≢ Err (by_cause Memory)
-        → FindsFirst (strategy_of admits strategy.entry) slots.now (target_of target.now)
-        (addresses picked.old.items) (addresses picked.new.items) (λ first. node_by (λ p. address p.node) result
-        ≡ node_with_link (open_links (K.nodes links.now)) first) }
-    ensures place { IfOk result
-        (λ p. IsOpenAt (K.nodes links.now) (address p.node) p.link) }
-    ensures direct { IfOk result (λ p. p.asking ≡ false) }
-    ensures within { IfOk result (λ p. p.link < length (K.nodes links.now)) }
-{
-    let node = first_node(alloc, slots, target, strategy, picked)?;
-    hop_of(links, node)
-}
-
-/// The same over a map that lists its nodes where one of them is chosen by a number.
-///
-/// # Errors
-/// Those of `first_hop`.
-pub fn first_hop_in<K: NodeLinks>(
-    links: &K,
-    alloc: Global,
     slots: &mut NumberedMap,
     target: &Target,
-    strategy: Option<&dyn ReadRoutingStrategy>,
-    picked: &mut Vec<NodeAddress>,
+    picker: &mut Picker<&dyn ReadRoutingStrategy>,
 ) -> Result<Hop, RedisError>
     ensures stays { slots.new ≡ slots.old }
     ensures found { result ≢ Err (by_cause Memory)
-        → FindsFirst (strategy_of admits strategy.entry) slots.old (target_of target.now)
-        (addresses picked.old.items) (addresses picked.new.items) (λ first. node_by (λ p. address p.node) result
-        ≡ node_with_link (open_links (K.nodes links.now)) first) }
+        → FindsBy admits picker.old picker.new slots.old (target_of target.now)
+        (λ first. node_of_hop result ≡ node_with_link (open_links (K.nodes links.now)) first) }
+    ensures kept { picker.new.strategy ≡ picker.old.strategy }
     ensures place { IfOk result
         (λ p. IsOpenAt (K.nodes links.now) (address p.node) p.link) }
     ensures direct { IfOk result (λ p. p.asking ≡ false) }
     ensures within { IfOk result (λ p. p.link < length (K.nodes links.now)) }
 {
     match target {
-        Target::Slot(route) => hop_at_slot(links, slots.map(), *route, strategy, picked),
+        Target::Slot(route) => hop_of(links, node_at_slot(slots.map(), *route, picker)?),
         Target::Number(number) => {
             slots.list_nodes(alloc);
             hop_of(links, slots.node_by_number(alloc, *number)?)
@@ -216,32 +120,10 @@ pub fn first_hop_in<K: NodeLinks>(
     }
 }
 
-/// The node that serves a route, and the place of its open link.
-fn hop_at_slot<K: NodeLinks>(
-    links: &K,
-    slots: &SlotMap,
-    route: Route,
-    strategy: Option<&dyn ReadRoutingStrategy>,
-    picked: &mut Vec<NodeAddress>,
-) -> Result<Hop, RedisError>
-    ensures found { result ≢ Err (by_cause Memory)
-        → FindsFirst (strategy_of admits strategy.entry) slots.now (at_slot route)
-        (addresses picked.old.items) (addresses picked.new.items) (λ first. node_by (λ p. address p.node) result
-        ≡ node_with_link (open_links (K.nodes links.now)) first) }
-    ensures place { IfOk result
-        (λ p. IsOpenAt (K.nodes links.now) (address p.node) p.link) }
-    ensures direct { IfOk result (λ p. p.asking ≡ false) }
-    ensures within { IfOk result (λ p. p.link < length (K.nodes links.now)) }
-{
-    let node = node_at_slot(slots, route, strategy, picked)?;
-    hop_of(links, node)
-}
-
 /// A node, and the place of its open link.
 fn hop_of<K: NodeLinks>(links: &K, node: &NodeAddress) -> Result<Hop, RedisError>
     ensures found { result ≢ Err (by_cause Memory)
-        → node_by (λ p. address p.node) result
-        ≡ if_linked (open_links (K.nodes links.now)) (address node.now) }
+        → node_of_hop result ≡ if_linked (open_links (K.nodes links.now)) (address node.now) }
     ensures place { IfOk result
         (λ p. IsOpenAt (K.nodes links.now) (address p.node) p.link) }
     ensures direct { IfOk result (λ p. p.asking ≡ false) }

@@ -6,7 +6,7 @@ ghost use Rattle.resp_link.specs.TwoCalls.{Receives, Sends};
 
 use crate::at_once::{received_over, sent_over};
 use crate::links::{Links, Told, called, called_one, replaced};
-use crate::node_links::NodeLinks;
+use crate::node_links::{NodeLinks, Wanted};
 use cluster_routing::NodeAddress;
 use resp_core::{RedisError, Value};
 use resp_link::{ConnectionLike, PipelinedLink};
@@ -134,7 +134,7 @@ impl<L: PipelinedLink> KnownLinks<L> {
             (λ before after. Receives before after count result) }
         ensures len { vec_len self.new.nodes ≡ vec_len self.old.nodes }
     {
-        received_over(&mut self.links.nodes, alloc, link, count)
+        received_over(alloc, &mut self.links.nodes, link, count)
     }
 }
 
@@ -152,7 +152,7 @@ impl<L: ConnectionLike> NodeLinks for KnownLinks<L> {
     }
 
     fn is_open_at(&self, index: usize) -> bool {
-        self.links.is_open_at(index)
+        self.links.nodes[index].1.is_open()
     }
 
     fn call(
@@ -160,13 +160,12 @@ impl<L: ConnectionLike> NodeLinks for KnownLinks<L> {
         alloc: Global,
         link: usize,
         bytes: &[u8],
-        offset: usize,
-        count: usize,
+        wanted: Wanted,
     ) -> Result<Vec<Value>, RedisError> {
-        called(&mut self.links.nodes, alloc, link, bytes, offset, count)
+        called(alloc, &mut self.links.nodes, link, bytes, wanted)
     }
 
     fn call_one(&mut self, alloc: Global, link: usize, bytes: &[u8]) -> Result<Value, RedisError> {
-        called_one(&mut self.links.nodes, alloc, link, bytes)
+        called_one(alloc, &mut self.links.nodes, link, bytes)
     }
 }

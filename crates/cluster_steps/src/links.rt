@@ -1,17 +1,16 @@
 //! The links, found by the addresses of their nodes.
 ghost use Rattle.std.specs.List.{list_any};
 ghost use Rattle.std.proofs.Props.{props};
-ghost use Rattle.std.specs.Prelude.{◌≡◌, ◌<◌, ◌++◌, ◌∷◌, [], None, Some, is_some, length, map, not, position, vec_len, IfOk, IfSome, MatchOption, MatchResult, OnErr, OnOk, false, true};
+ghost use Rattle.std.specs.Prelude.{◌≡◌, ◌<◌, ◌++◌, ◌∷◌, [], None, Some, is_some, length, map, not, position, vec_len, IfOk, IfSome, OnErr, OnOk, false, true};
 ghost use Rattle.resp_core.specs.View.{view};
 ghost use Rattle.cluster_routing.specs.Address.{same_address};
 ghost use Rattle.cluster_routing.specs.Seen.{address, addresses};
-ghost use Rattle.cluster_calls.specs.Links.World.{nodes, open_links, place_at, is_linked, has_repeats, addresses_of, CallsLink, Called, one_reply, tree_result, tree_results};
-ghost use Rattle.cluster_calls.specs.Links.Places.{IsOpenAt};
+ghost use Rattle.cluster_calls.specs.Links.World.{nodes, place_at, has_repeats, addresses_of, CallsLink, Called, one_reply, tree_result, tree_results};
 ghost use Rattle.cluster_steps.specs.LinkTable.{knows_all, knows_links};
 ghost use Rattle.cluster_steps.specs.declared.links.Told.TheVariants.{Absent};
 ghost use Rattle.indexmap.specs.IndexSet.{insert_key};
 
-use crate::node_links::NodeLinks;
+use crate::node_links::{NodeLinks, Wanted};
 use cluster_routing::NodeAddress;
 use indexmap::IndexSet;
 use resp_core::{RedisError, Value};
@@ -188,49 +187,6 @@ impl<L: ConnectionLike> Links<L> {
             None
         }
     }
-
-    /// The place of a node whose link is open.
-    pub fn open_place(&self, node: &NodeAddress) -> Option<usize>
-        ensures place { MatchOption result
-            (is_linked (open_links (nodes L.seen self.now.nodes.items)) (address node.now) ≡ false)
-            (λ link. IsOpenAt (nodes L.seen self.now.nodes.items) (address node.now) link) }
-        ensures within { IfSome result (λ link. link < vec_len self.now.nodes) }
-    {
-        NodeLinks::open_place(self, node)
-    }
-
-    /// One link call of the node at this place: it sends the bytes, drops `offset` replies, and
-    /// answers the `count` replies behind them.
-    pub fn call(
-        &mut self,
-        alloc: Global,
-        link: usize,
-        bytes: &[u8],
-        offset: usize,
-        count: usize,
-    ) -> Result<Vec<Value>, RedisError>
-        requires { link < vec_len self.old.nodes }
-        ensures call { CallsLink (nodes L.seen self.old.nodes.items) (nodes L.seen self.new.nodes.items) link
-            (λ before after. Called before after bytes.now offset count (tree_results view result)) }
-        ensures len { vec_len self.new.nodes ≡ vec_len self.old.nodes }
-    {
-        called(&mut self.nodes, alloc, link, bytes, offset, count)
-    }
-
-    /// One link call of the node at this place for one reply: it sends the bytes, and answers their reply.
-    pub fn call_one(
-        &mut self,
-        alloc: Global,
-        link: usize,
-        bytes: &[u8],
-    ) -> Result<Value, RedisError>
-        requires { link < vec_len self.old.nodes }
-        ensures call { CallsLink (nodes L.seen self.old.nodes.items) (nodes L.seen self.new.nodes.items) link
-            (λ before after. Called before after bytes.now 0 1 (one_reply (tree_result view result))) }
-        ensures len { vec_len self.new.nodes ≡ vec_len self.old.nodes }
-    {
-        called_one(&mut self.nodes, alloc, link, bytes)
-    }
 }
 
 impl<L: ConnectionLike> NodeLinks for Links<L> {
@@ -251,14 +207,13 @@ impl<L: ConnectionLike> NodeLinks for Links<L> {
         alloc: Global,
         link: usize,
         bytes: &[u8],
-        offset: usize,
-        count: usize,
+        wanted: Wanted,
     ) -> Result<Vec<Value>, RedisError> {
-        Links::call(self, alloc, link, bytes, offset, count)
+        called(alloc, &mut self.nodes, link, bytes, wanted)
     }
 
     fn call_one(&mut self, alloc: Global, link: usize, bytes: &[u8]) -> Result<Value, RedisError> {
-        Links::call_one(self, alloc, link, bytes)
+        called_one(alloc, &mut self.nodes, link, bytes)
     }
 }
 
@@ -277,37 +232,25 @@ pub(crate) fn replaced<L: ConnectionLike>(
 
 /// One link call of the node at this place.
 pub(crate) fn called<L: ConnectionLike>(
-    links: &mut [(NodeAddress, L)],
     alloc: Global,
+    links: &mut [(NodeAddress, L)],
     index: usize,
     bytes: &[u8],
-    offset: usize,
-    count: usize,
+    wanted: Wanted,
 ) -> Result<Vec<Value>, RedisError>
     requires { index < length links.old }
     ensures { CallsLink (nodes L.seen links.old) (nodes L.seen links.new) index
-        (λ before after. Called before after bytes.now offset count (tree_results view result)) }
+        (λ before after. Called before after bytes.now wanted.offset wanted.count
+        (tree_results view result)) }
 {
     let link = &mut links[index].1;
-    call(link, alloc, bytes, offset, count)
-}
-
-fn call<L: ConnectionLike>(
-    link: &mut L,
-    alloc: Global,
-    bytes: &[u8],
-    offset: usize,
-    count: usize,
-) -> Result<Vec<Value>, RedisError>
-    ensures { Called (L.seen link.old) (L.seen link.new) bytes.now offset count (tree_results view result) }
-{
-    link.req_packed_commands(alloc, bytes, offset, count)
+    link.req_packed_commands(alloc, bytes, wanted.offset, wanted.count)
 }
 
 /// One link call of the node at this place for one reply.
 pub(crate) fn called_one<L: ConnectionLike>(
-    links: &mut [(NodeAddress, L)],
     alloc: Global,
+    links: &mut [(NodeAddress, L)],
     index: usize,
     bytes: &[u8],
 ) -> Result<Value, RedisError>
@@ -316,16 +259,6 @@ pub(crate) fn called_one<L: ConnectionLike>(
         (λ before after. Called before after bytes.now 0 1 (one_reply (tree_result view result))) }
 {
     let link = &mut links[index].1;
-    call_one(link, alloc, bytes)
-}
-
-fn call_one<L: ConnectionLike>(
-    link: &mut L,
-    alloc: Global,
-    bytes: &[u8],
-) -> Result<Value, RedisError>
-    ensures { Called (L.seen link.old) (L.seen link.new) bytes.now 0 1 (one_reply (tree_result view result)) }
-{
     link.req_packed_command(alloc, bytes)
 }
 

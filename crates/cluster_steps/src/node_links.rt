@@ -9,6 +9,13 @@ use cluster_routing::NodeAddress;
 use resp_core::{RedisError, Value};
 use std::alloc::Global;
 
+/// The replies that a link call is to answer: so many, behind the first ones, which it drops.
+#[derive(Clone, Copy)]
+pub struct Wanted {
+    pub offset: usize,
+    pub count: usize,
+}
+
 /// The links of a client, one for each node.
 pub trait NodeLinks {
     ghost use Rattle.std.specs.Prelude.{List};
@@ -27,19 +34,19 @@ pub trait NodeLinks {
         requires { index < length (nodes self.now) }
         ensures { option_map (λ (node : Node). node.link.usable) (slice_get (nodes self.now) index) ≡ Some result };
 
-    /// One link call of the node at this place: it sends the bytes, drops `offset` replies, and
-    /// answers the `count` replies behind them.
+    /// One link call of the node at this place: it sends the bytes, and answers the replies that are
+    /// wanted.
     fn call(
         &mut self,
         alloc: Global,
         link: usize,
         bytes: &[u8],
-        offset: usize,
-        count: usize,
+        wanted: Wanted,
     ) -> Result<Vec<Value>, RedisError>
         requires { link < length (nodes self.old) }
         ensures call { CallsLink (nodes self.old) (nodes self.new) link
-            (λ before after. Called before after bytes.now offset count (tree_results view result)) }
+            (λ before after. Called before after bytes.now wanted.offset wanted.count
+            (tree_results view result)) }
         ensures len { length (nodes self.new) ≡ length (nodes self.old) };
 
     /// One link call of the node at this place for one reply: it sends the bytes, and answers their reply.

@@ -8,7 +8,6 @@ ghost use Rattle.cluster_routing.specs.Seen.{address};
 ghost use Rattle.cluster_calls.specs.Calls.Plan.{by_number};
 ghost use Rattle.cluster_steps.specs.FirstPlaces.{node_by, node_by_place};
 
-use crate::hop::{item_among, node_by_number};
 use cluster_routing::{NodeAddress, NodePlace, SlotMap};
 use resp_core::{Cause, RedisError};
 use std::alloc::Global;
@@ -35,6 +34,32 @@ impl Model for NumberedMap {
     ghost view = { λ m. m.map };
 
     ghost invariant = { λ m. IfSome m.all (λ all. AreOfAll m.map all.items) };
+}
+
+/// The item with a number among these, modulo their count.
+fn item_among<T>(all: &[T], number: u64) -> Option<&T>
+    ensures { option_map (λ item. item.now) result ≡ by_number number all.now }
+{
+    if all.is_empty() {
+        return None;
+    }
+    Some(&all[(number % all.len() as u64) as usize])
+}
+
+/// The node with a number among all nodes, ascending.
+fn node_by_number<'a>(
+    alloc: Global,
+    slots: &'a SlotMap,
+    number: u64,
+) -> Result<&'a NodeAddress, RedisError>
+    ensures { result ≢ Err (by_cause Memory)
+        → node_by (λ node. address node.now) result ≡ node_by_place (by_number number (all_nodes slots.now)) }
+{
+    let all = slots.addresses_for_all_nodes(alloc)?;
+    match item_among(&all, number) {
+        None => Err(RedisError::from(Cause::NoNode)),
+        Some(node) => Ok(*node),
+    }
 }
 
 impl NumberedMap {

@@ -41,8 +41,7 @@ pub fn prepared_in_order(
         (λ s. fits_order (option_map (λ o. o.now) order) (length s.routes.items) ≡ true) }
     ensures dispatches { IfOk result
         (λ p. p.dispatches.items ≡ in_order (option_map (λ o. o.now) order.entry) prepared.dispatches.items) }
-    ensures split { IfOk result
-        (λ p. option_map shown_split p.split
+    ensures split { IfOk result (λ p. option_map shown_split p.split
         ≡ option_map (routes_in_order (option_map (λ o. o.now) order.entry))
         (option_map shown_split prepared.split)) }
 {

@@ -119,7 +119,7 @@ fn has_bad_names(options: &StreamReadOptions) -> bool
     }
 }
 
-// One argument, which is not the word behind which the keys stand.
+/// One argument, which is not the word behind which the keys stand.
 fn is_name(name: &[Vec<u8>]) -> bool
     ensures { result ≡ tasks.is_name (texts name.now) }
 {

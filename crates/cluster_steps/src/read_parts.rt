@@ -8,6 +8,7 @@ ghost use Rattle.cluster_calls.specs.Links.Typed.{streams_by};
 ghost use Rattle.cluster_steps.specs.FirstPlaces.{part_of};
 ghost use Rattle.cluster_steps.specs.Reads.{found_at, lent_streams, part_at, read_places, streams_in};
 
+use crate::request::Request;
 use crate::route::{Part, Target};
 use cluster_routing::{Route, group_keys_by_slot, role_of};
 use resp_args::ToSingleRedisArg;
@@ -101,8 +102,8 @@ fn read_part(
 {
     let part = streams_at(alloc, streams, positions)?;
     let command = commands::xread(alloc, &part, options)?;
-    Ok(Part {
-        target: Target::Slot(route),
+    Ok(Request {
+        to: Target::Slot(route),
         args: command.wire_args()?,
     })
 }

@@ -14,7 +14,7 @@ use std::alloc::{AllocError, Global};
 pub struct Ready {
     pub dispatch: Dispatch,
     pub bytes: Vec<u8>,
-    ghost packed: { bytes.items ≡ outgoing_for dispatch.hop.asking (texts dispatch.args.items) },
+    ghost packed: { bytes.items ≡ outgoing_for dispatch.to.asking (texts dispatch.args.items) },
 }
 
 /// The requests that go out over the link at one place, and their bytes.
@@ -80,7 +80,7 @@ fn outgoing_for(alloc: Global, args: &[Vec<u8>], asking: bool) -> Result<Vec<u8>
 fn packed(alloc: Global, dispatch: Dispatch) -> Result<Ready, AllocError>
     ensures { IfOk result (λ r. r.dispatch ≡ dispatch) }
 {
-    let bytes = outgoing_for(alloc, &dispatch.args, dispatch.hop.asking)?;
+    let bytes = outgoing_for(alloc, &dispatch.args, dispatch.to.asking)?;
     Ok(Ready { dispatch, bytes })
 }
 

@@ -10,6 +10,7 @@ ghost use Rattle.cluster_calls.specs.Calls.Parts.{part_to, parts_of};
 ghost use Rattle.cluster_steps.specs.CodeParts.{part_targets, routed_at, routed_part, split_in, targets_by, targets_in_direction};
 ghost use Rattle.cluster_steps.specs.FirstPlaces.{part_of, target_of};
 
+use crate::request::Request;
 use cluster_routing::{Direction, Route, SplitParts};
 use resp_args::Cmd;
 use resp_core::{Cause, RedisError};
@@ -25,11 +26,7 @@ pub enum Target {
 }
 
 /// A command, or a part of one, as it stands on the wire, and where it is to go first.
-#[derive(Drop)]
-pub struct Part {
-    pub target: Target,
-    pub args: Vec<Vec<u8>>,
-}
+pub type Part = Request<Target>;
 
 /// Where the parts of a command are to go.
 #[derive(Drop)]
@@ -95,8 +92,8 @@ pub fn targets_by(direction: Direction, number: u64) -> Result<Targets, RedisErr
 pub fn whole_part(cmd: &Cmd, target: Target) -> Result<Part, AllocError>
     ensures { IfOk result (λ p. part_of p ≡ part_to (sent cmd.now) (target_of target)) }
 {
-    Ok(Part {
-        target,
+    Ok(Request {
+        to: target,
         args: cmd.wire_args()?,
     })
 }
@@ -127,8 +124,8 @@ fn push_parts(parts: &mut Vec<Part>, routed: Vec<(Route, Vec<Vec<u8>>)>) -> Resu
         ≡ map part_of parts.old.items ++ map routed_part (shown_routed routed.items)) }
 {
     'routes: for (route, args) in routed {
-        parts.push(Part {
-            target: Target::Slot(route),
+        parts.push(Request {
+            to: Target::Slot(route),
             args,
         })?;
     }

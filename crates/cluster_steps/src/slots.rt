@@ -12,6 +12,7 @@ ghost use Rattle.cluster_steps.specs.Groups.{request_in};
 
 use crate::dispatch::Dispatch;
 use crate::hop::Hop;
+use crate::request::Request;
 use cluster_routing::{NodeAddress, SlotMap, parse_slots, slot_cmd};
 use resp_core::{RedisError, Value};
 use std::alloc::{AllocError, Global};
@@ -24,15 +25,15 @@ pub fn slots_dispatch(
 ) -> Result<Dispatch, AllocError>
     ensures request { IfOk result
         (λ d. request_in d ≡ record { node = address node.now; args = slots_command; asking = false }) }
-    ensures place { IfOk result (λ d. d.hop.link ≡ link) }
+    ensures place { IfOk result (λ d. d.to.link ≡ link) }
 {
-    let hop = Hop {
+    let to = Hop {
         node: node.clone()?,
         link,
         asking: false,
     };
-    Ok(Dispatch {
-        hop,
+    Ok(Request {
+        to,
         args: slot_cmd(alloc)?.wire_args()?,
     })
 }

@@ -7,16 +7,14 @@ ghost use Rattle.cluster_routing.specs.Address.{address_read};
 ghost use Rattle.cluster_routing.specs.Seen.{address};
 ghost use Rattle.cluster_calls.specs.Links.Log.{is_data};
 ghost use Rattle.cluster_calls.specs.Links.Reply.{error_sort, redirect_target, sort_of};
-ghost use Rattle.cluster_calls.specs.Links.World.{nodes, open_links};
+ghost use Rattle.cluster_calls.specs.Links.World.{open_links};
 ghost use Rattle.cluster_steps.specs.Turns.{next_by, goes_on, LeadsOn, TurnsBy, turns_on, TurnsOn};
 ghost use Rattle.cluster_calls.specs.Calls.Redirects.{Stays, hop_by_link, next_of, sort_next};
 
 use crate::hop::Hop;
-use crate::links::Links;
 use crate::node_links::NodeLinks;
 use cluster_routing::NodeAddress;
-use resp_core::{Cause, ErrorKind, RedisError, ServerError, ServerErrorKind, Value};
-use resp_link::ConnectionLike;
+use resp_core::{Cause, RedisError, ServerError, ServerErrorKind, Value};
 use std::alloc::Global;
 
 /// Where a reply sends its request on.
@@ -45,10 +43,7 @@ fn address_of(alloc: Global, text: &str) -> Result<Option<NodeAddress>, RedisErr
 {
     match NodeAddress::try_from(alloc, text) {
         Ok(node) => Ok(Some(node)),
-        Err(e) => match e.kind() {
-            ErrorKind::Memory => Err(RedisError::from(Cause::Memory)),
-            _ => Ok(None),
-        },
+        Err(e) => { if e.is_memory() { Err(e) } else { Ok(None) } }
     }
 }
 
@@ -137,25 +132,7 @@ pub(crate) fn next_place<K: NodeLinks>(
 }
 
 /// The answer that a reply is, the refusal that it tells, or where it sends its request on.
-pub fn turn_by<L: ConnectionLike>(
-    alloc: Global,
-    links: &Links<L>,
-    redirects: u16,
-    reply: Value,
-) -> Result<Turn, RedisError>
-    ensures turns { result ≢ Err (by_cause Memory)
-        → TurnsBy (next_of (open_links (nodes L.seen links.now.nodes.items)) redirects (Some (view reply)))
-        (view reply) result }
-    ensures on { IfOk result (λ turn. TurnsOn (nodes L.seen links.now.nodes.items) turn) }
-    ensures some { IfOk result (λ turn. turns_on turn ≡ true → redirects ≢ 0) }
-    // Also where memory is refused: the reply is or holds an error.
-    ensures error { IfErr result (λ e. is_data (sort_of (view reply)) ≡ false) }
-{
-    turn_over(alloc, links, redirects, reply)
-}
-
-/// The same for any links.
-pub fn turn_over<K: NodeLinks>(
+pub fn turn_by<K: NodeLinks>(
     alloc: Global,
     links: &K,
     redirects: u16,

@@ -2,6 +2,4 @@
 #![tactic(auto)]
 
 #[cfg(test)]
-mod groups_of_places;
-#[cfg(test)]
-mod outside_links;
+mod tests;

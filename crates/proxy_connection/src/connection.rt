@@ -119,7 +119,7 @@ impl<T: Translator<C, V>, C: Command, V: Written> Connection<T, C, V> {
         Ok(progress)
     }
 
-    // Reads the words of the next command, where nothing is pending; or why there are none.
+    /// Reads the words of the next command, where nothing is pending; or why there are none.
     fn hear(&mut self) -> Result<Option<Progress>, AllocError>
         ensures stays { AlwaysStays (ways C.overlaps V.written T.Translator) self.old self.new }
         ensures none { IfOk result (λ progress. IfSome progress (λ why.
@@ -149,7 +149,7 @@ impl<T: Translator<C, V>, C: Command, V: Written> Connection<T, C, V> {
         }
     }
 
-    // What the words that were read mean, or what is answered to a fault.
+    /// What the words that were read mean, or what is answered to a fault.
     fn understand(&mut self, alloc: Global) -> Result<(), AllocError>
         requires { is_nothing self.old.pending ≡ false }
         ensures entry { OnOk result (HoldsEntry self.new.pending) }
@@ -171,7 +171,7 @@ impl<T: Translator<C, V>, C: Command, V: Written> Connection<T, C, V> {
         Ok(())
     }
 
-    // Puts the entry that is pending into the guest's queue.
+    /// Puts the entry that is pending into the guest's queue.
     fn put(&mut self, proxy: &mut Proxy<C, V>) -> Result<Progress, AllocError>
         requires { HoldsEntry self.old.pending }
         ensures ok { IfOk result (λ progress. AdvancesIn (ways C.overlaps V.written T.Translator) C.bytes V.bytes

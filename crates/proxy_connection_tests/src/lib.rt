@@ -2,8 +2,4 @@
 #![tactic(auto)]
 
 #[cfg(test)]
-mod guests;
-#[cfg(test)]
-mod memory;
-#[cfg(test)]
-mod pieces;
+mod tests;

@@ -45,7 +45,7 @@ impl<C: Command, V: Bytes> Proxy<C, V> {
             return Err(JoinRefusal::Full);
         }
         if number < self.guests.len() {
-            renew(&mut self.guests, alloc, number, true);
+            renew(alloc, &mut self.guests, number, true);
             return Ok(number);
         }
         match self.add(alloc) {
@@ -54,7 +54,7 @@ impl<C: Command, V: Bytes> Proxy<C, V> {
         }
     }
 
-    // Lets a guest in behind the others.
+    /// Lets a guest in behind the others.
     fn add(&mut self, alloc: Global) -> Result<(), AllocError>
         ensures queues { OnOk result (self.new.queues ≡ self.old.queues ++ [] ∷ []) }
         ensures openings { OnOk result (self.new.openings ≡ self.old.openings ++ true ∷ []) }
@@ -70,7 +70,7 @@ impl<C: Command, V: Bytes> Proxy<C, V> {
         Ok(())
     }
 
-    // Whether a guest is there.
+    /// Whether a guest is there.
     fn is_open(&self, guest: usize) -> bool
         ensures is_there { result ≡ is_open_at self.now.openings guest }
     {
@@ -140,7 +140,7 @@ impl<C: Command, V: Bytes> Proxy<C, V> {
         if self.guests.len() <= guest {
             return;
         }
-        renew(&mut self.guests, alloc, guest, false);
+        renew(alloc, &mut self.guests, guest, false);
     }
 
     /// Asks the servers all that waits, in one call, and leaves each guest's queue as its outcomes say.

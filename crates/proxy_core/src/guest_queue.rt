@@ -20,7 +20,7 @@ pub(crate) struct GuestQueue<C, V> {
     pub(crate) entries: VecDeque<Entry<C, V>>,
 }
 
-// How many bytes a queue takes.
+/// How many bytes a queue takes.
 fn bytes_in<C: Bytes, V: Bytes>(entries: &VecDeque<Entry<C, V>>) -> u128
     ensures { result ≡ queue_bytes C.bytes V.bytes entries.now.items }
 {

@@ -16,7 +16,7 @@ use crate::servers::{Servers, Waiting, gather_guest};
 use std::alloc::{AllocError, Global};
 use std::collections::VecDeque;
 
-// What waits of all guests, guest behind guest.
+/// What waits of all guests, guest behind guest.
 fn gather<C, V>(
     alloc: Global,
     guests: &[GuestQueue<C, V>],
@@ -105,8 +105,8 @@ pub(crate) fn take_from<C: Bytes, V: Bytes>(
 
 /// Drops what is held of a guest, which is there from now on or not.
 pub(crate) fn renew<C: Bytes, V: Bytes>(
-    guests: &mut [GuestQueue<C, V>],
     alloc: Global,
+    guests: &mut [GuestQueue<C, V>],
     guest: usize,
     is_there: bool,
 )

@@ -49,7 +49,7 @@ pub enum Answer<C, V> {
 }
 
 impl<C: Command, V: Bytes> Proxy<C, V> {
-    // What a call answers.
+    /// What a call answers.
     fn answer_to<S: Servers<C, V>>(
         &mut self,
         alloc: Global,

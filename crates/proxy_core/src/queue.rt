@@ -41,7 +41,7 @@ pub(crate) fn may_be_done(fate: Fate) -> bool
     }
 }
 
-// Whether one of the first `count` commands behind `command` overtook it.
+/// Whether one of the first `count` commands behind `command` overtook it.
 fn is_overtaken<C: Command, V>(
     command: &C,
     behind: &VecDeque<Entry<C, V>>,
@@ -69,8 +69,8 @@ fn is_overtaken<C: Command, V>(
     false
 }
 
-// Whether a command that was not done was overtaken: as the next verdict says, of those that the first such
-// command asks for, or by a look at all behind it where none can be told.
+/// Whether a command that was not done was overtaken: as the next verdict says, of those that the first such
+/// command asks for, or by a look at all behind it where none can be told.
 fn next_verdict<C: Command, V>(
     told: &mut Vec<bool>,
     command: &C,
@@ -95,7 +95,7 @@ fn next_verdict<C: Command, V>(
     }
 }
 
-// What becomes of a command that waits, with `count` entries behind it.
+/// What becomes of a command that waits, with `count` entries behind it.
 fn settle_one<C: Command, V: Drop>(
     command: C,
     behind: &VecDeque<Entry<C, V>>,

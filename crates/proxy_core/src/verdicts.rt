@@ -10,7 +10,7 @@ use crate::queue::{Entry, may_be_done};
 use std::alloc::AllocError;
 use std::collections::VecDeque;
 
-// How many of the first `count` entries wait.
+/// How many of the first `count` entries wait.
 fn waiting_count<C, V>(entries: &VecDeque<Entry<C, V>>, count: usize) -> usize
     requires { count ≤ length entries.now.items }
     ensures { result ≡ length (waiting (take count entries.now.items)) }
@@ -25,9 +25,9 @@ fn waiting_count<C, V>(entries: &VecDeque<Entry<C, V>>, count: usize) -> usize
     waiting
 }
 
-// Whether each command that was not done was overtaken, of the first `count` behind this one from the last
-// to the first, and then of this one. Each is looked up among the slots of what was done behind it, which is
-// the same as to compare it with each of those: commands overlap where they share a slot, or one has none.
+/// Whether each command that was not done was overtaken, of the first `count` behind this one from the last
+/// to the first, and then of this one. Each is looked up among the slots of what was done behind it, which is
+/// the same as to compare it with each of those: commands overlap where they share a slot, or one has none.
 fn verdicts<C: Command, V>(
     command: &C,
     behind: &VecDeque<Entry<C, V>>,

@@ -88,7 +88,7 @@ impl<T: Translator<C, V>, C: Command, V: Written> Frontend<T, C, V> {
         ensures limits { self.new.limits ≡ self.old.limits }
         ensures shares { self.new.proxy.limits ≡ self.old.proxy.limits }
     {
-        advance_at(&mut self.connections, alloc, guest, &mut self.proxy)
+        advance_at(alloc, &mut self.connections, guest, &mut self.proxy)
     }
 
     /// Puts behind `out` the bytes that are to be written to a guest next: those of one reply. Whether there was a

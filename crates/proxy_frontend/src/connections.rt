@@ -65,8 +65,8 @@ pub(crate) fn feed_at<T: Translator<C, V>, C: Command, V: Written>(
 
 /// Takes the next command of a guest.
 pub(crate) fn advance_at<T: Translator<C, V>, C: Command, V: Written>(
-    connections: &mut Vec<Option<Connection<T, C, V>>>,
     alloc: Global,
+    connections: &mut Vec<Option<Connection<T, C, V>>>,
     guest: usize,
     proxy: &mut Proxy<C, V>,
 ) -> Result<Progress, AllocError>
@@ -114,7 +114,7 @@ pub(crate) fn write_at<T: Translator<C, V>, C: Command, V: Written>(
     }
 }
 
-// Puts behind `out` what is to be written next of a connection.
+/// Puts behind `out` what is to be written next of a connection.
 fn write_next<T: Translator<C, V>, C: Command, V: Written>(
     connection: &mut Connection<T, C, V>,
     proxy: &mut Proxy<C, V>,

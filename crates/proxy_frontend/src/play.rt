@@ -52,7 +52,7 @@ pub enum Answer {
 }
 
 impl<T: Translator<C, V>, C: Command, V: Written> Frontend<T, C, V> {
-    // What is to be written to a guest next.
+    /// What is to be written to a guest next.
     fn next_of(&mut self, alloc: Global, guest: usize) -> Result<Option<Vec<u8>>, AllocError>
         ensures ok { IfOk result (λ next. MatchOption next
             (Writes (ways C.overlaps V.written T.Translator) self.old self.new guest [] [] false)
@@ -71,7 +71,7 @@ impl<T: Translator<C, V>, C: Command, V: Written> Frontend<T, C, V> {
         }
     }
 
-    // What a call answers.
+    /// What a call answers.
     fn answer_to<S: Servers<C, V>>(
         &mut self,
         alloc: Global,

@@ -2,6 +2,4 @@
 #![tactic(auto)]
 
 #[cfg(test)]
-mod guests;
-#[cfg(test)]
-mod memory;
+mod tests;

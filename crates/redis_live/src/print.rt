@@ -25,8 +25,8 @@ struct Todo<'a> {
 
 /// Appends a reply and a line's end.
 pub(crate) fn reply(
-    output: &mut Vec<u8>,
     alloc: Global,
+    output: &mut Vec<u8>,
     style: Style,
     value: &Value,
 ) -> Result<()> {
@@ -42,14 +42,14 @@ pub(crate) fn reply(
             break;
         };
         output.extend_from_slice(next.before.as_bytes())?;
-        print_next(output, alloc, style, &mut todo, next)?;
+        print_next(alloc, output, style, &mut todo, next)?;
     }
     Ok(())
 }
 
 fn print_next<'a>(
-    output: &mut Vec<u8>,
     alloc: Global,
+    output: &mut Vec<u8>,
     style: Style,
     todo: &mut Vec<Todo<'a>>,
     next: Todo<'a>,

@@ -95,7 +95,7 @@ impl<L: ConnectionLike + Drop> Session<L> {
         };
         let answer = pipeline.query(alloc, &mut self.client);
         match answer {
-            Ok(value) => reply(&mut self.output, alloc, self.style, &value),
+            Ok(value) => reply(alloc, &mut self.output, self.style, &value),
             Err(error) => self.tell_errors(alloc, error),
         }
     }
@@ -111,7 +111,7 @@ impl<L: ConnectionLike + Drop> Session<L> {
 
     fn tell(&mut self, alloc: Global, answer: Result<Value, RedisError>) -> Result<()> {
         match answer {
-            Ok(value) => reply(&mut self.output, alloc, self.style, &value),
+            Ok(value) => reply(alloc, &mut self.output, self.style, &value),
             Err(error) => self.tell_refusal(&error),
         }
     }

@@ -81,7 +81,7 @@ impl Arguments {
         self.ends.len()
     }
 
-    // How many bytes the arguments have in all; a gap has none.
+    /// How many bytes the arguments have in all; a gap has none.
     pub(crate) fn byte_count(&self) -> usize {
         self.buffer.len()
     }
@@ -112,7 +112,7 @@ impl Arguments {
     }
 }
 
-// Where the last argument ends.
+/// Where the last argument ends.
 fn last_end(ends: &[Arg<usize>]) -> usize
     ensures { result ≡ end_of 0 ends.now }
 {
@@ -132,7 +132,7 @@ fn end_after(last: usize, end: Arg<usize>) -> usize
     }
 }
 
-// Appends bytes. Where the buffer takes no memory yet, it gets room for more than these.
+/// Appends bytes. Where the buffer takes no memory yet, it gets room for more than these.
 fn append(buffer: &mut Vec<u8>, bytes: &[u8]) -> Result<(), AllocError>
     ensures items { buffer.new.items
         ≡ (if is_ok result then buffer.old.items ++ bytes.now else buffer.old.items) }
@@ -190,7 +190,7 @@ impl<'a> Model for ArgsIter<'a> {
 }
 
 impl<'a> ArgsIter<'a> {
-    // How many arguments are left.
+    /// How many arguments are left.
     pub(crate) fn count_left(&self) -> usize {
         self.ends.len()
     }

@@ -72,7 +72,7 @@ pub fn from_redis_value_ref<T: FromRedisValue>(
     T::from_redis_value_ref(alloc, value)
 }
 
-// A list of one.
+/// A list of one.
 fn one<T: Drop>(alloc: Global, value: T) -> Result<Vec<T>, ParsingError>
     ensures { MatchResult result (λ v. v.items ≡ value ∷ []) (λ e. e ≡ no_memory) }
 {

@@ -35,7 +35,7 @@ pub fn pack_command_into(out: &mut Vec<u8>, args: &[Vec<u8>]) -> Result<(), Allo
     pack_args(out, args)
 }
 
-// The line of the arguments' count, and behind it the arguments.
+/// The line of the arguments' count, and behind it the arguments.
 fn pack_args(out: &mut Vec<u8>, args: &[Vec<u8>]) -> Result<(), AllocError>
     ensures { MatchResult result
         (λ _. out.new.items ≡ out.old.items ++ packed (map (λ a. a.items) args.now))
@@ -45,7 +45,7 @@ fn pack_args(out: &mut Vec<u8>, args: &[Vec<u8>]) -> Result<(), AllocError>
     pack_each(out, args)
 }
 
-// Room for so many arguments of so many bytes in all, once they are packed.
+/// Room for so many arguments of so many bytes in all, once they are packed.
 fn packed_room(count: usize, bytes: usize) -> usize {
     count
         .saturating_add(1)
@@ -72,7 +72,7 @@ fn pack_each(out: &mut Vec<u8>, args: &[Vec<u8>]) -> Result<(), AllocError>
     Ok(())
 }
 
-// Where memory is refused, some more bytes stand behind those of the buffer.
+/// Where memory is refused, some more bytes stand behind those of the buffer.
 pub(crate) fn pack(out: &mut Vec<u8>, args: &Arguments, cursor: u64) -> Result<(), AllocError>
     ensures { MatchResult result (λ _. out.new.items ≡ out.old.items ++ packed (wire cursor args.now))
         (λ _. (more : List ℕ) × (out.new.items ≡ out.old.items ++ more)) }
@@ -104,7 +104,7 @@ fn pack_one(out: &mut Vec<u8>, arg: Arg<&[u8]>, cursor: u64) -> Result<(), Alloc
     }
 }
 
-// A kind of length, the length in decimal and the end of its line.
+/// A kind of length, the length in decimal and the end of its line.
 fn write_count(out: &mut Vec<u8>, kind: u8, count: usize) -> Result<(), AllocError>
     ensures { MatchResult result
         (λ _. out.new.items ≡ out.old.items ++ (kind ∷ decimal count ++ codes "\r\n"))
@@ -119,7 +119,7 @@ fn write_count(out: &mut Vec<u8>, kind: u8, count: usize) -> Result<(), AllocErr
     }
 }
 
-// The line of a count below 10, in one piece.
+/// The line of a count below 10, in one piece.
 fn write_digit(out: &mut Vec<u8>, kind: u8, count: u8) -> Result<(), AllocError>
     requires { count < 10 }
     ensures { MatchResult result
@@ -129,7 +129,7 @@ fn write_digit(out: &mut Vec<u8>, kind: u8, count: u8) -> Result<(), AllocError>
     out.extend_from_slice(&[kind, b'0' + count, b'\r', b'\n'])
 }
 
-// The line of a count of two digits, in one piece.
+/// The line of a count of two digits, in one piece.
 fn write_two_digits(out: &mut Vec<u8>, kind: u8, count: u8) -> Result<(), AllocError>
     requires { 10 ≤ count × (count < 100) }
     ensures { MatchResult result
@@ -139,7 +139,7 @@ fn write_two_digits(out: &mut Vec<u8>, kind: u8, count: u8) -> Result<(), AllocE
     out.extend_from_slice(&[kind, b'0' + count / 10, b'0' + count % 10, b'\r', b'\n'])
 }
 
-// The line of a count of three digits and more.
+/// The line of a count of three digits and more.
 #[inline(never)]
 fn write_long_count(out: &mut Vec<u8>, kind: u8, count: usize) -> Result<(), AllocError>
     ensures { MatchResult result

@@ -72,7 +72,7 @@ pub trait ToSingleRedisArg: ToRedisArgs {
     ghost one_argument: { (x : Self) → Self.args x ≡ arg x ∷ [] };
 }
 
-// The arguments of each item in turn.
+/// The arguments of each item in turn.
 fn write_each<T: ToRedisArgs, W: RedisWrite>(items: &[T], out: &mut W) -> Result<(), AllocError>
     ensures writes { Writes result (W.written out.old) (flat_map T.args items.now) (W.written out.new) }
     ensures keeps { W.beside out.new ≡ W.beside out.old }

@@ -2,10 +2,4 @@
 #![tactic(auto)]
 
 #[cfg(test)]
-mod commands;
-#[cfg(test)]
-mod conversions;
-#[cfg(test)]
-mod memory;
-#[cfg(test)]
-mod writers;
+mod tests;

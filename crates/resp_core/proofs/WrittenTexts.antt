@@ -6,13 +6,12 @@ use Rattle.std.proofs.lemmas.List.Folds.{list_all-append}
 use Rattle.std.specs.List.{list_all}
 use Rattle.resp_core.specs.Printed.{joined, after_code}
 use Rattle.std.proofs.lemmas.Str.{is_utf8-from_IsUtf8}
-use Rattle.std.specs.Result.{MatchResult}
 use Rattle.std.specs.Str.{is_utf8, IsUtf8}
 use Rattle.resp_core.specs.declared.value.Value.{Value}
 use Rattle.resp_core.specs.declared.value.write.Protocol.{Protocol}
 use Rattle.resp_core.specs.Trees.{ErrorText, Tree, attribute, no_trees, tree, Pairs, no_pairs, pair}
 use Rattle.resp_core.specs.View.{view, trees_view, pairs_view, trees_of, pairs_of, pair_view}
-use Rattle.resp_core.specs.Written.{count, pair_count, written, written_all, written_pairs, fits, fits_in, fits_all, fits_pairs, fits_beside, is_few, space, spaced, one_line, has_no_end, beside, is_inner}
+use Rattle.resp_core.specs.Written.{Appends, count, pair_count, written, written_all, written_pairs, fits, fits_in, fits_all, fits_pairs, fits_beside, is_few, space, spaced, one_line, has_no_end, beside, is_inner}
 use Rattle.resp_core.specs.Reading.{line_at}
 
 pub texts_are_utf8 : (bs : List ℕ) → IsUtf8 bs → is_utf8 bs ≡ true
@@ -27,8 +26,7 @@ pair_counts [] = refl
 pair_counts (v ∷ vs) = ap (λ (n : ℕ). suc n) (pair_counts vs)
 
 -- a write behind another, which went well
-pub appends : {X E : Type 0} (r : Result X E) (old mid new head tail : List ℕ) → mid ≡ old ++ head → MatchResult r (λ _. new ≡ mid ++ tail) (λ _. (more : List ℕ) × (new ≡ mid ++ more))
-    → MatchResult r (λ _. new ≡ old ++ (head ++ tail)) (λ _. (more : List ℕ) × (new ≡ old ++ more))
+pub appends : {X E : Type 0} (r : Result X E) (old mid new head tail : List ℕ) → mid ≡ old ++ head → Appends mid new tail r → Appends old new (head ++ tail) r
 appends (Ok x) old mid new head tail h k = k ∙ rw h (append_assoc old head tail)
 appends (Err e) old mid new head tail h k = (head ++ k.0, k.1 ∙ rw h (append_assoc old head k.0))
 
@@ -139,8 +137,7 @@ pair_fits_key p levels vs i v lt is e =
     ap (λ (l : List (Value × Value)). fits_pairs p levels (pairs_view l)) (here vs i v lt is) ∙ ap (λ (x : Bool). x && (fits p levels (view v.1) && fits_pairs p levels (pairs_view (drop (i + 1) vs)))) (sym e)
 
 pub attribute_written : {X E : Type 0} (r : Result X E) (p : Protocol) (inner t all : Tree) (ps : Pairs) (old mid new : List ℕ) → inner ≡ t → all ≡ attribute t ps
-    → mid ≡ old ++ beside p (pair_count ps) (written_pairs p ps) → MatchResult r (λ _. new ≡ mid ++ written p inner) (λ _. (more : List ℕ) × (new ≡ mid ++ more))
-    → MatchResult r (λ _. new ≡ old ++ written p all) (λ _. (more : List ℕ) × (new ≡ old ++ more))
+    → mid ≡ old ++ beside p (pair_count ps) (written_pairs p ps) → Appends mid new (written p inner) r → Appends old new (written p all) r
 unfolding written
 attribute_written (Ok x) p inner t all ps old mid new a b h k = k ∙ rw (h, a, b) (append_assoc old (beside p (pair_count ps) (written_pairs p ps)) (written p t))
 attribute_written (Err e) p inner t all ps old mid new a b h k = behind old mid new (beside p (pair_count ps) (written_pairs p ps)) h k

@@ -3,7 +3,7 @@
 -- (https://redis.io/docs/latest/develop/reference/protocol-spec/) and the RESP3 specification
 -- (https://github.com/redis/redis-specifications). For a tree that RESP2 has no type for stands what a Redis
 -- server sends in RESP2.
-use Rattle.std.specs.Prelude.{◌≡◌, ℕ, suc, ◌-◌, ◌*◌, ◌^◌, ℤ, pos, negsuc, Bool, true, false, ◌==◌, ◌&&◌, if◌then◌else◌, nat_lt, List, [], ◌∷◌, ◌++◌, length, map, Option, Some, None, Ok, Err, codes, decimal}
+use Rattle.std.specs.Prelude.{◌≡◌, ℕ, suc, ◌-◌, ◌*◌, ◌^◌, ℤ, pos, negsuc, Bool, true, false, ◌==◌, ◌&&◌, if◌then◌else◌, nat_lt, List, [], ◌∷◌, ◌++◌, length, map, Option, Some, None, Result, Ok, Err, MatchResult, codes, decimal}
 use Rattle.std.specs.Fmt.{signed_decimal}
 use Rattle.std.specs.List.{before_first, after_first, list_all}
 use Rattle.std.specs.Str.{is_utf8, trim, bytes_eq}
@@ -15,6 +15,10 @@ use Rattle.resp_core.specs.Table.{is_double, format_of, kind_named, error_tree}
 use Rattle.resp_core.specs.Printed.{format_text, kind_text, joined}
 use Rattle.resp_core.specs.Grammar.{crlf, Spells}
 use Rattle.resp_core.specs.Reading.{Read, line_at}
+
+-- The text was put behind a buffer's bytes; or memory was refused, and some bytes were put there.
+abbrev pub Appends : {T E : Type 0} → List ℕ → List ℕ → List ℕ → Result T E → Type 0
+Appends old new text result = MatchResult result (λ _. new ≡ old ++ text) (λ _. (more : List ℕ) × (new ≡ old ++ more))
 
 -- ---- lines and counted bytes
 

@@ -2,20 +2,4 @@
 #![tactic(auto)]
 
 #[cfg(test)]
-mod deep;
-#[cfg(test)]
-mod errors;
-#[cfg(test)]
-mod known;
-#[cfg(test)]
-mod limits;
-#[cfg(test)]
-mod machine;
-#[cfg(test)]
-mod memory;
-#[cfg(test)]
-mod texts;
-#[cfg(test)]
-mod values;
-#[cfg(test)]
-mod writes;
+mod tests;

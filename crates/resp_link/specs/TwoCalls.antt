@@ -1,7 +1,7 @@
 -- A link call in two: bytes are sent by one call, and their replies are taken by a later one. Between the two the
 -- link owes replies, and is not open.
 -- Source: documentation of the crate `redis`, `Connection::send_packed_command` and `Connection::recv_response`.
-use Rattle.std.specs.Prelude.{◌≡◌, ℕ, true, false, List, map, Result, MatchResult, Vec}
+use Rattle.std.specs.Prelude.{◌≡◌, ℕ, ◌+◌, true, false, List, [], ◌∷◌, map, Result, MatchResult, Vec}
 use Rattle.std.specs.declared.alloc.Global.{Global}
 use Rattle.resp_core.specs.declared.value.Value.{Value}
 use Rattle.resp_core.specs.declared.errors.redis_error.RedisError.{RedisError}
@@ -73,6 +73,18 @@ pub data ReceiveRefused (old new : Seen) (wanted : ℕ) (refusal : Refusal) : Ty
   nothing_owed : old.owes ≡ false → new ≡ old → refusal ≡ by_cause NoLink
       → ReceiveRefused old new wanted refusal
   receiving : LacksOwed old new wanted refusal → ReceiveRefused old new wanted refusal
+
+-- a taking of the owed replies behind `offset` others did what these say
+abbrev pub ReceivesMany : Seen → Seen → ℕ → ℕ → Result (Vec Value Global) RedisError → Type 0
+ReceivesMany old new offset count result = MatchResult result
+    (λ replies. TakesOwed old new offset count (map view replies.items))
+    (λ e. ReceiveRefused old new (offset + count) e)
+
+-- a taking of the one owed reply did what these say
+abbrev pub ReceivesOne : Seen → Seen → Result Value RedisError → Type 0
+ReceivesOne old new result = MatchResult result
+    (λ reply. TakesOwed old new 0 1 (view reply ∷ []))
+    (λ e. ReceiveRefused old new 1 e)
 
 -- What a taking of owed replies did: nothing was written, the replies are the answer, and the link is open
 -- again; or it was refused: the link owed nothing and nothing was touched, or fewer replies came than wanted,

@@ -60,7 +60,7 @@ pub(crate) fn count_of<'a>(
     Ok((count_in(digits, limits.most_arguments)?, rest))
 }
 
-// So many bytes, and what is behind the two that follow them.
+/// So many bytes, and what is behind the two that follow them.
 #[tactic(auto, unfolding(crate::specs::Arrays::text_at))]
 fn text_of(alloc: Global, bytes: &[u8], length: usize) -> Result<(Vec<u8>, &[u8]), Stop>
     ensures { Gives (λ x. (x.0.items, x.1.now)) result (text_at length bytes.now) }

@@ -25,7 +25,7 @@ pub enum Fault {
     ZeroByte,
 }
 
-// A line of an error has no end within.
+/// A line of an error has no end within.
 fn shown(byte: u8) -> u8
     ensures { result ≡ shown byte }
 {
@@ -36,7 +36,7 @@ fn shown(byte: u8) -> u8
     }
 }
 
-// That of a `NoDollar`.
+/// That of a `NoDollar`.
 fn no_dollar(alloc: Global, byte: u8) -> Result<Vec<u8>, AllocError>
     ensures { IfOk result (λ text. text.items ≡ no_dollar byte) }
 {

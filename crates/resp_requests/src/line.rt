@@ -8,7 +8,7 @@ ghost use Rattle.resp_requests.specs.Given.{Gives};
 use crate::fault::Fault;
 use crate::stop::Stop;
 
-// Where a line ends or is at fault, behind the first `searched` bytes; the number of all bytes where it goes on.
+/// Where a line ends or is at fault, behind the first `searched` bytes; the number of all bytes where it goes on.
 fn stop_place(bytes: &[u8], searched: usize, end: u8, longest: usize) -> usize
     requires { Unended end longest bytes.now searched }
     ensures searched { Unended end longest bytes.now result }

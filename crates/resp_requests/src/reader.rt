@@ -97,7 +97,7 @@ impl RequestReader {
         self.buffer.extend_from_slice(piece)
     }
 
-    // Forgets what was taken, once it is half of the buffer or more.
+    /// Forgets what was taken, once it is half of the buffer or more.
     fn drop_front(&mut self)
         ensures waiting { waiting self.new ≡ waiting self.old }
         ensures half { self.new.front ≤ length (waiting self.new) }
@@ -179,7 +179,7 @@ impl RequestReader {
         }
     }
 
-    // The count of an array, an argument, or an inline line. It answers the command that is then whole.
+    /// The count of an array, an argument, or an inline line. It answers the command that is then whole.
     fn advance(&mut self) -> Result<Option<Vec<Vec<u8>>>, Stop>
         ensures advances { Advances result self.old self.new }
         ensures moves { IfOk result (λ _. self.old.front < self.new.front) }

@@ -38,7 +38,7 @@ fn hex_digit(byte: u8) -> Option<u8>
     }
 }
 
-// The byte that two hexadecimal digits write.
+/// The byte that two hexadecimal digits write.
 fn hex_byte(high: u8, low: u8) -> Option<u8>
     ensures { result ≡ hex_both (hex_digit high) (hex_digit low) }
 {
@@ -48,7 +48,7 @@ fn hex_byte(high: u8, low: u8) -> Option<u8>
     }
 }
 
-// The byte that a letter stands for behind a backslash.
+/// The byte that a letter stands for behind a backslash.
 fn escaped(letter: u8) -> u8
     ensures { result ≡ escaped letter }
 {
@@ -62,7 +62,7 @@ fn escaped(letter: u8) -> u8
     }
 }
 
-// What is behind a closing quote: nothing, or a blank first.
+/// What is behind a closing quote: nothing, or a blank first.
 #[tactic(auto, unfolding(crate::specs::Words::split))]
 fn behind_quote(bytes: &[u8]) -> Result<&[u8], Stop>
     ensures double { Makes (λ rest. worded [] (split between zero rest.now)) result
@@ -77,7 +77,7 @@ fn behind_quote(bytes: &[u8]) -> Result<&[u8], Stop>
     }
 }
 
-// What is behind the backslash of a double quoted text, and the byte that it stands for.
+/// What is behind the backslash of a double quoted text, and the byte that it stands for.
 #[tactic(auto, unfolding(crate::specs::Words::split))]
 fn escape_of(bytes: &[u8]) -> Result<(u8, &[u8]), Stop>
     ensures made { Makes (λ x. does (more x.0) (split double zero x.1.now)) result
@@ -151,7 +151,7 @@ fn in_quote(quote: Quote, bytes: &[u8]) -> Result<Quoted, Stop>
     }
 }
 
-// The rest of a quoted text is put behind the word; what is behind the quote is answered.
+/// The rest of a quoted text is put behind the word; what is behind the quote is answered.
 fn rest_of_quote<'a>(word: &mut Vec<u8>, quote: Quote, bytes: &'a [u8]) -> Result<&'a [u8], Stop>
     ensures words { Makes (λ rest. worded word.new.items (split between zero rest.now)) result
         (put_before word.old.items (split (place_of quote) zero bytes.now)) }
@@ -193,7 +193,7 @@ fn in_plain(bytes: &[u8]) -> Next
     }
 }
 
-// The rest of a word is put behind it; what is behind the word is answered. A closing quote ends it.
+/// The rest of a word is put behind it; what is behind the word is answered. A closing quote ends it.
 fn rest_of_word<'a>(word: &mut Vec<u8>, bytes: &'a [u8]) -> Result<&'a [u8], Stop>
     ensures words { Makes (λ rest. worded word.new.items (split between zero rest.now)) result
         (put_before word.old.items (split plain zero bytes.now)) }
@@ -237,7 +237,7 @@ fn first_of(bytes: &[u8]) -> First
     }
 }
 
-// The words of a line.
+/// The words of a line.
 fn words_of(alloc: Global, line: &[u8]) -> Result<Vec<Vec<u8>>, Stop>
     ensures { Makes (λ words. Some (texts words.items)) result (words_in line.now) }
 {

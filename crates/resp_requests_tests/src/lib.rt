@@ -2,8 +2,4 @@
 #![tactic(auto)]
 
 #[cfg(test)]
-mod answers;
-#[cfg(test)]
-mod seen;
-#[cfg(test)]
-mod takes;
+mod tests;

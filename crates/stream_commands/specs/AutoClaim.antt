@@ -3,6 +3,7 @@
 -- servers leave null in the place of a deleted entry.
 use Rattle.std.specs.Prelude.{ℕ, List, [], ◌∷◌, Bool, Option, Some, None, option_map, nat_lt, length, map as each}
 use Rattle.resp_core.specs.Trees.{Tree, nil, bulk, array}
+use Rattle.resp_core.specs.View.{trees_of}
 use Rattle.resp_args.specs.Convert.{items}
 use Rattle.stream_commands.specs.Shapes.{a_text, perhaps, list_of, ◌and◌}
 use Rattle.stream_commands.specs.Entries.{Entry, entries}
@@ -41,6 +42,10 @@ entries_by_first (Some (bulk id)) t = option_map (λ ids. each id_alone (keep_pr
     (list_of (perhaps a_text) t)
 entries_by_first (Some (array ts)) t = entries t
 entries_by_first (Some other) t = None
+
+-- the entries of a list, read in the form that the first item that is no null has
+abbrev pub entries_listed : List Tree → Option (List Entry)
+entries_listed ts = entries_by_first (first_no_null ts) (array (trees_of ts))
 
 -- fewer entries than items: some items hold none
 abbrev pub claimed_from : List Tree → List Entry → Claimed

@@ -1,5 +1,5 @@
 -- The records of pending entries and of information as plain data.
-use Rattle.std.specs.Prelude.{ℕ, pos, List, String, option_map, string_bytes, map as each}
+use Rattle.std.specs.Prelude.{ℕ, ℤ, pos, List, String, Option, Vec, option_map, string_bytes, map as each}
 use Rattle.std.specs.Global.{Global}
 use Rattle.stream_commands.specs.Consumers.{Consumer}
 use Rattle.stream_commands.specs.Groups.{Group}
@@ -33,6 +33,17 @@ group_view g = record {
 
 abbrev pub pair_view : String Global × String Global → List ℕ × List ℕ
 pair_view p = (string_bytes p.0, string_bytes p.1)
+
+-- what pairs that may be missing stand for
+abbrev pub pairs_view : List (Option (String Global × String Global)) → List (Option (List ℕ × List ℕ))
+pairs_view pairs = each (λ o. option_map pair_view o) pairs
+
+-- what the four parts of a reply to XPENDING stand for
+abbrev pub pending_parts_view : ℕ × Option (String Global) × Option (String Global)
+    × Vec (Option (String Global × String Global)) Global
+    → ℤ × Option (List ℕ) × Option (List ℕ) × List (Option (List ℕ × List ℕ))
+pending_parts_view p =
+    (pos p.0, option_map string_bytes p.1, option_map string_bytes p.2, pairs_view p.3.items)
 
 -- what the data of pending entries stand for
 abbrev pub pending_data_view : StreamPendingData → PendingData

@@ -1,17 +1,22 @@
 -- The records of the code as plain data.
-use Rattle.std.specs.Prelude.{pos, Bool, List, String, option_map, string_bytes, map as each}
+use Rattle.std.specs.Prelude.{◌≡◌, ℕ, pos, Bool, List, String, Option, Result, MatchResult, option_map, string_bytes, map as each}
 use Rattle.std.specs.Global.{Global}
 use Rattle.std.specs.declared.hash.FoldHasher.{FoldHasher}
 use Rattle.std.specs.declared.hash.BuildHasherDefault.{BuildHasherDefault}
 use Rattle.indexmap.specs.IndexMap.{IndexMap}
 use Rattle.resp_core.specs.declared.value.Value.{Value}
+use Rattle.resp_core.specs.Errors.{Unreadable, no_memory}
 use Rattle.resp_core.specs.View.{view}
-use Rattle.stream_commands.specs.Entries.{Entry, Fields}
-use Rattle.stream_commands.specs.ReadReply.{Row}
+use Rattle.stream_commands.specs.Entries.{Entry, Fields, without_times, with_times}
+use Rattle.stream_commands.specs.ReadReply.{Row, row}
 use Rattle.stream_commands.specs.AutoClaim.{Claimed, AutoClaim}
 use Rattle.stream_commands.specs.declared.records.autoclaim.StreamAutoClaimReply.{StreamAutoClaimReply}
 use Rattle.stream_commands.specs.declared.records.entries.StreamId.{StreamId}
 use Rattle.stream_commands.specs.declared.records.read.StreamKey.{StreamKey}
+
+-- what making a record answers: one that stands for this, or want of memory
+abbrev pub MadeOf : {M S : Type 0} → (S → M) → M → Result S Unreadable → Type 0
+MadeOf meaning made result = MatchResult result (λ v. meaning v ≡ made) (λ e. e ≡ no_memory)
 
 abbrev pub Map : Type 0 → Type 0
 Map V = IndexMap (String Global) V (BuildHasherDefault FoldHasher)
@@ -32,6 +37,19 @@ entry_view s = record {
 -- what entries stand for
 abbrev pub entries_view : List StreamId → List Entry
 entries_view ids = each entry_view ids
+
+-- what fields under ids stand for: entries in standard form
+abbrev pub entries_under_ids : Map (Map Value) → List Entry
+entries_under_ids m = each (λ e. without_times (string_bytes e.0, fields_view e.1)) m.entries
+
+-- what the four parts of an entry in claim form stand for
+abbrev pub entry_of_parts : String Global × Map Value × Option ℕ × Option ℕ → Entry
+entry_of_parts e = with_times
+    (string_bytes e.0, fields_view e.1, option_map pos e.2, option_map pos e.3)
+
+-- what lists of entries under keys stand for: rows of a read
+abbrev pub rows_under_keys : {V : Type 0} → (V → List Entry) → Map V → List Row
+rows_under_keys lists m = each (λ e. row (string_bytes e.0, lists e.1)) m.entries
 
 -- what a row of a read stands for
 abbrev pub row_view : StreamKey → Row

@@ -26,10 +26,8 @@ pub fn xadd<K: ToSingleRedisArg, I: ToSingleRedisArg, F: ToSingleRedisArg, V: To
     id: &I,
     fields: &[(F, V)],
 ) -> Result<Cmd, AllocError>
-    ensures { IfOk result
-        (λ c. c ≡ plain_command
-        (sentence.xadd (K.arg key.now) options.now (I.arg id.now)
-        (map (λ f. (F.arg f.0, V.arg f.1)) fields.now))) }
+    ensures { IfOk result (λ c. c ≡ plain_command (sentence.xadd (K.arg key.now) options.now
+        (I.arg id.now) (map (λ f. (F.arg f.0, V.arg f.1)) fields.now))) }
 {
     command_of(alloc, (("XADD", key), options, id, fields))
 }
@@ -51,9 +49,8 @@ pub fn xread<K: ToSingleRedisArg, I: ToSingleRedisArg>(
     streams: &[(K, I)],
     options: &StreamReadOptions,
 ) -> Result<Cmd, AllocError>
-    ensures { IfOk result
-        (λ c. c ≡ plain_command
-        (sentence.xread options.now (map (λ s. K.arg s.0) streams.now) (map (λ s. I.arg s.1) streams.now))) }
+    ensures { IfOk result (λ c. c ≡ plain_command (sentence.xread options.now
+        (map (λ s. K.arg s.0) streams.now) (map (λ s. I.arg s.1) streams.now))) }
 {
     let mut cmd = command_of(alloc, (read_word(options), options, "STREAMS"))?;
     add_keys(&mut cmd, streams)?;
@@ -84,10 +81,8 @@ pub fn xclaim<K: ToSingleRedisArg, G: ToSingleRedisArg, C: ToSingleRedisArg, I: 
     ids: &[I],
     options: &StreamClaimOptions,
 ) -> Result<Cmd, AllocError>
-    ensures { IfOk result
-        (λ c. c ≡ plain_command
-        (sentence.xclaim (K.arg key.now) (G.arg group.now) (C.arg consumer.now) min_idle
-        (map I.arg ids.now) options.now)) }
+    ensures { IfOk result (λ c. c ≡ plain_command (sentence.xclaim (K.arg key.now) (G.arg group.now)
+        (C.arg consumer.now) min_idle (map I.arg ids.now) options.now)) }
 {
     let mut cmd = command_of(alloc, (("XCLAIM", key), group, consumer, min_idle))?;
     add_each(&mut cmd, ids)?;
@@ -110,10 +105,8 @@ pub fn xautoclaim<
     start: &S,
     options: &StreamAutoClaimOptions,
 ) -> Result<Cmd, AllocError>
-    ensures { IfOk result
-        (λ c. c ≡ plain_command
-        (sentence.xautoclaim (K.arg key.now) (G.arg group.now) (C.arg consumer.now) min_idle
-        (S.arg start.now) options.now)) }
+    ensures { IfOk result (λ c. c ≡ plain_command (sentence.xautoclaim (K.arg key.now)
+        (G.arg group.now) (C.arg consumer.now) min_idle (S.arg start.now) options.now)) }
 {
     command_of(
         alloc,

@@ -1,13 +1,13 @@
 //! One reply to a read of streams, from the replies to its parts.
 
-ghost use Rattle.std.specs.Prelude.{◌≡◌, ◌≢◌, ◌&&◌, ◌++◌, List, [], true, false, None, Some, length, map as each, filter_map, option_map, slice_set, nat_eq, nat_lt, is_ok, IfOk, IfErr, OnOk, MatchResult};
+ghost use Rattle.std.specs.Prelude.{◌≡◌, ◌≢◌, List, [], true, None, Some, length, map as each, filter_map, option_map, slice_set, nat_eq, nat_lt, is_ok, IfOk, IfErr, OnOk, MatchResult};
 ghost use Rattle.std.specs.List.{IsDistinct, list_all, position_or_len};
 ghost use Rattle.std.specs.Str.{bytes_eq};
 ghost use Rattle.indexmap.specs.IndexSet.{insert_all};
 ghost use Rattle.resp_core.specs.Errors.{no_memory};
 ghost use Rattle.resp_args.specs.Convert.{Answers};
-ghost use Rattle.stream_commands.specs.Join.{join, keys_at, lent_keys, name_none_twice, name_only, positions_below, share};
-ghost use Rattle.stream_commands.specs.Joining.{Holds, is_free, positions};
+ghost use Rattle.stream_commands.specs.Join.{join, lent_keys, positions_below, share};
+ghost use Rattle.stream_commands.specs.Joining.{ArePut, DoNotFit, Holds, is_free, positions};
 ghost use Rattle.stream_commands.specs.ReadReply.{Row};
 ghost use Rattle.stream_commands.specs.RecordViews.{row_view, rows_view};
 
@@ -85,12 +85,9 @@ fn put_rows(
     requires differ { IsDistinct bytes_eq (lent_keys places.now.keys) }
     requires within { list_all (λ p. nat_lt p (length (lent_keys places.now.keys))) part.now ≡ true }
     requires room { length table.old.items ≡ length (lent_keys places.now.keys) }
-    ensures { (done : List Row) → Holds (lent_keys places.now.keys) done table.old.items
-        → MatchResult result
-        (λ _. (name_only (keys_at (lent_keys places.now.keys) part.now) (rows_view rows.items) ≡ true)
-        × Holds (lent_keys places.now.keys) (done ++ rows_view rows.items) table.new.items)
-        (λ e. e ≢ no_memory → (name_only (keys_at (lent_keys places.now.keys) part.now) (rows_view rows.items)
-        && name_none_twice (lent_keys places.now.keys) (done ++ rows_view rows.items)) ≡ false) }
+    ensures { (had : List Row) → Holds (lent_keys places.now.keys) had table.old.items → MatchResult result
+        (λ _. ArePut (lent_keys places.now.keys) part.now had (rows_view rows.items) table.new.items)
+        (λ e. e ≢ no_memory → DoNotFit (lent_keys places.now.keys) part.now had (rows_view rows.items)) }
 {
     let own = own_positions(alloc, part)?;
     'rows: for row in rows {

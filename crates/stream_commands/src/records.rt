@@ -11,6 +11,7 @@ mod entries;
 mod fields;
 mod forms;
 mod groups;
+mod named;
 mod pending;
 mod pending_count;
 mod range;
@@ -33,7 +34,7 @@ pub use status::{XAckDelStatusCode, XDelExStatusCode};
 use std::alloc::Global;
 pub use stream_info::{StreamInfoStreamReply, StreamInfoStreamReplyWithIdempotency};
 
-// A list of one.
+/// A list of one.
 fn one<T: Drop>(alloc: Global, value: T) -> Result<Vec<T>, ParsingError>
     ensures { MatchResult result (λ v. v.items ≡ value ∷ []) (λ e. e ≡ no_memory) }
 {

@@ -2,12 +2,4 @@
 #![tactic(auto)]
 
 #[cfg(test)]
-mod answers;
-#[cfg(test)]
-mod former;
-#[cfg(test)]
-mod grammar;
-#[cfg(test)]
-mod made;
-#[cfg(test)]
-mod memory;
+mod tests;

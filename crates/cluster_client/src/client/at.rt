@@ -10,10 +10,10 @@ ghost use Rattle.cluster_calls.specs.Links.Happened.{Happened, LacksLate};
 ghost use Rattle.cluster_calls.specs.Links.World.{tree_result};
 ghost use Rattle.cluster_client.specs.Whole.{whole};
 
-use super::ClusterClient;
+use super::{ClusterClient, begin};
 use crate::fan_out::{dispatch_to, needs_refresh_by, outcome_in};
 use cluster_routing::NodeAddress;
-use cluster_steps::exchange::exchange_one_over;
+use cluster_steps::exchange::exchange_one;
 use cluster_steps::ready::make_ready;
 use resp_args::{Cmd, FromRedisValue, from_redis_value};
 use resp_core::{Cause, RedisError, Value};
@@ -69,14 +69,13 @@ impl<L: ConnectionLike + Drop> ClusterClient<L> {
             (At (address node.now) cmd.now) (tree_result view result) }
         ensures picks { (whole L.seen self.new).picked ≡ [] }
     {
-        self.asked = Vec::new(alloc);
-        self.picked = Vec::new(alloc);
+        begin(alloc, &mut self.asked, &mut self.picked);
         if cmd.is_no_response() {
             return Err(RedisError::from(Cause::NoResponse));
         }
         let dispatch = dispatch_to(&self.links, node, cmd)?;
         let request = make_ready(alloc, &mut self.asked, dispatch, 1)?;
-        let reply = exchange_one_over(&mut self.links, alloc, &mut self.asked, request);
+        let reply = exchange_one(alloc, &mut self.links, &mut self.asked, request);
         self.needs_refresh = needs_refresh_by(self.needs_refresh, &reply);
         outcome_in(reply)?
     }

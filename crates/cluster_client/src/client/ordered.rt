@@ -8,9 +8,9 @@ ghost use Rattle.cluster_calls.specs.Links.Converted.{ValueMade};
 ghost use Rattle.cluster_calls.specs.Links.Happened.{Happened, LacksLate};
 ghost use Rattle.cluster_client.specs.Whole.{whole};
 
-use super::ClusterClient;
+use super::{ClusterClient, CommandCall};
 use cluster_routing::ReadRoutingStrategy;
-use resp_args::{Cmd, FromRedisValue, from_redis_value};
+use resp_args::{Cmd, FromRedisValue};
 use resp_core::RedisError;
 use resp_link::ConnectionLike;
 use std::alloc::Global;
@@ -49,7 +49,11 @@ impl<L: ConnectionLike + Drop> ClusterClient<L> {
         ensures unpicked { result ≡ Err (by_cause Memory) → (whole L.seen self.new).log ≡ []
             → (whole L.seen self.new).picked ≡ [] }
     {
-        let reply = self.reply_in_order(alloc, cmd, Some(order), number, strategy)?;
-        Ok(from_redis_value(alloc, reply)?)
+        let call = CommandCall {
+            command: cmd,
+            order: Some(order),
+            number,
+        };
+        self.value_of(alloc, &call, strategy)
     }
 }

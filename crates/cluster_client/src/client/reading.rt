@@ -20,9 +20,10 @@ ghost use Rattle.cluster_client.specs.Ended.{CommandEnded};
 ghost use Rattle.cluster_client.specs.PreparedReads.{dispatches_in};
 ghost use Rattle.cluster_client.specs.Whole.{whole};
 
-use super::ClusterClient;
+use super::{ClusterClient, begin};
 use cluster_routing::ReadRoutingStrategy;
-use cluster_steps::dispatch::{Dispatch, dispatches_over};
+use cluster_steps::dispatch::{Dispatch, dispatches};
+use cluster_steps::picker::Picker;
 use cluster_steps::read_parts::{ReadParts, Stream, read_parts};
 use cluster_steps::read_reply::record_of_parts;
 use resp_core::RedisError;
@@ -98,17 +99,15 @@ impl<L: ConnectionLike + Drop> ClusterClient<L> {
             (λ p. AllByRecursion (IsPlaced (nodes L.seen self.new.links.nodes.items)) p.dispatches.items) }
         ensures places { IfOk result (λ p. positions p.places.items ≡ read_places (streams_in streams.now)) }
     {
-        self.asked = Vec::new(alloc);
-        self.picked = Vec::new(alloc);
+        begin(alloc, &mut self.asked, &mut self.picked);
         let ReadParts { list, places } = read_parts(alloc, streams, options, &self.read_only)?;
-        let dispatches = dispatches_over(
-            &self.links,
-            alloc,
-            self.slots.map(),
-            list,
+        let mut picker = Picker {
             strategy,
-            &mut self.picked,
-        )?;
+            picked: Vec::new(alloc),
+        };
+        let placed = dispatches(alloc, &self.links, &mut self.slots, list, &mut picker);
+        self.picked = picker.picked;
+        let dispatches = placed?;
         Ok(PreparedRead { dispatches, places })
     }
 }

@@ -1,11 +1,10 @@
 //! A pipeline that tells of each of its positions.
-ghost use Rattle.std.specs.Prelude.{◌≡◌, ◌<◌, ◌≤◌, ◌+◌, List, [], Ok, Option, map, nat_eq, vec_capacity, vec_len};
+ghost use Rattle.std.specs.Prelude.{◌≡◌, ◌<◌, ◌≤◌, ◌+◌, List, [], Option, map, nat_eq, vec_capacity, vec_len};
 ghost use Rattle.std.specs.List.{AllByRecursion};
 ghost use Rattle.std.specs.VecDeque.{deque_items};
 ghost use Rattle.cluster_routing.specs.Choice.{Strategy};
 ghost use Rattle.cluster_routing.specs.Lists.{IsDistinct};
 ghost use Rattle.cluster_calls.specs.Calls.Call.{Entry, Pipeline};
-ghost use Rattle.cluster_calls.specs.Calls.Parts.{pipeline_parts};
 ghost use Rattle.cluster_calls.specs.Calls.Plan.{plan};
 ghost use Rattle.cluster_calls.specs.Links.EachMade.{EachMade, WholesMade};
 ghost use Rattle.cluster_calls.specs.Links.Happened.{client_of};
@@ -13,14 +12,13 @@ ghost use Rattle.cluster_calls.specs.Links.Run.{with_log};
 ghost use Rattle.cluster_calls.specs.Links.World.{World, nodes};
 ghost use Rattle.cluster_steps.specs.AtOnce.{AllSent};
 ghost use Rattle.cluster_steps.specs.Each.{left_or_cause};
-ghost use Rattle.cluster_steps.specs.FirstPlaces.{part_of};
 ghost use Rattle.cluster_steps.specs.GroupRuns.{IsGroupPlaced};
 ghost use Rattle.cluster_steps.specs.Groups.{NodeRequests as RequestGroup, group_of, request_count};
-ghost use Rattle.cluster_client.specs.InParts.{AreInParts, IsDirected, entry_of};
+ghost use Rattle.cluster_client.specs.InParts.{AreInParts, ArePartsOf, IsDirected, entry_of};
 ghost use Rattle.cluster_client.specs.Outcomes.{EachExchanged, ReceivedFrom, outcomes_of};
 ghost use Rattle.cluster_client.specs.Whole.{whole};
 
-use crate::client::ClusterClient;
+use crate::client::{ClusterClient, begin};
 use crate::pipeline::in_parts::{InParts, commands_in_parts, directed_in_parts};
 use crate::pipeline::reply::refresh_needed;
 use crate::pipeline::{ClusterPipeline, Directed, PipelineCommand};
@@ -63,7 +61,7 @@ impl<L: PipelinedLink + Drop> ClusterClient<L> {
             (left_or_cause deque_items result) }
         ensures len { vec_len self.new.links.nodes ≡ vec_len self.old.links.nodes }
     {
-        let replies = receive_group(&mut self.links, alloc, sent)?;
+        let replies = receive_group(alloc, &mut self.links, sent)?;
         self.needs_refresh = refresh_needed(self.needs_refresh, &replies);
         Ok(VecDeque::from(replies))
     }
@@ -80,9 +78,8 @@ impl<L: PipelinedLink + Drop> ClusterClient<L> {
         requires none { vec_len answers.old ≡ 0 }
         requires room { vec_len sent ≤ vec_capacity answers.old }
         ensures exchanged { (start : World) (groups : List RequestGroup)
-            → AllSent start (whole L.seen self.old) groups sent.items
-            → EachExchanged start (whole L.seen self.new) groups
-            (map (left_or_cause deque_items) answers.new.items) }
+            → AllSent start (whole L.seen self.old) groups sent.items → EachExchanged start
+            (whole L.seen self.new) groups (map (left_or_cause deque_items) answers.new.items) }
         ensures len { vec_len answers.new ≡ vec_len sent }
     {
         'groups: for group in sent {
@@ -96,8 +93,7 @@ impl<L: PipelinedLink + Drop> ClusterClient<L> {
         alloc: Global,
         parts: Vec<Part>,
     ) -> Result<Vec<Result<Value, RedisError>>, RedisError>
-        ensures { (strategy : Option Strategy) (entries : List Entry)
-            → pipeline_parts 0 entries ≡ Ok (map part_of parts.items)
+        ensures { (strategy : Option Strategy) (entries : List Entry) → ArePartsOf parts.items entries
             → WholesMade strategy (whole L.seen self.old) (whole L.seen self.new) entries
             (plan (client_of (whole L.seen self.old)) [] (Pipeline entries))
             (λ each outcomes. outcomes ≡ each) (outcomes_of result) }
@@ -145,8 +141,7 @@ impl<L: PipelinedLink + Drop> ClusterClient<L> {
             → EachMade strategy (whole L.seen self.old) (whole L.seen self.new) commands.now
             (outcomes_of result) }
     {
-        self.asked = Vec::new(alloc);
-        self.picked = Vec::new(alloc);
+        begin(alloc, &mut self.asked, &mut self.picked);
         let all = commands_in_parts(alloc, commands)?;
         self.outcomes_in_parts(alloc, all)
     }
@@ -167,8 +162,7 @@ impl<L: PipelinedLink + Drop> ClusterClient<L> {
             → EachMade strategy (whole L.seen self.old) (whole L.seen self.new) (map entry_of commands.now)
             (outcomes_of result) }
     {
-        self.asked = Vec::new(alloc);
-        self.picked = Vec::new(alloc);
+        begin(alloc, &mut self.asked, &mut self.picked);
         let all = directed_in_parts(alloc, commands)?;
         self.outcomes_in_parts(alloc, all)
     }

@@ -20,7 +20,7 @@ use cluster_steps::join::Join;
 use cluster_steps::pipeline_reads::reads_several_slots;
 use cluster_steps::route::{Part, Target, Targets, push_split, targets_by, targets_of, whole_part};
 use resp_args::Cmd;
-use resp_core::{Cause, ErrorKind, RedisError};
+use resp_core::{Cause, RedisError};
 use std::alloc::{AllocError, Global};
 
 /// The parts that go out for a pipeline's commands, and for each of these how the outcomes of its parts become
@@ -169,10 +169,13 @@ impl InParts {
     {
         match found {
             Ok(targets) => self.add_by_targets(alloc, position, command, targets),
-            Err(e) => match e.kind() {
-                ErrorKind::Memory => Err(RedisError::from(Cause::Memory)),
-                _ => Err(RedisError::at_position(position)),
-            },
+            Err(e) => {
+                if e.is_memory() {
+                    Err(e)
+                } else {
+                    Err(RedisError::at_position(position))
+                }
+            }
         }
     }
 }

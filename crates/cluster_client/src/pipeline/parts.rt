@@ -14,7 +14,7 @@ use cluster_routing::{Route, SlotAddr};
 use cluster_steps::pipeline_reads::reads_several_slots;
 use cluster_steps::route::{self, Part, Target, Targets, targets_of};
 use resp_args::Cmd;
-use resp_core::{Cause, ErrorKind, RedisError};
+use resp_core::RedisError;
 use std::alloc::Global;
 
 /// The route to the primary of the one slot that all parts of a command go to; none where they go to
@@ -60,18 +60,14 @@ fn route_of_parts(alloc: Global, command: &Cmd) -> Result<Option<Route>, RedisEr
 {
     match targets_of(alloc, command, &[], 0) {
         Ok(targets) => Ok(primary_route(&targets)),
-        Err(e) => match e.kind() {
-            ErrorKind::Memory => Err(RedisError::from(Cause::Memory)),
-            _ => Ok(None),
-        },
+        Err(e) => { if e.is_memory() { Err(e) } else { Ok(None) } }
     }
 }
 
 /// The route to the primary of the one slot that a command goes to whole; none for one that does not, or reads
 /// streams of several. No argument is copied.
 pub(crate) fn whole_route(alloc: Global, command: &Cmd) -> Result<Option<Route>, RedisError>
-    ensures route { IfOk result
-        (λ o. option_map (whole_by (sent command.now)) o
+    ensures route { IfOk result (λ o. option_map (whole_by (sent command.now)) o
         ≡ if_one_slot (reads_several_slots command.now.args)
         (whole_part (sent command.now) (parts_of [] command.now 0))) }
     ensures only { IfErr result (λ e. e ≡ by_cause Memory) }
@@ -85,8 +81,7 @@ pub(crate) fn whole_route(alloc: Global, command: &Cmd) -> Result<Option<Route>,
 /// The part that a command is whole; none for one that does not go whole to one slot, or reads streams of
 /// several.
 fn whole_part(alloc: Global, command: &Cmd) -> Result<Option<Part>, RedisError>
-    ensures part { IfOk result
-        (λ o. option_map part_of o
+    ensures part { IfOk result (λ o. option_map part_of o
         ≡ if_one_slot (reads_several_slots command.now.args)
         (whole_part (sent command.now) (parts_of [] command.now 0))) }
     ensures only { IfErr result (λ e. e ≡ by_cause Memory) }

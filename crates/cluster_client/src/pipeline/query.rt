@@ -1,30 +1,30 @@
 //! Pipelines are sent: to each node its commands in one write.
-ghost use Rattle.std.specs.Prelude.{◌≡◌, ◌≢◌, ◌<◌, ◌≤◌, ◌+◌, List, [], Err, Ok, Option, map, vec_capacity, vec_len, IfOk};
+ghost use Rattle.std.specs.Prelude.{◌≡◌, ◌≢◌, ◌<◌, ◌≤◌, ◌+◌, List, [], Err, Option, map, vec_capacity, vec_len, IfOk};
 ghost use Rattle.std.specs.List.{AllByRecursion};
 ghost use Rattle.resp_core.specs.Errors.{by_cause};
 ghost use Rattle.resp_core.specs.View.{view};
 ghost use Rattle.resp_core.specs.declared.errors.redis_error.Cause.TheVariants.{Memory};
 ghost use Rattle.cluster_routing.specs.Choice.{Strategy};
 ghost use Rattle.cluster_calls.specs.Calls.Call.{Entry, Pipeline};
-ghost use Rattle.cluster_calls.specs.Calls.Parts.{pipeline_parts};
 ghost use Rattle.cluster_calls.specs.Links.Converted.{ValueMade, value_answer};
 ghost use Rattle.cluster_steps.specs.Dispatches.{IsPlaced, IsPlanned, dispatches_of};
 ghost use Rattle.cluster_calls.specs.Links.Happened.{CallMade, Happened, LacksLate, client_of};
-ghost use Rattle.cluster_steps.specs.FirstPlaces.{part_of};
 ghost use Rattle.cluster_steps.specs.GroupRuns.{GroupExchanged, GroupsMade, IsGroupPlaced, answers_of};
 ghost use Rattle.cluster_steps.specs.Groups.{group_of, request_count};
 ghost use Rattle.cluster_calls.specs.Links.Run.{with_log};
+ghost use Rattle.cluster_client.specs.InParts.{ArePartsOf};
 ghost use Rattle.cluster_client.specs.Whole.{whole};
 ghost use Rattle.cluster_calls.specs.Links.World.{nodes, tree_result, tree_results};
 
-use crate::client::ClusterClient;
+use crate::client::{ClusterClient, begin};
 use crate::pipeline::parts::pipeline_parts;
 use crate::pipeline::reply::{refresh_needed, reply_of_pipeline};
 use crate::pipeline::{ClusterPipeline, PipelineCommand};
-use cluster_steps::dispatch::{Dispatch, dispatches_over};
+use cluster_steps::dispatch::{Dispatch, dispatches};
 use cluster_steps::drawn::{Answered, drawn};
-use cluster_steps::exchange::exchange_over;
+use cluster_steps::exchange::exchange;
 use cluster_steps::grouped::{grouped, places_of};
+use cluster_steps::picker::Picker;
 use cluster_steps::ready::NodeRequests;
 use cluster_steps::route::Part;
 use resp_args::{FromRedisValue, from_redis_value};
@@ -41,24 +41,18 @@ impl<L: ConnectionLike + Drop> ClusterClient<L> {
     ) -> Result<Vec<Dispatch>, RedisError>
         ensures stays { whole L.seen self.new ≡ with_log (whole L.seen self.old) [] [] }
         ensures planned { result ≢ Err (by_cause Memory) → (strategy : Option Strategy)
-            (entries : List Entry) → pipeline_parts 0 entries ≡ Ok (map part_of parts.items)
-            → IsPlanned strategy (client_of (whole L.seen self.old)) (Pipeline entries) []
-            (dispatches_of result) }
+            (entries : List Entry) → ArePartsOf parts.items entries → IsPlanned strategy
+            (client_of (whole L.seen self.old)) (Pipeline entries) [] (dispatches_of result) }
         ensures placed { IfOk result
             (λ v. AllByRecursion (IsPlaced (nodes L.seen self.new.links.nodes.items)) v.items) }
         ensures room { IfOk result (λ v. vec_len self.new.asked + vec_len v ≤ vec_capacity self.new.asked) }
     {
-        self.asked = Vec::new(alloc);
-        self.picked = Vec::new(alloc);
-        let mut picked = Vec::new(alloc);
-        let all = dispatches_over(
-            &self.links,
-            alloc,
-            self.slots.map(),
-            parts,
-            None,
-            &mut picked,
-        )?;
+        begin(alloc, &mut self.asked, &mut self.picked);
+        let mut picker = Picker {
+            strategy: None,
+            picked: Vec::new(alloc),
+        };
+        let all = dispatches(alloc, &self.links, &mut self.slots, parts, &mut picker)?;
         self.asked.reserve(all.len())?;
         Ok(all)
     }
@@ -78,8 +72,7 @@ impl<L: ConnectionLike + Drop> ClusterClient<L> {
             (λ v. AllByRecursion (IsPlaced (nodes L.seen self.new.links.nodes.items)) v.items) }
         ensures room { IfOk result (λ v. vec_len self.new.asked + vec_len v ≤ vec_capacity self.new.asked) }
     {
-        self.asked = Vec::new(alloc);
-        self.picked = Vec::new(alloc);
+        begin(alloc, &mut self.asked, &mut self.picked);
         let parts = pipeline_parts(alloc, commands)?;
         self.dispatches_of_parts(alloc, parts)
     }
@@ -98,7 +91,7 @@ impl<L: ConnectionLike + Drop> ClusterClient<L> {
         ensures log_len { vec_len self.new.asked ≡ vec_len self.old.asked + vec_len group.requests }
         ensures log_capacity { vec_capacity self.old.asked ≤ vec_capacity self.new.asked }
     {
-        let replies = exchange_over(&mut self.links, alloc, &mut self.asked, group)?;
+        let replies = exchange(alloc, &mut self.links, &mut self.asked, group)?;
         self.needs_refresh = refresh_needed(self.needs_refresh, &replies);
         Ok(replies)
     }

@@ -1,12 +1,10 @@
 //! The items of the arrays that several nodes answered.
 
-ghost use Rattle.std.specs.Prelude.{◌≡◌, ◌≢◌, map, is_some, option_map, Err, IfOk};
+ghost use Rattle.std.specs.Prelude.{◌≡◌, map, is_some, option_map, IfOk};
 ghost use Rattle.std.specs.List.{list_all};
-ghost use Rattle.resp_core.specs.Errors.{by_cause};
 ghost use Rattle.resp_core.specs.View.{view};
-ghost use Rattle.resp_core.specs.declared.errors.redis_error.Cause.TheVariants.{Memory};
 ghost use Rattle.cluster_routing.specs.Combine.{array_of};
-ghost use Rattle.cluster_routing.specs.Policies.{array_of_all, or_bad_reply, tree_or_refusal};
+ghost use Rattle.cluster_routing.specs.Policies.{IsCombined, array_of_all};
 ghost use Rattle.cluster_routing.specs.SlotsReply.{array_items};
 
 use super::places::items_in;
@@ -19,8 +17,7 @@ use std::alloc::{AllocError, Global};
 /// # Errors
 /// `UnexpectedReturnType` where a reply is no array. `Memory` where memory is refused.
 pub fn combine_array_results(alloc: Global, values: Vec<Value>) -> Result<Value, RedisError>
-    ensures { result ≢ Err (by_cause Memory)
-        → tree_or_refusal result ≡ or_bad_reply (array_of_all (map view values.items)) }
+    ensures { IsCombined (array_of_all (map view values.items)) result }
 {
     match items_of_all(alloc, values)? {
         Some(items) => Ok(Value::Array(items)),

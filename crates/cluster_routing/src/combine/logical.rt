@@ -1,12 +1,10 @@
 //! A test over arrays of numbers that several nodes answered.
 
-ghost use Rattle.std.specs.Prelude.{◌≡◌, ◌≢◌, ◌∷◌, map, option_map, option_and_then, not, Err, IfOk};
-ghost use Rattle.resp_core.specs.Errors.{by_cause};
+ghost use Rattle.std.specs.Prelude.{◌≡◌, ◌∷◌, map, option_map, option_and_then, not, IfOk};
 ghost use Rattle.resp_core.specs.View.{view};
-ghost use Rattle.resp_core.specs.declared.errors.redis_error.Cause.TheVariants.{Memory};
 ghost use Rattle.resp_args.specs.Convert.{is_zero, traverse};
 ghost use Rattle.cluster_routing.specs.Combine.{array_of};
-ghost use Rattle.cluster_routing.specs.Policies.{all_flags, and_tree, both_flags, flag_tree, flags_in, int_in, or_bad_reply, tree_or_refusal};
+ghost use Rattle.cluster_routing.specs.Policies.{IsCombined, all_flags, and_tree, both_flags, flag_tree, flags_in, int_in};
 
 use super::numbers::int_in;
 use crate::policy::LogicalAggregateOp;
@@ -25,8 +23,7 @@ pub fn logical_aggregate(
     values: Vec<Value>,
     op: LogicalAggregateOp,
 ) -> Result<Value, RedisError>
-    ensures { result ≢ Err (by_cause Memory)
-        → tree_or_refusal result ≡ or_bad_reply (and_tree (map view values.items)) }
+    ensures { IsCombined (and_tree (map view values.items)) result }
 {
     let LogicalAggregateOp::And = op;
     match numbers_of_all(alloc, &values)? {

@@ -1,18 +1,16 @@
 //! The counts of several nodes, added by their keys.
 
-ghost use Rattle.std.specs.Prelude.{◌≡◌, ◌≢◌, ◌++◌, ◌^◌, if◌then◌else◌, fold, map, option_map, pos, unwrap_or, [], None, Some, Err, IfOk};
+ghost use Rattle.std.specs.Prelude.{◌≡◌, ◌++◌, ◌^◌, if◌then◌else◌, fold, map, option_map, pos, unwrap_or, [], None, Some, IfOk};
 ghost use Rattle.std.specs.BTreeMap.{get_by};
 ghost use Rattle.std.specs.Cmp.Lexicographic.{slice_cmp};
 ghost use Rattle.std.specs.Ordering.{nat_cmp};
-ghost use Rattle.resp_core.specs.Errors.{by_cause};
 ghost use Rattle.resp_core.specs.MapIters.{owned_left};
 ghost use Rattle.resp_core.specs.Trees.{map as map_tree};
-ghost use Rattle.resp_core.specs.View.{pair_view, view};
-ghost use Rattle.resp_core.specs.declared.errors.redis_error.Cause.TheVariants.{Memory};
+ghost use Rattle.resp_core.specs.View.{pair_view, pairs_of, view};
 ghost use Rattle.resp_args.specs.Convert.{traverse};
 ghost use Rattle.cluster_routing.specs.Counted.{shown_count, shown_counts, AreWithin};
 ghost use Rattle.cluster_routing.specs.Lists.{concat};
-ghost use Rattle.cluster_routing.specs.Policies.{add_count, count_in, count_pair, counts_in, counts_tree, int_in, key_in, or_bad_reply, pairs_of, tree_or_refusal};
+ghost use Rattle.cluster_routing.specs.Policies.{IsCombined, add_count, count_in, count_pair, counts_in, counts_tree, int_in, key_in};
 
 use super::numbers::int_in;
 use resp_core::{Cause, OwnedMapIter, RedisError, Value};
@@ -28,8 +26,7 @@ use std::collections::BTreeMap;
 /// `UnexpectedReturnType` where a reply is of another shape, or a sum does not fit 64 bits. `Memory`
 /// where memory is refused.
 pub fn combine_map_results(alloc: Global, values: Vec<Value>) -> Result<Value, RedisError>
-    ensures { result ≢ Err (by_cause Memory)
-        → tree_or_refusal result ≡ or_bad_reply (counts_tree (map view values.items)) }
+    ensures { IsCombined (counts_tree (map view values.items)) result }
 {
     match pairs_of_all(alloc, values)? {
         Some(pairs) => Ok(Value::Map(pairs)),

@@ -1,14 +1,12 @@
 //! The reply to a split command.
 
-ghost use Rattle.std.specs.Prelude.{◌≡◌, ◌≢◌, ℕ, List, length, map, Err};
+ghost use Rattle.std.specs.Prelude.{◌≡◌, ℕ, List, length, map};
 ghost use Rattle.std.specs.List.{list_all};
-ghost use Rattle.resp_core.specs.Errors.{by_cause};
 ghost use Rattle.resp_core.specs.View.{view};
-ghost use Rattle.resp_core.specs.declared.errors.redis_error.Cause.TheVariants.{Memory};
 ghost use Rattle.cluster_routing.specs.Combine.{all_okay, combine, combine_at, is_okay, part_replies, slots_by, IsCutInto};
-ghost use Rattle.cluster_routing.specs.Info.{shown_part};
+ghost use Rattle.cluster_routing.specs.Info.{positions_in};
 ghost use Rattle.cluster_routing.specs.Parts.{width_of};
-ghost use Rattle.cluster_routing.specs.Policies.{or_bad_reply, tree_or_refusal};
+ghost use Rattle.cluster_routing.specs.Policies.{IsCombined, or_bad_reply, tree_or_refusal};
 ghost use Rattle.cluster_routing.specs.Split.{Split};
 
 use super::numbers::aggregate;
@@ -34,15 +32,11 @@ pub fn combine_parts(
     pattern: MultiSlotArgPattern,
     policy: ResponsePolicy,
 ) -> Result<Value, RedisError>
-    ensures any { result ≢ Err (by_cause Memory)
-        → tree_or_refusal result
-        ≡ or_bad_reply (combine_at policy (width_of pattern) (map (λ p. p.1) (map shown_part routes.now))
-        (map view values.items)) }
-    ensures cut { (args : List (List ℕ)) (s : Split) (order : List ℕ)
-        → IsCutInto args s order (record { pattern = pattern; policy = policy })
-        (map (λ p. p.1) (map shown_part routes.now)) (length values.items) → result ≢ Err (by_cause Memory)
-        → tree_or_refusal result
-        ≡ or_bad_reply (combine s (part_replies (slots_by order s) (map view values.items))) }
+    ensures any { IsCombined (combine_at policy (width_of pattern) (positions_in routes.now)
+        (map view values.items)) result }
+    ensures cut { (args : List (List ℕ)) (s : Split) (order : List ℕ) → IsCutInto args s order
+        (record { pattern = pattern; policy = policy }) (positions_in routes.now) (length values.items)
+        → IsCombined (combine s (part_replies (slots_by order s) (map view values.items))) result }
 {
     match policy {
         ResponsePolicy::CombineArrays => {

@@ -1,18 +1,17 @@
 //! The items of several arrays, each at the place of its tuple.
 
-ghost use Rattle.std.specs.Prelude.{◌≡◌, ◌≢◌, ◌<◌, ◌++◌, ℕ, true, nat_lt, length, map, filter_map, flat_map, option_map, None, Some, Err, IfOk, slice_set};
+ghost use Rattle.std.specs.Prelude.{◌≡◌, ◌<◌, ◌++◌, ℕ, true, nat_lt, length, map, filter_map, flat_map, option_map, None, Some, IfOk, slice_set};
 ghost use Rattle.std.specs.List.{list_all};
-ghost use Rattle.resp_core.specs.Errors.{by_cause};
 ghost use Rattle.resp_core.specs.View.{view};
-ghost use Rattle.resp_core.specs.declared.errors.redis_error.Cause.TheVariants.{Memory};
 ghost use Rattle.cluster_routing.specs.Combine.{are_lists_of, array_of, by_place, is_list_of, item_at, items_by_place, items_or_none, tuple_places};
 ghost use Rattle.cluster_routing.specs.Lists.{concat, numbers_below};
 ghost use Rattle.cluster_routing.specs.Parts.{width_of};
-ghost use Rattle.cluster_routing.specs.Policies.{or_bad_reply, tree_or_refusal};
+ghost use Rattle.cluster_routing.specs.Policies.{IsCombined};
 
 use super::permutation::is_permutation;
 use crate::policy::MultiSlotArgPattern;
 use crate::route::Route;
+use crate::tuples::width_of;
 use resp_core::{Cause, RedisError, Value};
 use std::alloc::{AllocError, Global};
 
@@ -31,25 +30,12 @@ pub fn combine_and_sort_array_results(
     order: &[(Route, Vec<usize>)],
     pattern: MultiSlotArgPattern,
 ) -> Result<Value, RedisError>
-    ensures { result ≢ Err (by_cause Memory)
-        → tree_or_refusal result
-        ≡ or_bad_reply (items_by_place (map (λ p. tuple_places (width_of pattern) p.1.items) order.now)
-        (map view values.items)) }
+    ensures { IsCombined (items_by_place (map (λ p. tuple_places (width_of pattern) p.1.items) order.now)
+        (map view values.items)) result }
 {
     match items_by_place(alloc, values, order, width_of(pattern))? {
         Some(items) => Ok(Value::Array(items)),
         None => Err(RedisError::from(Cause::UnexpectedReturnType)),
-    }
-}
-
-fn width_of(pattern: MultiSlotArgPattern) -> usize
-    ensures width { result ≡ width_of pattern }
-    ensures some { 0 < result }
-{
-    match pattern {
-        MultiSlotArgPattern::KeysOnly | MultiSlotArgPattern::KeysAndLastArg => 1,
-        MultiSlotArgPattern::KeyValuePairs => 2,
-        MultiSlotArgPattern::KeyWithTwoArgTriples => 3,
     }
 }
 

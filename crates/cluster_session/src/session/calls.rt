@@ -19,7 +19,7 @@ use cluster_client::{
     ByteLink, Call, ClusterClient, ConnectionLike, MemoryReader, MemoryWriter, NodeAddress, Played,
     play,
 };
-use resp_core::{ErrorKind, RedisError};
+use resp_core::RedisError;
 use std::alloc::{AllocError, Global};
 
 /// A link over bytes in memory.
@@ -34,17 +34,19 @@ pub(super) fn address(alloc: Global, word: &str) -> Result<NodeAddress, LineErro
 {
     match NodeAddress::try_from(alloc, word) {
         Ok(address) => Ok(address),
-        Err(error) => match error.kind() {
-            ErrorKind::Memory => Err(LineError::Memory),
-            _ => Err(LineError::Bad),
-        },
+        Err(error) => {
+            if error.is_memory() {
+                Err(LineError::Memory)
+            } else {
+                Err(LineError::Bad)
+            }
+        }
     }
 }
 
 /// A link to a node as it is set up.
 pub(super) fn link(alloc: Global, levels: Levels, node: Node) -> Link
-    ensures { ⟦<ByteLink<MemoryReader, MemoryWriter> as ConnectionLike>⟧.seen result
-        ≡ link_at_start levels.limit (setup_in node) }
+    ensures { ⟦<Link as ConnectionLike>⟧.seen result ≡ link_at_start levels.limit (setup_in node) }
 {
     let reader = MemoryReader::new(node.bytes, node.piece, node.failing_read);
     let writer = MemoryWriter::new(alloc, node.failing_write);
@@ -61,12 +63,10 @@ pub(super) fn client(
     read_only: Vec<Vec<u8>>,
     budget: u16,
 ) -> Result<Client, RedisError>
-    ensures repeated { IfErr result
-        (λ _. has_repeats (addresses_of
-        (nodes ⟦<ByteLink<MemoryReader, MemoryWriter> as ConnectionLike>⟧.seen links.items)) ≡ true) }
-    ensures made { IfOk result
-        (λ client. whole ⟦<ByteLink<MemoryReader, MemoryWriter> as ConnectionLike>⟧.seen client
-        ≡ new_world (nodes ⟦<ByteLink<MemoryReader, MemoryWriter> as ConnectionLike>⟧.seen links.items)
+    ensures repeated { IfErr result (λ _. has_repeats
+        (addresses_of (nodes ⟦<Link as ConnectionLike>⟧.seen links.items)) ≡ true) }
+    ensures made { IfOk result (λ client. whole ⟦<Link as ConnectionLike>⟧.seen client
+        ≡ new_world (nodes ⟦<Link as ConnectionLike>⟧.seen links.items)
         (record { budget = budget; read_only = texts read_only.items })) }
 {
     ClusterClient::new(alloc, links, read_only, budget)
@@ -74,33 +74,30 @@ pub(super) fn client(
 
 /// The calls, one after another, each with what it answered and asked for.
 pub(super) fn play_all(
-    client: &mut Client,
     alloc: Global,
+    client: &mut Client,
     calls: &[Call],
 ) -> Result<Vec<Played>, AllocError>
-    ensures { IfOk result
-        (λ played. Plays None
-        (whole ⟦<ByteLink<MemoryReader, MemoryWriter> as ConnectionLike>⟧.seen client.old)
-        (whole ⟦<ByteLink<MemoryReader, MemoryWriter> as ConnectionLike>⟧.seen client.new)
-        (map call_in calls.now) [] (map shown played.items) true) }
+    ensures { IfOk result (λ played. Plays None (whole ⟦<Link as ConnectionLike>⟧.seen client.old)
+        (whole ⟦<Link as ConnectionLike>⟧.seen client.new) (map call_in calls.now) []
+        (map shown played.items) true) }
 {
     let mut played = Vec::new(alloc);
-    play(client, alloc, calls, None, &mut played)?;
+    play(alloc, client, calls, None, &mut played)?;
     Ok(played)
 }
 
 /// Every node and its link, in the order in which the client got them.
 pub(super) fn links(client: &Client) -> &[(NodeAddress, Link)]
-    ensures { nodes ⟦<ByteLink<MemoryReader, MemoryWriter> as ConnectionLike>⟧.seen result.now
-        ≡ (whole ⟦<ByteLink<MemoryReader, MemoryWriter> as ConnectionLike>⟧.seen client.now).nodes }
+    ensures { nodes ⟦<Link as ConnectionLike>⟧.seen result.now
+        ≡ (whole ⟦<Link as ConnectionLike>⟧.seen client.now).nodes }
 {
     client.links()
 }
 
 /// The bytes that went out over the link.
 pub(super) fn sent(link: &Link) -> &[u8]
-    ensures { result.now
-        ≡ sent_bytes (⟦<ByteLink<MemoryReader, MemoryWriter> as ConnectionLike>⟧.seen link.now) }
+    ensures { result.now ≡ sent_bytes (⟦<Link as ConnectionLike>⟧.seen link.now) }
 {
     link.writer().written()
 }

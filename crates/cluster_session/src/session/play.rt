@@ -15,7 +15,7 @@ use crate::session::calls::Link;
 use crate::session::levels::Levels;
 use crate::session::script::{Node, Script, ScriptError};
 use crate::session::{calls, print};
-use cluster_client::{ByteLink, ConnectionLike, MemoryReader, MemoryWriter, NodeAddress, Played};
+use cluster_client::{ConnectionLike, NodeAddress, Played};
 use resp_core::{Cause, RedisError};
 use std::alloc::{AllocError, Global};
 use std::collections::BTreeMap;
@@ -68,7 +68,7 @@ fn play_script(alloc: Global, script: Script) -> Result<Printed, RedisError>
     let links = links(alloc, Levels::or_usual(levels), nodes)?;
     let mut client = calls::client(alloc, links, read_only, budget.unwrap_or(BUDGET))?;
     let mut output = String::new(alloc);
-    print_played(&mut output, &calls::play_all(&mut client, alloc, &calls)?)?;
+    print_played(&mut output, &calls::play_all(alloc, &mut client, &calls)?)?;
     print_sent(&mut output, calls::links(&client))?;
     Ok(Printed { status: 0, output })
 }
@@ -79,13 +79,10 @@ fn links(
     levels: Levels,
     set_up: BTreeMap<NodeAddress, Node>,
 ) -> Result<Vec<(NodeAddress, Link)>, AllocError>
-    ensures links { IfOk result
-        (λ links. nodes ⟦<ByteLink<MemoryReader, MemoryWriter> as ConnectionLike>⟧.seen links.items
+    ensures links { IfOk result (λ links. nodes ⟦<Link as ConnectionLike>⟧.seen links.items
         ≡ map (node_at_start levels.limit) (map node_in set_up.entries)) }
-    ensures distinct { IfOk result
-        (λ links. has_repeats
-        (addresses_of (nodes ⟦<ByteLink<MemoryReader, MemoryWriter> as ConnectionLike>⟧.seen links.items))
-        ≡ false) }
+    ensures distinct { IfOk result (λ links. has_repeats
+        (addresses_of (nodes ⟦<Link as ConnectionLike>⟧.seen links.items)) ≡ false) }
 {
     let mut links = Vec::with_capacity(alloc, set_up.len())?;
     for (address, node) in set_up {
@@ -114,8 +111,7 @@ fn print_call(output: &mut String, call: &Played) -> Result<(), AllocError>
 fn print_sent(output: &mut String, links: &[(NodeAddress, Link)]) -> Result<(), AllocError>
     ensures { OnOk result
         (string_bytes output.new ≡ string_bytes output.old
-        ++ flat_map node_line
-        (nodes ⟦<ByteLink<MemoryReader, MemoryWriter> as ConnectionLike>⟧.seen links.now)) }
+        ++ flat_map node_line (nodes ⟦<Link as ConnectionLike>⟧.seen links.now)) }
 {
     for (address, link) in links {
         print::sent(output, address, calls::sent(link))?;

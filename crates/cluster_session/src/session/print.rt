@@ -74,7 +74,7 @@ fn refused(output: &mut String, error: &RedisError) -> Result<(), AllocError>
     output.push_str("\n")
 }
 
-// A line for each position.
+/// A line for each position.
 fn print_outcomes(
     output: &mut String,
     outcomes: &[Result<Value, RedisError>],
@@ -134,7 +134,7 @@ fn manner(asking: bool) -> &'static str
     if asking { "asking" } else { "plain" }
 }
 
-// Each argument, a space before it.
+/// Each argument, a space before it.
 fn print_args(output: &mut String, args: &[Vec<u8>]) -> Result<(), AllocError>
     ensures { OnOk result
         (string_bytes output.new ≡ string_bytes output.old

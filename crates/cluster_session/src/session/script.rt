@@ -44,7 +44,7 @@ impl Node {
         }
     }
 
-    // Refused where an access of this kind fails already.
+    /// Refused where an access of this kind fails already.
     fn set_fault(&mut self, access: Access, number: u64) -> Result<(), LineError>
         ensures { Makes (set_fault (access_in access) number (setup_in self.old)) (setup_in self.new) result }
     {
@@ -55,7 +55,7 @@ impl Node {
     }
 }
 
-// Refused where a fault is set up already.
+/// Refused where a fault is set up already.
 fn set_first(failing: &mut u64, number: u64) -> Result<(), LineError>
     ensures { Makes (first_fault failing.old number) failing.new result }
 {
@@ -151,7 +151,7 @@ impl Script {
         Ok(script)
     }
 
-    // The lines in order, up to the first bad one.
+    /// The lines in order, up to the first bad one.
     fn add_lines(&mut self, alloc: Global, lines: &[&[u8]]) -> Result<(), ScriptError>
         ensures { MakesAll (add_lines 1 (words_in lines.now) (draft_in self.old)) (draft_in self.new) result }
     {
@@ -165,7 +165,7 @@ impl Script {
         Ok(())
     }
 
-    // A line, of which those behind it are known too.
+    /// A line, of which those behind it are known too.
     fn add_line(&mut self, alloc: Global, line: &[u8], later: &[&[u8]]) -> Result<(), LineError>
         ensures { Makes (add_line (words_in later.now) line.now (draft_in self.old))
             (draft_in self.new) result }
@@ -176,7 +176,7 @@ impl Script {
         }
     }
 
-    // What a line says, inside a pipeline or a transaction, or outside both.
+    /// What a line says, inside a pipeline or a transaction, or outside both.
     #[tactic(auto, using(crate::proofs::Scripts::said_inside, crate::proofs::Scripts::said_outside))]
     fn add_said(&mut self, alloc: Global, line: Line, later: &[&[u8]]) -> Result<(), LineError>
         ensures { Makes (add_said (draft_in self.old).pipeline (words_in later.now) (meaning_in line)
@@ -201,7 +201,7 @@ impl Script {
         }
     }
 
-    // A line of an open pipeline.
+    /// A line of an open pipeline.
     fn add_inside(&mut self, line: Line) -> Result<(), LineError>
         requires { self.old.pipeline ≢ None }
         ensures { Makes (add_inside (unwrap_or self.old.pipeline []) (meaning_in line) (draft_in self.old))
@@ -232,7 +232,7 @@ impl Script {
         }
     }
 
-    // Refused behind a call, and where the address has a node already.
+    /// Refused behind a call, and where the address has a node already.
     fn add_node(&mut self, at: NodeAddress, node: Node) -> Result<(), LineError>
         ensures { Makes (before_calls (draft_in self.old)
             (add_node (address at) (setup_in node) (draft_in self.old))) (draft_in self.new) result }
@@ -243,7 +243,7 @@ impl Script {
         put_node(&mut self.nodes, at, node)
     }
 
-    // Refused behind a call, and where no line above sets up the node.
+    /// Refused behind a call, and where no line above sets up the node.
     fn add_fault(&mut self, at: &NodeAddress, access: Access, number: u64) -> Result<(), LineError>
         ensures { Makes (before_calls (draft_in self.old)
             (add_fault (address at.now) (access_in access) number (draft_in self.old)))
@@ -255,7 +255,7 @@ impl Script {
         put_fault(&mut self.nodes, at, access, number)
     }
 
-    // Refused behind a call.
+    /// Refused behind a call.
     fn add_read_only(&mut self, name: Vec<u8>) -> Result<(), LineError>
         ensures { Makes (before_calls (draft_in self.old)
             (Some (add_read_only name.items (draft_in self.old)))) (draft_in self.new) result }
@@ -267,7 +267,7 @@ impl Script {
         Ok(())
     }
 
-    // Refused behind a call, and where a line set it already.
+    /// Refused behind a call, and where a line set it already.
     fn set_budget(&mut self, budget: u16) -> Result<(), LineError>
         ensures { Makes (before_calls (draft_in self.old) (set_budget budget (draft_in self.old)))
             (draft_in self.new) result }
@@ -279,7 +279,7 @@ impl Script {
         Ok(())
     }
 
-    // Refused behind a call, and where a line set it already.
+    /// Refused behind a call, and where a line set it already.
     fn set_levels(&mut self, levels: Levels) -> Result<(), LineError>
         ensures { Makes (before_calls (draft_in self.old) (set_levels levels.limit (draft_in self.old)))
             (draft_in self.new) result }
@@ -298,7 +298,7 @@ impl Script {
         Ok(())
     }
 
-    // Refused where no line behind it ends the pipeline.
+    /// Refused where no line behind it ends the pipeline.
     #[tactic(auto, using(crate::proofs::Scripts::any_words))]
     fn begin_pipeline(
         &mut self,
@@ -345,7 +345,7 @@ impl Script {
         }
     }
 
-    // A line of an open transaction.
+    /// A line of an open transaction.
     fn add_to_transaction(&mut self, line: Line) -> Result<(), LineError>
         requires { self.old.transaction ≢ None }
         ensures { Makes (add_to (unwrap_or (draft_in self.old).transaction []) (meaning_in line)
@@ -361,7 +361,7 @@ impl Script {
         }
     }
 
-    // Refused where no line behind it ends the transaction.
+    /// Refused where no line behind it ends the transaction.
     #[tactic(auto, using(crate::proofs::Scripts::any_words))]
     fn begin_transaction(&mut self, alloc: Global, later: &[&[u8]]) -> Result<(), LineError>
         ensures { Makes (begin_transaction (words_in later.now) (draft_in self.old))
@@ -399,7 +399,7 @@ impl Script {
     }
 }
 
-// The call of a pipeline.
+/// The call of a pipeline.
 fn pipeline_call(tells_each: bool, pipeline: ClusterPipeline) -> Call
     ensures { call_in result ≡ pipeline_call tells_each pipeline }
 {
@@ -410,7 +410,7 @@ fn pipeline_call(tells_each: bool, pipeline: ClusterPipeline) -> Call
     }
 }
 
-// Refused where the address has a node already.
+/// Refused where the address has a node already.
 fn put_node(
     nodes: &mut BTreeMap<NodeAddress, Node>,
     at: NodeAddress,
@@ -425,7 +425,7 @@ fn put_node(
     Ok(())
 }
 
-// Refused where the address has no node.
+/// Refused where the address has no node.
 fn put_fault(
     nodes: &mut BTreeMap<NodeAddress, Node>,
     at: &NodeAddress,
@@ -441,14 +441,14 @@ fn put_fault(
     }
 }
 
-// Whether one of these lines ends a pipeline, or a transaction.
+/// Whether one of these lines ends a pipeline, or a transaction.
 fn is_ended(later: &[&[u8]]) -> bool
     ensures { result ≡ list_any (λ line. is_run line.now) later.now }
 {
     later.iter().any(|line| is_run(line))
 }
 
-// The lines of a text: what stands between the bytes LF.
+/// The lines of a text: what stands between the bytes LF.
 fn lines_of(alloc: Global, text: &[u8]) -> Result<Vec<&[u8]>, AllocError>
     ensures { IfOk result (λ v. words_in v.items ≡ pieces 10 text.now) }
 {
@@ -462,7 +462,7 @@ fn lines_of(alloc: Global, text: &[u8]) -> Result<Vec<&[u8]>, AllocError>
     Ok(lines)
 }
 
-// The first line, and the text behind its LF.
+/// The first line, and the text behind its LF.
 #[tactic(auto, using(crate::proofs::Pieces::piece_without))]
 fn cut_line(text: &[u8]) -> Option<(&[u8], &[u8])>
     ensures pieces { MatchOption result (pieces 10 text.now ≡ text.now ∷ [])

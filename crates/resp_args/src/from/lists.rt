@@ -102,7 +102,7 @@ fn each_item_ref<T: FromRedisValue>(alloc: Global, items: &[Value]) -> Result<Ve
     Ok(list)
 }
 
-// A pair as a map of its own.
+/// A pair as a map of its own.
 fn convert_pair<T: FromRedisValue>(alloc: Global, pair: (Value, Value)) -> Result<T, ParsingError>
     ensures { Answers T.meaning (T.convert (one_pair (pair_view pair))) result }
 {

@@ -77,7 +77,7 @@ fn convert_pairs_ref<K: FieldName, V: FromRedisValue>(
     }
 }
 
-// How many pairs a value has, for the room that they take.
+/// How many pairs a value has, for the room that they take.
 fn count_pairs(value: &Value) -> usize {
     match value {
         Value::Map(pairs) => pairs.len(),
@@ -86,7 +86,7 @@ fn count_pairs(value: &Value) -> usize {
     }
 }
 
-// A repeated name keeps its first place and its last value.
+/// A repeated name keeps its first place and its last value.
 fn collect<K: FieldName, V: FromRedisValue>(
     alloc: Global,
     pairs: Vec<(K, V)>,
@@ -110,7 +110,7 @@ fn collect<K: FieldName, V: FromRedisValue>(
     Ok(map)
 }
 
-// All pairs are read before the first is put into a map, where equal hashes cost time.
+/// All pairs are read before the first is put into a map, where equal hashes cost time.
 fn each_pair<K: FromRedisValue, V: FromRedisValue>(
     alloc: Global,
     count: usize,

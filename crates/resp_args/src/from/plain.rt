@@ -5,7 +5,7 @@ ghost use Rattle.resp_args.specs.Convert.{plain};
 
 use resp_core::Value;
 
-// Most values have no attributes, so the look at this one is made where it is called.
+/// Most values have no attributes, so the look at this one is made where it is called.
 #[inline(always)]
 pub(crate) fn into_plain(value: Value) -> Value
     ensures { view result ≡ plain (view value) }

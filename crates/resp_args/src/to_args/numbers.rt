@@ -27,7 +27,7 @@ impl ToSingleRedisArg for bool {
     ghost one_argument = { λ b. refl };
 }
 
-// An integer as one argument, in decimal.
+/// An integer as one argument, in decimal.
 fn write_number<N: Integer, W: RedisWrite>(number: N, out: &mut W) -> Result<(), AllocError>
     ensures writes { Writes result (W.written out.old) (N.text number ∷ []) (W.written out.new) }
     ensures keeps { W.beside out.new ≡ W.beside out.old }

@@ -71,7 +71,7 @@ impl Parser {
         }
     }
 
-    // A type byte, a line, or counted bytes. It answers the value that is then whole, if one is.
+    /// A type byte, a line, or counted bytes. It answers the value that is then whole, if one is.
     fn advance(&mut self, levels: u16) -> Result<Option<Value>, Stop>
         requires levels { levels ≤ self.old.limit }
         ensures advances { Advances levels result self.old self.new }
@@ -87,7 +87,7 @@ impl Parser {
         }
     }
 
-    // The type byte; the outermost value may nest so many levels deep.
+    /// The type byte; the outermost value may nest so many levels deep.
     fn begin(&mut self, levels: u16) -> Result<Option<Value>, Stop>
         requires fresh { self.old.head ≡ Fresh }
         requires levels { levels ≤ self.old.limit }
@@ -116,7 +116,7 @@ impl Parser {
         Ok(None)
     }
 
-    // The line, once its end is there.
+    /// The line, once its end is there.
     fn end_line(&mut self, marker: Marker) -> Result<Option<Value>, Stop>
         requires { self.old.head ≡ Line marker }
         ensures advances { (levels : ℕ) → Advances levels result self.old self.new }
@@ -153,7 +153,7 @@ impl Parser {
         }
     }
 
-    // The counted bytes and their CR LF, once they are there.
+    /// The counted bytes and their CR LF, once they are there.
     fn end_bytes(&mut self, marker: Marker, count: u64) -> Result<Option<Value>, Stop>
         requires { self.old.head ≡ Bytes marker count }
         ensures advances { (levels : ℕ) → Advances levels result self.old self.new }

@@ -169,7 +169,7 @@ fn put_into_push(
     Ok(None)
 }
 
-// A key, or the value of one.
+/// A key, or the value of one.
 fn put_into_map(
     alloc: Global,
     pairs: &mut Vec<(Value, Value)>,
@@ -193,7 +193,7 @@ fn put_into_map(
     Ok(None)
 }
 
-// A key, the value of one, or the inner value.
+/// A key, the value of one, or the inner value.
 fn put_into_attribute(
     alloc: Global,
     pairs: &mut Vec<(Value, Value)>,
@@ -219,7 +219,7 @@ fn put_into_attribute(
     Ok(None)
 }
 
-// The first value of a push.
+/// The first value of a push.
 fn name(alloc: Global, value: Value, to_come: u64) -> Result<Opened, Stop>
     ensures names { (k : ℕ) → (bs : List ℕ)
         → Names k bs result (rest_of k (frames.Naming to_come) (view value, bs)) }
@@ -245,7 +245,7 @@ impl Frame {
         }
     }
 
-    // The same of every row. It is apart so that the compiled way of arrays is free of the other rows.
+    /// The same of every row. It is apart so that the compiled way of arrays is free of the other rows.
     #[inline(never)]
     fn put_into_any(&mut self, alloc: Global, value: Value) -> Result<Option<Value>, Stop>
         ensures { (k : ℕ) → (bs : List ℕ) → Puts k bs result self.new (rest_of k self.old (view value, bs)) }

@@ -12,11 +12,11 @@ const ROOM: usize = 4096;
 const READS: u64 = 1 << 32;
 
 impl Parser {
-    ghost use Rattle.std.specs.Prelude.{◌≡◌, ◌<◌, ◌+◌, ◌^◌, length, true, false, List, ℕ, [], ◌∷◌, ◌⊎◌, ◌↔◌, IfOk, IfErr, OnOk, OnErr, IsErrOf, ◌++◌};
+    ghost use Rattle.std.specs.Prelude.{◌≡◌, ◌<◌, ◌+◌, ◌^◌, length, true, false, List, ℕ, [], ◌⊎◌, ◌↔◌, IfOk, IfErr, OnOk, OnErr, IsErrOf, ◌++◌};
     ghost use Rattle.resp_core.specs.View.{view};
     ghost use Rattle.resp_core.specs.Errors.{by_cause};
-    ghost use Rattle.resp_core.specs.Standing.{Stands, level_limit, has_fault, is_starved, waiting, is_resting, BeginsUnfinished};
-    ghost use Rattle.resp_core.specs.Incoming.{reading, Reads, Seeks, Stops, Meets};
+    ghost use Rattle.resp_core.specs.Standing.{Stands, level_limit, has_fault, is_starved, is_resting, BeginsUnfinished};
+    ghost use Rattle.resp_core.specs.Incoming.{over, holding, Seeks, Stops, Meets, TakesNext, Goes, Loses, GoesUnfinished, LosesUnfinished};
     ghost use Rattle.resp_core.specs.declared.errors.redis_error.Cause.TheVariants.{Io, Parse, Memory};
 
     /// Takes the next value, reading from `reader` while none is whole.
@@ -26,26 +26,18 @@ impl Parser {
     /// with a fault; by `Cause::Memory` where memory was refused. After either of the last two it
     /// refuses so for good.
     pub fn parse_value<R: LinkRead>(&mut self, reader: &mut R) -> Result<Value, RedisError>
-        ensures value { IfOk result (λ v. (held : List ℕ) → Stands self.old held → (allowed : ℕ)
-            × Reads (reading R.unread R.counts reader.old (level_limit self.old) held (2 ^ 32))
-            (reading R.unread R.counts reader.new (level_limit self.new) (waiting self.new) allowed)
-            (view v ∷ [])
-            × Stands self.new (waiting self.new)) }
-        ensures stops { IsErrOf result (by_cause Io) → (held : List ℕ) → Stands self.old held → (allowed : ℕ)
-            × (rest : List ℕ)
-            × Stops (reading R.unread R.counts reader.old (level_limit self.old) held (2 ^ 32))
-            (reading R.unread R.counts reader.new (level_limit self.new) rest allowed) []
-            × Stands self.new rest }
-        ensures meets { IsErrOf result (by_cause Parse) → (held : List ℕ) → Stands self.old held
-            → (allowed : ℕ) × (rest : List ℕ)
-            × Meets (reading R.unread R.counts reader.old (level_limit self.old) held (2 ^ 32))
-            (reading R.unread R.counts reader.new (level_limit self.new) rest allowed) []
-            × Stands self.new rest }
-        // Want of memory takes no value, and what was read is lost.
-        ensures starves { IsErrOf result (by_cause Memory) → (held : List ℕ) → Stands self.old held
-            → (allowed : ℕ) × (rest : List ℕ)
-            × Seeks (reading R.unread R.counts reader.old (level_limit self.old) held (2 ^ 32))
-            (reading R.unread R.counts reader.new (level_limit self.new) rest allowed) [] }
+        ensures value { IfOk result (λ v. (allowed : ℕ) × TakesNext
+            (over R.unread R.counts reader.old self.old (2 ^ 32))
+            (over R.unread R.counts reader.new self.new allowed) (view v)) }
+        ensures stops { IsErrOf result (by_cause Io) → (allowed : ℕ) × Goes Stops
+            (over R.unread R.counts reader.old self.old (2 ^ 32))
+            (over R.unread R.counts reader.new self.new allowed) }
+        ensures meets { IsErrOf result (by_cause Parse) → (allowed : ℕ) × Goes Meets
+            (over R.unread R.counts reader.old self.old (2 ^ 32))
+            (over R.unread R.counts reader.new self.new allowed) }
+        ensures starves { IsErrOf result (by_cause Memory) → (allowed : ℕ) × Loses
+            (over R.unread R.counts reader.old self.old (2 ^ 32))
+            (over R.unread R.counts reader.new self.new allowed) }
         ensures causes { IfErr result
             (λ e. (e ≡ by_cause Io) ⊎ (e ≡ by_cause Parse) ⊎ (e ≡ by_cause Memory)) }
         // A fault and a want of memory are told for good.
@@ -68,25 +60,18 @@ impl Parser {
         reader: &mut R,
         allowed: &mut u64,
     ) -> Result<Value, RedisError>
-        ensures value { IfOk result (λ v. (held : List ℕ) → Stands self.old held
-            → Reads (reading R.unread R.counts reader.old (level_limit self.old) held allowed.old)
-            (reading R.unread R.counts reader.new (level_limit self.new) (waiting self.new) allowed.new)
-            (view v ∷ [])
-            × Stands self.new (waiting self.new)) }
-        ensures stops { IsErrOf result (by_cause Io) → (held : List ℕ) → Stands self.old held
-            → (rest : List ℕ)
-            × Stops (reading R.unread R.counts reader.old (level_limit self.old) held allowed.old)
-            (reading R.unread R.counts reader.new (level_limit self.new) rest allowed.new) []
-            × Stands self.new rest }
-        ensures meets { IsErrOf result (by_cause Parse) → (held : List ℕ) → Stands self.old held
-            → (rest : List ℕ)
-            × Meets (reading R.unread R.counts reader.old (level_limit self.old) held allowed.old)
-            (reading R.unread R.counts reader.new (level_limit self.new) rest allowed.new) []
-            × Stands self.new rest }
-        ensures starves { IsErrOf result (by_cause Memory) → (held : List ℕ) → Stands self.old held
-            → (rest : List ℕ)
-            × Seeks (reading R.unread R.counts reader.old (level_limit self.old) held allowed.old)
-            (reading R.unread R.counts reader.new (level_limit self.new) rest allowed.new) [] }
+        ensures value { IfOk result (λ v. TakesNext
+            (over R.unread R.counts reader.old self.old allowed.old)
+            (over R.unread R.counts reader.new self.new allowed.new) (view v)) }
+        ensures stops { IsErrOf result (by_cause Io) → Goes Stops
+            (over R.unread R.counts reader.old self.old allowed.old)
+            (over R.unread R.counts reader.new self.new allowed.new) }
+        ensures meets { IsErrOf result (by_cause Parse) → Goes Meets
+            (over R.unread R.counts reader.old self.old allowed.old)
+            (over R.unread R.counts reader.new self.new allowed.new) }
+        ensures starves { IsErrOf result (by_cause Memory) → Loses
+            (over R.unread R.counts reader.old self.old allowed.old)
+            (over R.unread R.counts reader.new self.new allowed.new) }
         ensures causes { IfErr result
             (λ e. (e ≡ by_cause Io) ⊎ (e ≡ by_cause Parse) ⊎ (e ≡ by_cause Memory)) }
         // After a value none is half read.
@@ -107,8 +92,8 @@ impl Parser {
         }
     }
 
-    // Reads behind what is held: once, and on into the same room while counted bytes are missing, since the
-    // value is unfinished until they are there.
+    /// Reads behind what is held: once, and on into the same room while counted bytes are missing, since the
+    /// value is unfinished until they are there.
     fn read_more<R: LinkRead>(
         &mut self,
         reader: &mut R,
@@ -116,21 +101,15 @@ impl Parser {
     ) -> Result<(), RedisError>
         requires whole { has_fault self.old ≡ false }
         requires fed { is_starved self.old ≡ false }
-        ensures more { OnOk result
-            ((held : List ℕ) → BeginsUnfinished (level_limit self.old) held → Stands self.old held
-            → (rest : List ℕ)
-            × Seeks (reading R.unread R.counts reader.old (level_limit self.old) held allowed.old)
-            (reading R.unread R.counts reader.new (level_limit self.new) rest allowed.new) []
-            × Stands self.new rest) }
-        ensures starves { IsErrOf result (by_cause Memory) → (held : List ℕ)
-            → BeginsUnfinished (level_limit self.old) held → Stands self.old held → (rest : List ℕ)
-            × Seeks (reading R.unread R.counts reader.old (level_limit self.old) held allowed.old)
-            (reading R.unread R.counts reader.new (level_limit self.new) rest allowed.new) [] }
-        ensures stops { IsErrOf result (by_cause Io) → (held : List ℕ)
-            → BeginsUnfinished (level_limit self.old) held → Stands self.old held → (rest : List ℕ)
-            × Stops (reading R.unread R.counts reader.old (level_limit self.old) held allowed.old)
-            (reading R.unread R.counts reader.new (level_limit self.new) rest allowed.new) []
-            × Stands self.new rest }
+        ensures more { OnOk result (GoesUnfinished Seeks
+            (over R.unread R.counts reader.old self.old allowed.old)
+            (over R.unread R.counts reader.new self.new allowed.new)) }
+        ensures starves { IsErrOf result (by_cause Memory) → LosesUnfinished
+            (over R.unread R.counts reader.old self.old allowed.old)
+            (over R.unread R.counts reader.new self.new allowed.new) }
+        ensures stops { IsErrOf result (by_cause Io) → GoesUnfinished Stops
+            (over R.unread R.counts reader.old self.old allowed.old)
+            (over R.unread R.counts reader.new self.new allowed.new) }
         ensures fewer { OnOk result (allowed.new < allowed.old) }
         ensures causes { IfErr result (λ e. (e ≡ by_cause Io) ⊎ (e ≡ by_cause Memory)) }
         ensures has_fault { has_fault self.new ≡ false }
@@ -146,7 +125,7 @@ impl Parser {
         }
     }
 
-    // One read, behind what is held.
+    /// One read, behind what is held.
     fn read_into<R: LinkRead>(
         &mut self,
         reader: &mut R,
@@ -156,20 +135,16 @@ impl Parser {
         requires whole { has_fault self.old ≡ false }
         requires fed { is_starved self.old ≡ false }
         requires room { length room.old ≡ 4096 }
-        ensures more { OnOk result
-            ((held : List ℕ) → BeginsUnfinished (level_limit self.old) held → Stands self.old held
-            → (rest : List ℕ)
-            × Seeks (reading R.unread R.counts reader.old (level_limit self.old) held allowed.old)
-            (reading R.unread R.counts reader.new (level_limit self.new) rest allowed.new) []
-            × Stands self.new rest) }
-        ensures starves { IsErrOf result (by_cause Memory) → (held : List ℕ)
-            → BeginsUnfinished (level_limit self.old) held → Stands self.old held → (rest : List ℕ)
-            × Seeks (reading R.unread R.counts reader.old (level_limit self.old) held allowed.old)
-            (reading R.unread R.counts reader.new (level_limit self.new) rest allowed.new) [] }
+        ensures more { OnOk result (GoesUnfinished Seeks
+            (over R.unread R.counts reader.old self.old allowed.old)
+            (over R.unread R.counts reader.new self.new allowed.new)) }
+        ensures starves { IsErrOf result (by_cause Memory) → LosesUnfinished
+            (over R.unread R.counts reader.old self.old allowed.old)
+            (over R.unread R.counts reader.new self.new allowed.new) }
         ensures stops { IsErrOf result (by_cause Io) → (held : List ℕ)
             → BeginsUnfinished (level_limit self.old) held → Stands self.old held
-            → Stops (reading R.unread R.counts reader.old (level_limit self.old) held allowed.old)
-            (reading R.unread R.counts reader.new (level_limit self.new) held allowed.new) []
+            → Stops (holding (over R.unread R.counts reader.old self.old allowed.old) held)
+            (holding (over R.unread R.counts reader.new self.new allowed.new) held) []
             × Stands self.new held }
         ensures fewer { OnOk result (allowed.new + 1 ≡ allowed.old) }
         ensures causes { IfErr result (λ e. (e ≡ by_cause Io) ⊎ (e ≡ by_cause Memory)) }
@@ -190,7 +165,7 @@ impl Parser {
         }
     }
 
-    // Adds bytes. Where memory is refused, it refuses so from then on.
+    /// Adds bytes. Where memory is refused, it refuses so from then on.
     fn feed_or_starve(&mut self, piece: &[u8]) -> Result<(), RedisError>
         requires whole { has_fault self.old ≡ false }
         requires fed { is_starved self.old ≡ false }

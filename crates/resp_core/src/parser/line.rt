@@ -52,7 +52,7 @@ pub(crate) fn line_end(bytes: &[u8], searched: usize, after_return: bool) -> Lin
     LineEnd::GoesOn(is_after_return(bytes, from, after_return, bytes.len()))
 }
 
-// Whether the byte before `at` is a CR; `after_return` says it of the one before `from`.
+/// Whether the byte before `at` is a CR; `after_return` says it of the one before `from`.
 fn is_after_return(bytes: &[u8], from: usize, after_return: bool, at: usize) -> bool
     requires order { from ≤ at }
     requires within { at ≤ length bytes.now }

@@ -51,8 +51,7 @@ pub(crate) fn enter(
     announced: Announced,
 ) -> Result<Progress, Stop>
     requires { SplitsIn marker announced }
-    ensures settles { (levels : ℕ)
-        → Settles levels result
+    ensures settles { (levels : ℕ) → Settles levels result
         (follow (value_at (levels - length frames.old.items - 1)) marker (Some (next_view announced)))
         frames.old.items frames.new.items }
     ensures leaves_line { LeavesLine result }

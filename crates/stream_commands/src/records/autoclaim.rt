@@ -1,13 +1,12 @@
 //! Replies to XAUTOCLAIM.
 #![tactic(auto, using(crate::proofs::Made::making))]
 
-ghost use Rattle.std.specs.Prelude.{◌≡◌, [], false, string_bytes, option_map, map as each, MatchResult, None};
-ghost use Rattle.resp_core.specs.Errors.{no_memory};
+ghost use Rattle.std.specs.Prelude.{◌≡◌, [], false, string_bytes, option_map, map as each, None};
 ghost use Rattle.resp_core.specs.Trees.{array};
 ghost use Rattle.resp_core.specs.View.{view, trees_of};
 ghost use Rattle.resp_args.specs.Convert.{Answers};
-ghost use Rattle.stream_commands.specs.AutoClaim.{AutoClaim, first_no_null as spec_first_no_null, keep_present, id_alone, entries_by_first, claimed_from, claimed, autoclaim_of, autoclaim_reply};
-ghost use Rattle.stream_commands.specs.RecordViews.{entries_view, claimed_view, autoclaim_view};
+ghost use Rattle.stream_commands.specs.AutoClaim.{AutoClaim, first_no_null as spec_first_no_null, keep_present, id_alone, entries_listed, claimed_from, claimed, autoclaim_of, autoclaim_reply};
+ghost use Rattle.stream_commands.specs.RecordViews.{MadeOf, entries_view, claimed_view, autoclaim_view};
 ghost use Rattle.stream_commands.specs.Shapes.{a_text, perhaps, list_of};
 
 use crate::records::entries::{Entries, StreamId};
@@ -57,23 +56,20 @@ impl FromRedisValue for StreamAutoClaimReply {
 
     ghost byte_item = { None };
 
-    fn from_redis_value(alloc: Global, value: Value) -> Result<StreamAutoClaimReply, ParsingError> {
+    fn from_redis_value(alloc: Global, value: Value) -> Result<Self, ParsingError> {
         match value {
             Value::Array(items) => autoclaim(alloc, items),
             _ => Err(ParsingError::fixed("an array was wanted")),
         }
     }
 
-    fn from_byte_vec(
-        alloc: Global,
-        bytes: Vec<u8>,
-    ) -> Result<Vec<StreamAutoClaimReply>, ParsingError> {
-        let value = StreamAutoClaimReply::from_redis_value(alloc, Value::BulkString(bytes))?;
+    fn from_byte_vec(alloc: Global, bytes: Vec<u8>) -> Result<Vec<Self>, ParsingError> {
+        let value = Self::from_redis_value(alloc, Value::BulkString(bytes))?;
         one(alloc, value)
     }
 }
 
-// Two items, or three where the server tells deleted ids.
+/// Two items, or three where the server tells deleted ids.
 fn autoclaim(alloc: Global, items: Vec<Value>) -> Result<StreamAutoClaimReply, ParsingError>
     ensures { Answers autoclaim_view (autoclaim_of (each view items.items)) result }
 {
@@ -107,7 +103,7 @@ fn autoclaim(alloc: Global, items: Vec<Value>) -> Result<StreamAutoClaimReply, P
     }
 }
 
-// The entries, and whether some items hold none.
+/// The entries, and whether some items hold none.
 fn read_claimed(alloc: Global, list: Value) -> Result<(Vec<StreamId>, bool), ParsingError>
     ensures { Answers (λ p. claimed_view p.0.items p.1) (claimed (view list)) result }
 {
@@ -119,9 +115,7 @@ fn read_claimed(alloc: Global, list: Value) -> Result<(Vec<StreamId>, bool), Par
 
 fn read_items(alloc: Global, items: Vec<Value>) -> Result<(Vec<StreamId>, bool), ParsingError>
     ensures { Answers (λ p. claimed_view p.0.items p.1)
-        (option_map (claimed_from (each view items.items))
-        (entries_by_first (spec_first_no_null (each view items.items))
-        (array (trees_of (each view items.items))))) result }
+        (option_map (claimed_from (each view items.items)) (entries_listed (each view items.items))) result }
 {
     let count = items.len();
     let ids = read_ids(alloc, items)?;
@@ -130,9 +124,7 @@ fn read_items(alloc: Global, items: Vec<Value>) -> Result<(Vec<StreamId>, bool),
 }
 
 fn read_ids(alloc: Global, items: Vec<Value>) -> Result<Vec<StreamId>, ParsingError>
-    ensures { Answers (λ v. entries_view v.items)
-        (entries_by_first (spec_first_no_null (each view items.items))
-        (array (trees_of (each view items.items)))) result }
+    ensures { Answers (λ v. entries_view v.items) (entries_listed (each view items.items)) result }
 {
     match first_no_null(items.as_slice()) {
         None => Ok(Vec::new(alloc)),
@@ -145,7 +137,7 @@ fn read_ids(alloc: Global, items: Vec<Value>) -> Result<Vec<StreamId>, ParsingEr
     }
 }
 
-// The first item that is no null.
+/// The first item that is no null.
 fn first_no_null(items: &[Value]) -> Option<&Value>
     ensures { option_map (λ v. view v.now) result ≡ spec_first_no_null (each view items.now) }
 {
@@ -171,10 +163,8 @@ fn ids_without_fields(
     alloc: Global,
     optional_ids: Vec<Option<String>>,
 ) -> Result<Vec<StreamId>, ParsingError>
-    ensures { MatchResult result
-        (λ v. entries_view v.items
-        ≡ each id_alone (keep_present (each (λ o. option_map string_bytes o) optional_ids.items)))
-        (λ e. e ≡ no_memory) }
+    ensures { MadeOf (λ v. entries_view v.items)
+        (each id_alone (keep_present (each (λ o. option_map string_bytes o) optional_ids.items))) result }
 {
     let mut ids = Vec::new(alloc);
     for item in optional_ids {

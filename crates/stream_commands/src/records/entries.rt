@@ -1,12 +1,12 @@
 //! Entries of streams.
-ghost use Rattle.std.specs.Prelude.{◌≡◌, ◌++◌, false, List, pos, string_bytes, option_map, map as each, MatchResult, None};
+ghost use Rattle.std.specs.Prelude.{◌≡◌, ◌++◌, false, List, string_bytes, option_map, map as each, MatchResult, None};
 ghost use Rattle.std.specs.List.{flat_map};
 ghost use Rattle.resp_core.specs.Errors.{no_memory};
 ghost use Rattle.resp_core.specs.Trees.{array};
 ghost use Rattle.resp_core.specs.View.{view, trees_of};
 ghost use Rattle.resp_args.specs.Convert.{Answers, traverse};
-ghost use Rattle.stream_commands.specs.Entries.{Entry, ids_with_fields, without_times, with_times, entries, claimed_entries};
-ghost use Rattle.stream_commands.specs.RecordViews.{entry_view, entries_view, fields_view};
+ghost use Rattle.stream_commands.specs.Entries.{Entry, ids_with_fields, without_times, entries, claimed_entries};
+ghost use Rattle.stream_commands.specs.RecordViews.{MadeOf, entry_view, entry_of_parts, entries_under_ids, entries_view, fields_view};
 
 use crate::records::fields::{Fields, copy_fields};
 use crate::records::one;
@@ -49,8 +49,7 @@ impl StreamId {
     /// The value of a field, read as a `T`: none where there is no such field, or where its value
     /// is read as no `T`.
     pub fn get<T: FromRedisValue>(&self, key: &str) -> Result<Option<T>, RedisError>
-        ensures { MatchResult result
-            (λ o. option_map T.meaning o
+        ensures { MatchResult result (λ o. option_map T.meaning o
             ≡ option_and_then T.convert (under key.now (fields_view self.now.map)))
             (λ e. e ≡ unread no_memory) }
     {
@@ -134,27 +133,27 @@ impl FromRedisValue for Entries {
 
     ghost byte_item = { None };
 
-    fn from_redis_value(alloc: Global, value: Value) -> Result<Entries, ParsingError> {
+    fn from_redis_value(alloc: Global, value: Value) -> Result<Self, ParsingError> {
         match value {
             Value::Array(items) => each_entry(alloc, items),
             value => other_entries(alloc, value),
         }
     }
 
-    fn from_redis_value_ref(alloc: Global, value: &Value) -> Result<Entries, ParsingError> {
+    fn from_redis_value_ref(alloc: Global, value: &Value) -> Result<Self, ParsingError> {
         let maps = Vec::<IndexMap<String, Fields>>::from_redis_value_ref(alloc, value)?;
         Ok(Entries {
             ids: list_entries(alloc, maps)?,
         })
     }
 
-    fn from_byte_vec(alloc: Global, bytes: Vec<u8>) -> Result<Vec<Entries>, ParsingError> {
-        let value = Entries::from_redis_value(alloc, Value::BulkString(bytes))?;
+    fn from_byte_vec(alloc: Global, bytes: Vec<u8>) -> Result<Vec<Self>, ParsingError> {
+        let value = Self::from_redis_value(alloc, Value::BulkString(bytes))?;
         one(alloc, value)
     }
 }
 
-// Entries in another form than an array.
+/// Entries in another form than an array.
 fn other_entries(alloc: Global, value: Value) -> Result<Entries, ParsingError>
     ensures { Answers (λ e. entries_view e.ids.items) (entries (view value)) result }
 {
@@ -175,7 +174,7 @@ fn each_entry(alloc: Global, items: Vec<Value>) -> Result<Entries, ParsingError>
     Ok(Entries { ids })
 }
 
-// An id with its fields is an entry at once, without a map of one pair round it.
+/// An id with its fields is an entry at once, without a map of one pair round it.
 fn read_entry(alloc: Global, ids: &mut Vec<StreamId>, item: Value) -> Result<(), ParsingError>
     ensures { Answers (λ _. entries_view ids.new.items)
         (option_map (λ es. entries_view ids.old.items ++ each without_times es) (ids_with_fields (view item))) result }
@@ -230,10 +229,7 @@ fn list_entries(
     alloc: Global,
     maps: Vec<IndexMap<String, Fields>>,
 ) -> Result<Vec<StreamId>, ParsingError>
-    ensures { MatchResult result
-        (λ v. entries_view v.items
-        ≡ flat_map (λ m. each (λ e. without_times (string_bytes e.0, fields_view e.1)) m.entries) maps.items)
-        (λ e. e ≡ no_memory) }
+    ensures { MadeOf (λ v. entries_view v.items) (flat_map entries_under_ids maps.items) result }
 {
     let mut ids = Vec::new(alloc);
     for map in maps {
@@ -246,10 +242,8 @@ fn add_entries(
     ids: &mut Vec<StreamId>,
     entries: IndexMap<String, Fields>,
 ) -> Result<(), ParsingError>
-    ensures { MatchResult result
-        (λ _. entries_view ids.new.items ≡ entries_view ids.old.items
-        ++ each (λ e. without_times (string_bytes e.0, fields_view e.1)) entries.entries)
-        (λ e. e ≡ no_memory) }
+    ensures { MadeOf (λ _. entries_view ids.new.items)
+        (entries_view ids.old.items ++ entries_under_ids entries) result }
 {
     for (id, map) in entries {
         ids.push(StreamId {
@@ -281,22 +275,22 @@ impl FromRedisValue for ClaimedEntries {
 
     ghost byte_item = { None };
 
-    fn from_redis_value(alloc: Global, value: Value) -> Result<ClaimedEntries, ParsingError> {
+    fn from_redis_value(alloc: Global, value: Value) -> Result<Self, ParsingError> {
         let claimed = Vec::<Claimed>::from_redis_value(alloc, value)?;
         Ok(ClaimedEntries {
             ids: list_claimed(alloc, claimed)?,
         })
     }
 
-    fn from_redis_value_ref(alloc: Global, value: &Value) -> Result<ClaimedEntries, ParsingError> {
+    fn from_redis_value_ref(alloc: Global, value: &Value) -> Result<Self, ParsingError> {
         let claimed = Vec::<Claimed>::from_redis_value_ref(alloc, value)?;
         Ok(ClaimedEntries {
             ids: list_claimed(alloc, claimed)?,
         })
     }
 
-    fn from_byte_vec(alloc: Global, bytes: Vec<u8>) -> Result<Vec<ClaimedEntries>, ParsingError> {
-        let value = ClaimedEntries::from_redis_value(alloc, Value::BulkString(bytes))?;
+    fn from_byte_vec(alloc: Global, bytes: Vec<u8>) -> Result<Vec<Self>, ParsingError> {
+        let value = Self::from_redis_value(alloc, Value::BulkString(bytes))?;
         one(alloc, value)
     }
 }
@@ -311,10 +305,7 @@ impl EntryForm for ClaimedEntries {
 }
 
 fn list_claimed(alloc: Global, claimed: Vec<Claimed>) -> Result<Vec<StreamId>, ParsingError>
-    ensures { MatchResult result
-        (λ v. entries_view v.items
-        ≡ each (λ e. with_times (string_bytes e.0, fields_view e.1, option_map pos e.2, option_map pos e.3))
-        claimed.items) (λ e. e ≡ no_memory) }
+    ensures { MadeOf (λ v. entries_view v.items) (each entry_of_parts claimed.items) result }
 {
     let mut ids = Vec::with_capacity(alloc, claimed.len())?;
     for entry in claimed {

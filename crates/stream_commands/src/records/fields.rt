@@ -10,7 +10,7 @@ use std::alloc::{AllocError, Global};
 
 pub(crate) type Fields = IndexMap<String, Value>;
 
-// Equal fields in the same order.
+/// Equal fields in the same order.
 pub(crate) fn copy_fields(alloc: Global, fields: &Fields) -> Result<Fields, AllocError>
     ensures { IfOk result (λ copy. fields_view copy ≡ fields_view fields.now) }
 {

@@ -12,33 +12,40 @@ ghost use Rattle.stream_commands.specs.Shapes.{a_text, named};
 
 use resp_core::Value;
 
-// Whether the first entry shows that the reply has no claim form: it is an array of another length than four.
+/// Whether the first entry shows that the reply has no claim form: it is an array of another length than four.
 pub(crate) fn has_no_claim_form(value: &Value) -> bool
     ensures { result ≡ true → rows claimed_entries (view value.now) ≡ None }
 {
-    let Some(list) = first_entries(value) else {
-        return false;
-    };
-    match first_entry(list) {
+    match entry_in(value) {
         Some(entry) => is_no_claim(entry),
         None => false,
     }
 }
 
-// Whether the first entry shows that the reply has no standard form: it ends with a number, where fields would stand.
+/// Whether the first entry shows that the reply has no standard form: it ends with a number, where fields would stand.
 pub(crate) fn has_no_standard_form(value: &Value) -> bool
     ensures { result ≡ true → rows entries (view value.now) ≡ None }
 {
-    let Some(list) = first_entries(value) else {
-        return false;
-    };
-    match first_entry(list) {
+    match entry_in(value) {
         Some(entry) => is_claim(entry),
         None => false,
     }
 }
 
-// The entries of the first row, where the row is a pair with a readable key: the rows are refused where these are.
+/// The first entry of the first row: the rows are refused where it is, in each form.
+fn entry_in(value: &Value) -> Option<&Value>
+    ensures standard { IfSome result
+        (λ entry. ids_with_fields (view entry.now) ≡ None → rows entries (view value.now) ≡ None) }
+    ensures claim { IfSome result
+        (λ entry. claimed_entry (view entry.now) ≡ None → rows claimed_entries (view value.now) ≡ None) }
+{
+    match first_entries(value) {
+        Some(list) => first_entry(list),
+        None => None,
+    }
+}
+
+/// The entries of the first row, where the row is a pair with a readable key: the rows are refused where these are.
 fn first_entries(value: &Value) -> Option<&Value>
     ensures { IfSome result (λ list. (form : Tree → Option (List Entry))
         → form (view list.now) ≡ None → rows form (view value.now) ≡ None) }
@@ -60,7 +67,7 @@ fn entries_of_array(rows: &[Value]) -> Option<&Value>
     }
 }
 
-// A row of another shape than an array of two tells nothing here.
+/// A row of another shape than an array of two tells nothing here.
 fn entries_of_row(row: &Value) -> Option<&Value>
     ensures { IfSome result (λ list. (form : Tree → Option (List Entry))
         → form (view list.now) ≡ None → named form (view row.now) ≡ None) }
@@ -91,7 +98,7 @@ fn entries_of_map(pairs: &[(Value, Value)]) -> Option<&Value>
     }
 }
 
-// A key that is refused is a cause of its own, which both forms tell before they look at an entry.
+/// A key that is refused is a cause of its own, which both forms tell before they look at an entry.
 fn if_readable<'a>(key: &Value, list: &'a Value) -> Option<&'a Value>
     ensures same { IfSome result (λ l. l.now ≡ list.now) }
     ensures readable { IfSome result (λ _. is_some (a_text (view key.now)) ≡ true) }
@@ -99,7 +106,7 @@ fn if_readable<'a>(key: &Value, list: &'a Value) -> Option<&'a Value>
     if is_text(key) { Some(list) } else { None }
 }
 
-// Whether it is a text, or a bulk in UTF-8.
+/// Whether it is a text, or a bulk in UTF-8.
 fn is_text(key: &Value) -> bool
     ensures { result ≡ true → is_some (a_text (view key.now)) ≡ true }
 {
@@ -110,7 +117,7 @@ fn is_text(key: &Value) -> bool
     }
 }
 
-// Both forms read such bytes as a text.
+/// Both forms read such bytes as a text.
 fn is_utf8(bytes: &[u8]) -> bool
     ensures { result ≡ true → is_some (utf8 bytes.now) ≡ true }
 {
@@ -120,7 +127,7 @@ fn is_utf8(bytes: &[u8]) -> bool
     }
 }
 
-// The first entry of an array: the entries are refused where it is, in each form.
+/// The first entry of an array: the entries are refused where it is, in each form.
 fn first_entry(list: &Value) -> Option<&Value>
     ensures standard { IfSome result
         (λ entry. ids_with_fields (view entry.now) ≡ None → entries (view list.now) ≡ None) }
@@ -133,7 +140,7 @@ fn first_entry(list: &Value) -> Option<&Value>
     }
 }
 
-// Whether it is an array of another length than the four parts of a claim.
+/// Whether it is an array of another length than the four parts of a claim.
 fn is_no_claim(entry: &Value) -> bool
     ensures { result ≡ true → claimed_entry (view entry.now) ≡ None }
 {
@@ -143,7 +150,7 @@ fn is_no_claim(entry: &Value) -> bool
     }
 }
 
-// Whether it is an array of four of which the last is a number: read as names with fields, it is refused.
+/// Whether it is an array of four of which the last is a number: read as names with fields, it is refused.
 fn is_claim(entry: &Value) -> bool
     ensures { result ≡ true → ids_with_fields (view entry.now) ≡ None }
 {

@@ -1,14 +1,12 @@
 //! Replies to XINFO GROUPS.
-ghost use Rattle.std.specs.Prelude.{◌≡◌, [], false, pos, None, List, map as each, MatchResult};
-ghost use Rattle.resp_core.specs.Errors.{no_memory};
-ghost use Rattle.resp_args.specs.Convert.{Answers};
-ghost use Rattle.stream_commands.specs.Groups.{Group, group, a_group, group_of, groups_reply};
+ghost use Rattle.std.specs.Prelude.{◌≡◌, [], false, pos, None, List, map as each};
+ghost use Rattle.stream_commands.specs.Groups.{Group, group, group_of, groups_reply};
 ghost use Rattle.stream_commands.specs.InfoViews.{group_view};
-ghost use Rattle.stream_commands.specs.RecordViews.{fields_view};
 
+use crate::records::fields::Fields;
+use crate::records::named::{FromFields, Told, records_of};
 use crate::records::one;
 use crate::records::under_name::read_under;
-use indexmap::IndexMap;
 use resp_args::FromRedisValue;
 use resp_core::{ParsingError, Value};
 use std::alloc::Global;
@@ -64,63 +62,30 @@ impl StreamInfoGroupsReply {
     }
 }
 
-// A group as a reply tells it: named parts, of which a missing one is empty or 0.
-#[derive(Drop)]
-struct GroupFields {
-    group: StreamInfoGroup,
-}
+/// A group is told by named parts, of which a missing one is empty or 0.
+impl FromFields for StreamInfoGroup {
+    ghost Stands = { Group };
 
-impl FromRedisValue for GroupFields {
-    ghost Meaning = { Group };
+    ghost stands = { group_view };
 
-    ghost meaning = { λ r. group_view r.group };
+    ghost of_fields = { group_of };
 
-    ghost same = { λ _ _. false };
-
-    ghost convert = { a_group };
-
-    ghost byte_item = { None };
-
-    fn from_redis_value(alloc: Global, value: Value) -> Result<GroupFields, ParsingError> {
-        let fields = IndexMap::<String, Value>::from_redis_value(alloc, value)?;
-        Ok(GroupFields {
-            group: read_group(alloc, &fields)?,
+    fn from_fields(alloc: Global, fields: &Fields) -> Result<Self, ParsingError> {
+        let name = read_under(alloc, fields, "name", String::new(alloc))?;
+        let consumers = read_under::<usize>(alloc, fields, "consumers", 0)?;
+        let pending = read_under::<usize>(alloc, fields, "pending", 0)?;
+        let last_delivered_id = read_under(alloc, fields, "last-delivered-id", String::new(alloc))?;
+        let entries_read = read_under::<Option<usize>>(alloc, fields, "entries-read", None)?;
+        let lag = read_under::<Option<usize>>(alloc, fields, "lag", None)?;
+        Ok(StreamInfoGroup {
+            name,
+            consumers,
+            pending,
+            last_delivered_id,
+            entries_read,
+            lag,
         })
     }
-
-    fn from_redis_value_ref(alloc: Global, value: &Value) -> Result<GroupFields, ParsingError> {
-        let fields = IndexMap::<String, Value>::from_redis_value_ref(alloc, value)?;
-        Ok(GroupFields {
-            group: read_group(alloc, &fields)?,
-        })
-    }
-
-    fn from_byte_vec(alloc: Global, bytes: Vec<u8>) -> Result<Vec<GroupFields>, ParsingError> {
-        let value = GroupFields::from_redis_value(alloc, Value::BulkString(bytes))?;
-        one(alloc, value)
-    }
-}
-
-fn read_group(
-    alloc: Global,
-    fields: &IndexMap<String, Value>,
-) -> Result<StreamInfoGroup, ParsingError>
-    ensures { Answers group_view (group_of (fields_view fields.now)) result }
-{
-    let name = read_under(alloc, fields, "name", String::new(alloc))?;
-    let consumers = read_under::<usize>(alloc, fields, "consumers", 0)?;
-    let pending = read_under::<usize>(alloc, fields, "pending", 0)?;
-    let last_delivered_id = read_under(alloc, fields, "last-delivered-id", String::new(alloc))?;
-    let entries_read = read_under::<Option<usize>>(alloc, fields, "entries-read", None)?;
-    let lag = read_under::<Option<usize>>(alloc, fields, "lag", None)?;
-    Ok(StreamInfoGroup {
-        name,
-        consumers,
-        pending,
-        last_delivered_id,
-        entries_read,
-        lag,
-    })
 }
 
 impl FromRedisValue for StreamInfoGroupsReply {
@@ -134,43 +99,22 @@ impl FromRedisValue for StreamInfoGroupsReply {
 
     ghost byte_item = { None };
 
-    fn from_redis_value(
-        alloc: Global,
-        value: Value,
-    ) -> Result<StreamInfoGroupsReply, ParsingError> {
-        let parts = Vec::<GroupFields>::from_redis_value(alloc, value)?;
+    fn from_redis_value(alloc: Global, value: Value) -> Result<Self, ParsingError> {
+        let told = Vec::<Told<StreamInfoGroup>>::from_redis_value(alloc, value)?;
         Ok(StreamInfoGroupsReply {
-            groups: list_groups(alloc, parts)?,
+            groups: records_of(alloc, told)?,
         })
     }
 
-    fn from_redis_value_ref(
-        alloc: Global,
-        value: &Value,
-    ) -> Result<StreamInfoGroupsReply, ParsingError> {
-        let parts = Vec::<GroupFields>::from_redis_value_ref(alloc, value)?;
+    fn from_redis_value_ref(alloc: Global, value: &Value) -> Result<Self, ParsingError> {
+        let told = Vec::<Told<StreamInfoGroup>>::from_redis_value_ref(alloc, value)?;
         Ok(StreamInfoGroupsReply {
-            groups: list_groups(alloc, parts)?,
+            groups: records_of(alloc, told)?,
         })
     }
 
-    fn from_byte_vec(
-        alloc: Global,
-        bytes: Vec<u8>,
-    ) -> Result<Vec<StreamInfoGroupsReply>, ParsingError> {
-        let value = StreamInfoGroupsReply::from_redis_value(alloc, Value::BulkString(bytes))?;
+    fn from_byte_vec(alloc: Global, bytes: Vec<u8>) -> Result<Vec<Self>, ParsingError> {
+        let value = Self::from_redis_value(alloc, Value::BulkString(bytes))?;
         one(alloc, value)
     }
-}
-
-fn list_groups(alloc: Global, parts: Vec<GroupFields>) -> Result<Vec<StreamInfoGroup>, ParsingError>
-    ensures { MatchResult result (λ v. each group_view v.items ≡ each (λ r. group_view r.group) parts.items)
-        (λ e. e ≡ no_memory) }
-{
-    let mut list = Vec::with_capacity(alloc, parts.len())?;
-    for part in parts {
-        let GroupFields { group } = part;
-        list.push(group)?;
-    }
-    Ok(list)
 }

@@ -1,10 +1,10 @@
 //! Replies to XPENDING with a key and a group.
-ghost use Rattle.std.specs.Prelude.{◌≡◌, [], false, pos, string_bytes, option_map, map as each, MatchResult, None};
-ghost use Rattle.resp_core.specs.Errors.{no_memory};
+ghost use Rattle.std.specs.Prelude.{◌≡◌, [], false, pos, string_bytes, map as each, None};
 ghost use Rattle.resp_args.specs.Convert.{Answers};
 ghost use Rattle.stream_commands.specs.AutoClaim.{keep_present};
 ghost use Rattle.stream_commands.specs.Pending.{Pending, none_pending, pending_consumer as spec_pending_consumer, pending_of, pending_reply};
-ghost use Rattle.stream_commands.specs.InfoViews.{consumer_view, pending_view, pending_data_view, pair_view};
+ghost use Rattle.stream_commands.specs.InfoViews.{consumer_view, pairs_view, pending_view, pending_data_view, pending_parts_view};
+ghost use Rattle.stream_commands.specs.RecordViews.{MadeOf};
 
 use crate::records::consumers::StreamInfoConsumer;
 use crate::records::one;
@@ -87,36 +87,24 @@ impl FromRedisValue for StreamPendingReply {
 
     ghost byte_item = { None };
 
-    fn from_redis_value(alloc: Global, value: Value) -> Result<StreamPendingReply, ParsingError> {
+    fn from_redis_value(alloc: Global, value: Value) -> Result<Self, ParsingError> {
         let parts = Parts::from_redis_value(alloc, value)?;
         pending(alloc, parts)
     }
 
-    fn from_redis_value_ref(
-        alloc: Global,
-        value: &Value,
-    ) -> Result<StreamPendingReply, ParsingError> {
+    fn from_redis_value_ref(alloc: Global, value: &Value) -> Result<Self, ParsingError> {
         let parts = Parts::from_redis_value_ref(alloc, value)?;
         pending(alloc, parts)
     }
 
-    fn from_byte_vec(
-        alloc: Global,
-        bytes: Vec<u8>,
-    ) -> Result<Vec<StreamPendingReply>, ParsingError> {
-        let value = StreamPendingReply::from_redis_value(alloc, Value::BulkString(bytes))?;
+    fn from_byte_vec(alloc: Global, bytes: Vec<u8>) -> Result<Vec<Self>, ParsingError> {
+        let value = Self::from_redis_value(alloc, Value::BulkString(bytes))?;
         one(alloc, value)
     }
 }
 
 fn pending(alloc: Global, parts: Parts) -> Result<StreamPendingReply, ParsingError>
-    ensures { Answers pending_view
-        (pending_of (
-          pos parts.0,
-          option_map string_bytes parts.1,
-          option_map string_bytes parts.2,
-          each (λ o. option_map pair_view o) parts.3.items,
-        )) result }
+    ensures { Answers pending_view (pending_of (pending_parts_view parts)) result }
 {
     let (count, start, end, consumers) = parts;
     if count == 0 {
@@ -140,10 +128,8 @@ fn pending_consumers(
     alloc: Global,
     parts: Vec<Option<(String, String)>>,
 ) -> Result<Vec<StreamInfoConsumer>, ParsingError>
-    ensures { MatchResult result
-        (λ v. each consumer_view v.items
-        ≡ each spec_pending_consumer (keep_present (each (λ o. option_map pair_view o) parts.items)))
-        (λ e. e ≡ no_memory) }
+    ensures { MadeOf (λ v. each consumer_view v.items)
+        (each spec_pending_consumer (keep_present (pairs_view parts.items))) result }
 {
     let mut consumers = Vec::new(alloc);
     for item in parts {
@@ -158,7 +144,7 @@ fn pending_consumers(
     Ok(consumers)
 }
 
-// A number that is none counts as 0.
+/// A number that is none counts as 0.
 fn pending_consumer(name: String, number: &str) -> StreamInfoConsumer
     ensures { consumer_view result ≡ spec_pending_consumer (string_bytes name, number.now) }
 {

@@ -69,21 +69,15 @@ impl FromRedisValue for StreamPendingCountReply {
 
     ghost byte_item = { None };
 
-    fn from_redis_value(
-        alloc: Global,
-        value: Value,
-    ) -> Result<StreamPendingCountReply, ParsingError> {
+    fn from_redis_value(alloc: Global, value: Value) -> Result<Self, ParsingError> {
         match value {
             Value::Array(rows) => pending_count(alloc, rows),
             _ => Err(ParsingError::fixed("an array was wanted")),
         }
     }
 
-    fn from_byte_vec(
-        alloc: Global,
-        bytes: Vec<u8>,
-    ) -> Result<Vec<StreamPendingCountReply>, ParsingError> {
-        let value = StreamPendingCountReply::from_redis_value(alloc, Value::BulkString(bytes))?;
+    fn from_byte_vec(alloc: Global, bytes: Vec<u8>) -> Result<Vec<Self>, ParsingError> {
+        let value = Self::from_redis_value(alloc, Value::BulkString(bytes))?;
         one(alloc, value)
     }
 }

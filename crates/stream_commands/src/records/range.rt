@@ -39,21 +39,18 @@ impl FromRedisValue for StreamRangeReply {
 
     ghost byte_item = { None };
 
-    fn from_redis_value(alloc: Global, value: Value) -> Result<StreamRangeReply, ParsingError> {
+    fn from_redis_value(alloc: Global, value: Value) -> Result<Self, ParsingError> {
         let Entries { ids } = Entries::from_redis_value(alloc, value)?;
         Ok(StreamRangeReply { ids })
     }
 
-    fn from_redis_value_ref(
-        alloc: Global,
-        value: &Value,
-    ) -> Result<StreamRangeReply, ParsingError> {
+    fn from_redis_value_ref(alloc: Global, value: &Value) -> Result<Self, ParsingError> {
         let Entries { ids } = Entries::from_redis_value_ref(alloc, value)?;
         Ok(StreamRangeReply { ids })
     }
 
-    fn from_byte_vec(alloc: Global, bytes: Vec<u8>) -> Result<Vec<StreamRangeReply>, ParsingError> {
-        let value = StreamRangeReply::from_redis_value(alloc, Value::BulkString(bytes))?;
+    fn from_byte_vec(alloc: Global, bytes: Vec<u8>) -> Result<Vec<Self>, ParsingError> {
+        let value = Self::from_redis_value(alloc, Value::BulkString(bytes))?;
         one(alloc, value)
     }
 }
@@ -87,21 +84,18 @@ impl FromRedisValue for StreamClaimReply {
 
     ghost byte_item = { None };
 
-    fn from_redis_value(alloc: Global, value: Value) -> Result<StreamClaimReply, ParsingError> {
+    fn from_redis_value(alloc: Global, value: Value) -> Result<Self, ParsingError> {
         let Entries { ids } = Entries::from_redis_value(alloc, value)?;
         Ok(StreamClaimReply { ids })
     }
 
-    fn from_redis_value_ref(
-        alloc: Global,
-        value: &Value,
-    ) -> Result<StreamClaimReply, ParsingError> {
+    fn from_redis_value_ref(alloc: Global, value: &Value) -> Result<Self, ParsingError> {
         let Entries { ids } = Entries::from_redis_value_ref(alloc, value)?;
         Ok(StreamClaimReply { ids })
     }
 
-    fn from_byte_vec(alloc: Global, bytes: Vec<u8>) -> Result<Vec<StreamClaimReply>, ParsingError> {
-        let value = StreamClaimReply::from_redis_value(alloc, Value::BulkString(bytes))?;
+    fn from_byte_vec(alloc: Global, bytes: Vec<u8>) -> Result<Vec<Self>, ParsingError> {
+        let value = Self::from_redis_value(alloc, Value::BulkString(bytes))?;
         one(alloc, value)
     }
 }

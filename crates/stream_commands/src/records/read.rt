@@ -1,12 +1,11 @@
 //! Replies to XREAD and XREADGROUP.
-ghost use Rattle.std.specs.Prelude.{◌≡◌, [], ◌++◌, false, List, string_bytes, map as each, MatchResult, None};
+ghost use Rattle.std.specs.Prelude.{◌≡◌, [], ◌++◌, false, List, map as each, None};
 ghost use Rattle.std.specs.List.{flat_map};
-ghost use Rattle.resp_core.specs.Errors.{no_memory};
 ghost use Rattle.resp_core.specs.View.{view};
 ghost use Rattle.resp_args.specs.Convert.{Answers};
 ghost use Rattle.stream_commands.specs.Entries.{entries, claimed_entries};
 ghost use Rattle.stream_commands.specs.ReadReply.{Row, row, rows, read_reply};
-ghost use Rattle.stream_commands.specs.RecordViews.{row_view, rows_view};
+ghost use Rattle.stream_commands.specs.RecordViews.{MadeOf, row_view, rows_under_keys, rows_view};
 
 use crate::records::entries::{ClaimedEntries, Entries, EntryForm, StreamId};
 use crate::records::forms::{has_no_claim_form, has_no_standard_form};
@@ -67,7 +66,7 @@ impl FromRedisValue for StreamReadReply {
 
     ghost byte_item = { None };
 
-    fn from_redis_value(alloc: Global, value: Value) -> Result<StreamReadReply, ParsingError> {
+    fn from_redis_value(alloc: Global, value: Value) -> Result<Self, ParsingError> {
         // Where the first entry leaves one form alone, the reply is read in it at once, and no text is copied.
         if has_no_claim_form(&value) {
             return Ok(StreamReadReply {
@@ -82,7 +81,7 @@ impl FromRedisValue for StreamReadReply {
         StreamReadReply::from_redis_value_ref(alloc, &value)
     }
 
-    fn from_redis_value_ref(alloc: Global, value: &Value) -> Result<StreamReadReply, ParsingError> {
+    fn from_redis_value_ref(alloc: Global, value: &Value) -> Result<Self, ParsingError> {
         match standard_rows(alloc, value) {
             Ok(keys) => Ok(StreamReadReply { keys }),
             Err(e) => {
@@ -96,8 +95,8 @@ impl FromRedisValue for StreamReadReply {
         }
     }
 
-    fn from_byte_vec(alloc: Global, bytes: Vec<u8>) -> Result<Vec<StreamReadReply>, ParsingError> {
-        let value = StreamReadReply::from_redis_value(alloc, Value::BulkString(bytes))?;
+    fn from_byte_vec(alloc: Global, bytes: Vec<u8>) -> Result<Vec<Self>, ParsingError> {
+        let value = Self::from_redis_value(alloc, Value::BulkString(bytes))?;
         one(alloc, value)
     }
 }
@@ -116,8 +115,8 @@ fn claimed_rows(alloc: Global, value: &Value) -> Result<Vec<StreamKey>, ParsingE
     all_rows(alloc, maps)
 }
 
-// The rows of a reply whose first entry is an array of another length than four, which the claim form refuses. Where
-// the standard form is refused too, the cause that is told is the claim form's, as for a lent reply: it is tried last.
+/// The rows of a reply whose first entry is an array of another length than four, which the claim form refuses. Where
+/// the standard form is refused too, the cause that is told is the claim form's, as for a lent reply: it is tried last.
 fn only_standard_rows(alloc: Global, value: Value) -> Result<Vec<StreamKey>, ParsingError>
     ensures { Answers (λ v. rows_view v.items) (rows entries (view value)) result }
 {
@@ -146,15 +145,12 @@ fn own_claimed_rows(alloc: Global, value: Value) -> Result<Vec<StreamKey>, Parsi
     all_rows(alloc, maps)
 }
 
-// The rows of all maps in order.
+/// The rows of all maps in order.
 fn all_rows<F: EntryForm>(
     alloc: Global,
     maps: Vec<IndexMap<String, F>>,
 ) -> Result<Vec<StreamKey>, ParsingError>
-    ensures { MatchResult result
-        (λ v. rows_view v.items
-        ≡ flat_map (λ m. each (λ e. row (string_bytes e.0, F.lists e.1)) m.entries) maps.items)
-        (λ e. e ≡ no_memory) }
+    ensures { MadeOf (λ v. rows_view v.items) (flat_map (rows_under_keys F.lists) maps.items) result }
 {
     let mut keys = Vec::new(alloc);
     for map in maps {
@@ -167,9 +163,8 @@ fn add_rows<F: EntryForm>(
     keys: &mut Vec<StreamKey>,
     rows: IndexMap<String, F>,
 ) -> Result<(), ParsingError>
-    ensures { MatchResult result
-        (λ _. rows_view keys.new.items ≡ rows_view keys.old.items
-        ++ each (λ e. row (string_bytes e.0, F.lists e.1)) rows.entries) (λ e. e ≡ no_memory) }
+    ensures { MadeOf (λ _. rows_view keys.new.items)
+        (rows_view keys.old.items ++ rows_under_keys F.lists rows) result }
 {
     for (key, entries) in rows {
         let ids = entries.into_ids();

@@ -35,19 +35,16 @@ impl FromRedisValue for XDelExStatusCode {
 
     ghost byte_item = { None };
 
-    fn from_redis_value(alloc: Global, value: Value) -> Result<XDelExStatusCode, ParsingError> {
+    fn from_redis_value(alloc: Global, value: Value) -> Result<Self, ParsingError> {
         XDelExStatusCode::from_redis_value_ref(alloc, &value)
     }
 
-    fn from_redis_value_ref(
-        _alloc: Global,
-        value: &Value,
-    ) -> Result<XDelExStatusCode, ParsingError> {
+    fn from_redis_value_ref(_alloc: Global, value: &Value) -> Result<Self, ParsingError> {
         deletion_status(value)
     }
 
-    fn from_byte_vec(alloc: Global, bytes: Vec<u8>) -> Result<Vec<XDelExStatusCode>, ParsingError> {
-        let value = XDelExStatusCode::from_redis_value(alloc, Value::BulkString(bytes))?;
+    fn from_byte_vec(alloc: Global, bytes: Vec<u8>) -> Result<Vec<Self>, ParsingError> {
+        let value = Self::from_redis_value(alloc, Value::BulkString(bytes))?;
         one(alloc, value)
     }
 }
@@ -99,22 +96,16 @@ impl FromRedisValue for XAckDelStatusCode {
 
     ghost byte_item = { None };
 
-    fn from_redis_value(alloc: Global, value: Value) -> Result<XAckDelStatusCode, ParsingError> {
+    fn from_redis_value(alloc: Global, value: Value) -> Result<Self, ParsingError> {
         XAckDelStatusCode::from_redis_value_ref(alloc, &value)
     }
 
-    fn from_redis_value_ref(
-        _alloc: Global,
-        value: &Value,
-    ) -> Result<XAckDelStatusCode, ParsingError> {
+    fn from_redis_value_ref(_alloc: Global, value: &Value) -> Result<Self, ParsingError> {
         acknowledgement_status(value)
     }
 
-    fn from_byte_vec(
-        alloc: Global,
-        bytes: Vec<u8>,
-    ) -> Result<Vec<XAckDelStatusCode>, ParsingError> {
-        let value = XAckDelStatusCode::from_redis_value(alloc, Value::BulkString(bytes))?;
+    fn from_byte_vec(alloc: Global, bytes: Vec<u8>) -> Result<Vec<Self>, ParsingError> {
+        let value = Self::from_redis_value(alloc, Value::BulkString(bytes))?;
         one(alloc, value)
     }
 }

@@ -104,15 +104,15 @@ impl FromRedisValue for LoneEntry {
 
     ghost byte_item = { None };
 
-    fn from_redis_value(alloc: Global, value: Value) -> Result<LoneEntry, ParsingError> {
+    fn from_redis_value(alloc: Global, value: Value) -> Result<Self, ParsingError> {
         match value {
             Value::Array(items) => lone_entry(alloc, items),
             _ => Ok(no_entry(alloc)),
         }
     }
 
-    fn from_byte_vec(alloc: Global, bytes: Vec<u8>) -> Result<Vec<LoneEntry>, ParsingError> {
-        let value = LoneEntry::from_redis_value(alloc, Value::BulkString(bytes))?;
+    fn from_byte_vec(alloc: Global, bytes: Vec<u8>) -> Result<Vec<Self>, ParsingError> {
+        let value = Self::from_redis_value(alloc, Value::BulkString(bytes))?;
         one(alloc, value)
     }
 }
@@ -125,7 +125,7 @@ fn no_entry(alloc: Global) -> LoneEntry
     }
 }
 
-// The id and the fields, as far as they are there.
+/// The id and the fields, as far as they are there.
 fn lone_entry(alloc: Global, items: Vec<Value>) -> Result<LoneEntry, ParsingError>
     ensures { Answers (λ e. entry_view e.entry) (entry_of (each view items.items)) result }
 {
@@ -170,32 +170,23 @@ impl FromRedisValue for StreamInfoStreamReply {
 
     ghost byte_item = { None };
 
-    fn from_redis_value(
-        alloc: Global,
-        value: Value,
-    ) -> Result<StreamInfoStreamReply, ParsingError> {
+    fn from_redis_value(alloc: Global, value: Value) -> Result<Self, ParsingError> {
         let fields = IndexMap::<String, Value>::from_redis_value(alloc, value)?;
         stream_info(alloc, &fields)
     }
 
-    fn from_redis_value_ref(
-        alloc: Global,
-        value: &Value,
-    ) -> Result<StreamInfoStreamReply, ParsingError> {
+    fn from_redis_value_ref(alloc: Global, value: &Value) -> Result<Self, ParsingError> {
         let fields = IndexMap::<String, Value>::from_redis_value_ref(alloc, value)?;
         stream_info(alloc, &fields)
     }
 
-    fn from_byte_vec(
-        alloc: Global,
-        bytes: Vec<u8>,
-    ) -> Result<Vec<StreamInfoStreamReply>, ParsingError> {
-        let value = StreamInfoStreamReply::from_redis_value(alloc, Value::BulkString(bytes))?;
+    fn from_byte_vec(alloc: Global, bytes: Vec<u8>) -> Result<Vec<Self>, ParsingError> {
+        let value = Self::from_redis_value(alloc, Value::BulkString(bytes))?;
         one(alloc, value)
     }
 }
 
-// The entry under the name, or none of which anything is known.
+/// The entry under the name, or none of which anything is known.
 fn entry_at(
     alloc: Global,
     fields: &IndexMap<String, Value>,
@@ -240,30 +231,18 @@ impl FromRedisValue for StreamInfoStreamReplyWithIdempotency {
 
     ghost byte_item = { None };
 
-    fn from_redis_value(
-        alloc: Global,
-        value: Value,
-    ) -> Result<StreamInfoStreamReplyWithIdempotency, ParsingError> {
+    fn from_redis_value(alloc: Global, value: Value) -> Result<Self, ParsingError> {
         let fields = IndexMap::<String, Value>::from_redis_value(alloc, value)?;
         idempotent_info(alloc, &fields)
     }
 
-    fn from_redis_value_ref(
-        alloc: Global,
-        value: &Value,
-    ) -> Result<StreamInfoStreamReplyWithIdempotency, ParsingError> {
+    fn from_redis_value_ref(alloc: Global, value: &Value) -> Result<Self, ParsingError> {
         let fields = IndexMap::<String, Value>::from_redis_value_ref(alloc, value)?;
         idempotent_info(alloc, &fields)
     }
 
-    fn from_byte_vec(
-        alloc: Global,
-        bytes: Vec<u8>,
-    ) -> Result<Vec<StreamInfoStreamReplyWithIdempotency>, ParsingError> {
-        let value = StreamInfoStreamReplyWithIdempotency::from_redis_value(
-            alloc,
-            Value::BulkString(bytes),
-        )?;
+    fn from_byte_vec(alloc: Global, bytes: Vec<u8>) -> Result<Vec<Self>, ParsingError> {
+        let value = Self::from_redis_value(alloc, Value::BulkString(bytes))?;
         one(alloc, value)
     }
 }

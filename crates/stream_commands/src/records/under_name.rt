@@ -8,7 +8,7 @@ use resp_args::FromRedisValue;
 use resp_core::{ParsingError, Value};
 use std::alloc::Global;
 
-// What is read under the name, or the value that stands for a missing one.
+/// What is read under the name, or the value that stands for a missing one.
 pub(crate) fn read_under<T: FromRedisValue>(
     alloc: Global,
     fields: &IndexMap<String, Value>,

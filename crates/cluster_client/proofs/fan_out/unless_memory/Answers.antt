@@ -1,4 +1,4 @@
 use Rattle.cluster_client.proofs.fan_out.unless_memory.Goals as goal
 
-pub returns-in-Memory-clause-memory : goal.returns-in-Memory-clause-memory
-returns-in-Memory-clause-memory c = tt
+pub returns-then-is_memory-clause-memory : goal.returns-then-is_memory-clause-memory
+returns-then-is_memory-clause-memory c = tt

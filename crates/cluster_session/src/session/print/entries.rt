@@ -36,7 +36,7 @@ pub(super) fn print_entries(output: &mut String, entries: &[StreamId]) -> Result
     Ok(())
 }
 
-// A space, and the words of an entry.
+/// A space, and the words of an entry.
 fn print_entry(output: &mut String, entry: &StreamId) -> Result<(), AllocError>
     ensures { OnOk result
         (string_bytes output.new ≡ string_bytes output.old
@@ -48,10 +48,9 @@ fn print_entry(output: &mut String, entry: &StreamId) -> Result<(), AllocError>
     print_time(output, entry.delivered_count)
 }
 
-// The number of the fields, and each name with its value, a space before each word.
+/// The number of the fields, and each name with its value, a space before each word.
 fn print_fields(output: &mut String, fields: &IndexMap<String, Value>) -> Result<(), AllocError>
-    ensures { OnOk result
-        (string_bytes output.new ≡ string_bytes output.old
+    ensures { OnOk result (string_bytes output.new ≡ string_bytes output.old
         ++ (codes " " ++ (decimal (length fields.now.entries)
         ++ flat_map field_words (fields_view fields.now)))) }
 {
@@ -64,7 +63,7 @@ fn print_fields(output: &mut String, fields: &IndexMap<String, Value>) -> Result
     Ok(())
 }
 
-// A space, and a number or a dash.
+/// A space, and a number or a dash.
 fn print_time(output: &mut String, number: Option<usize>) -> Result<(), AllocError>
     ensures { OnOk result
         (string_bytes output.new ≡ string_bytes output.old

@@ -1,5 +1,4 @@
 use Rattle.std.proofs.Common.{[]}
-use Rattle.std.proofs.lemmas.List.{length-map}
 use Rattle.std.proofs.lemmas.Result.{err_from_is_err_and}
 use Rattle.cluster_steps.specs.FirstPlaces.{part_of}
 use Rattle.cluster_steps.proofs.Dispatching.{loop_done, loop_more, loop_refused, loop_start}
@@ -16,6 +15,4 @@ returns-clause-dispatched g c = λ m settings.
     loop_done _ _ _ _ _ (loop_more _ _ [] (part_of c.args.part) [] _ [] _ (loop_start _ _) (rw c.requires at (c.in_ok-hop.ensures.found (λ k. cc k))))
 
 pub returns-clause-placed : goal.returns-clause-placed
-returns-clause-placed g c =
-    let within = rw c.args.links.now.nodes.ok.0 at c.in_ok-hop.ensures.within in
-    record { place = c.in_ok-hop.ensures.place; within = rw length-map within; direct = c.in_ok-hop.ensures.direct }
+returns-clause-placed g c = record { place = c.in_ok-hop.ensures.place; within = c.in_ok-hop.ensures.within; direct = c.in_ok-hop.ensures.direct }

@@ -30,7 +30,7 @@ fn is_detail(detail: &Option<String>) -> bool
     }
 }
 
-// Every `i64` is a number that can be written.
+/// Every `i64` is a number that can be written.
 fn is_number(number: i64) -> bool
     ensures { result ≡ is_number number }
 {
@@ -38,7 +38,7 @@ fn is_number(number: i64) -> bool
     true
 }
 
-// The kind of a push is written as a value one level below it.
+/// The kind of a push is written as a value one level below it.
 fn is_kind(kind: &PushKind, below: u16) -> bool
     ensures { result ≡ (nat_lt 0 below && is_text (kind_text (kind_view kind.now))) }
 {
@@ -89,7 +89,7 @@ fn map_fits(pairs: &Vec<(Value, Value)>, protocol: Protocol, levels: u16) -> boo
     is_few(pair_count_of(pairs)) && pairs_fit(pairs, protocol, levels)
 }
 
-// The pairs of an attribute, which RESP2 leaves out.
+/// The pairs of an attribute, which RESP2 leaves out.
 #[cycle(fitting)]
 fn beside_fits(pairs: &Vec<(Value, Value)>, protocol: Protocol, levels: u16) -> bool
     ensures { result ≡ fits_beside protocol (is_few (pair_count (pairs_view pairs.now.items))

@@ -1,11 +1,11 @@
 //! What has no parts, as bytes.
 //!
 //! Where memory is refused, some more bytes stand behind those of the buffer.
-ghost use Rattle.std.specs.Prelude.{◌≡◌, ◌++◌, ◌∷◌, ℕ, List, MatchResult, suc, length};
+ghost use Rattle.std.specs.Prelude.{◌≡◌, ◌++◌, ◌∷◌, suc, length};
 ghost use Rattle.resp_core.specs.Printed.{joined};
 ghost use Rattle.resp_core.specs.View.{error_text, format_view};
 ghost use Rattle.std.specs.List.{list_all};
-ghost use Rattle.resp_core.specs.Written.{line_text, count_text, counted_text, bulk_text, nil_text, simple_text, boolean_text, double_text, big_text, verbatim_text, failed_text, is_inner, spaced, map_head, set_head, push_head};
+ghost use Rattle.resp_core.specs.Written.{Appends, line_text, count_text, counted_text, bulk_text, nil_text, simple_text, boolean_text, double_text, big_text, verbatim_text, failed_text, is_inner, spaced, map_head, set_head, push_head};
 ghost use Rattle.std.specs.Fmt.{signed_decimal};
 
 use crate::errors::ServerError;
@@ -17,10 +17,9 @@ use crate::value::write::line_test::{
 use itoa::Buffer;
 use std::alloc::AllocError;
 
-// A type byte, a line, and its end.
+/// A type byte, a line, and its end.
 fn put_line(out: &mut Vec<u8>, mark: u8, line: &[u8]) -> Result<(), AllocError>
-    ensures { MatchResult result (λ _. out.new.items ≡ out.old.items ++ line_text mark line.now)
-        (λ _. (more : List ℕ) × (out.new.items ≡ out.old.items ++ more)) }
+    ensures { Appends out.old.items out.new.items (line_text mark line.now) result }
 {
     out.extend_from_slice(&[mark])?;
     out.extend_from_slice(line)?;
@@ -28,32 +27,28 @@ fn put_line(out: &mut Vec<u8>, mark: u8, line: &[u8]) -> Result<(), AllocError>
 }
 
 pub(super) fn put_count(out: &mut Vec<u8>, mark: u8, count: usize) -> Result<(), AllocError>
-    ensures { MatchResult result (λ _. out.new.items ≡ out.old.items ++ count_text mark count)
-        (λ _. (more : List ℕ) × (out.new.items ≡ out.old.items ++ more)) }
+    ensures { Appends out.old.items out.new.items (count_text mark count) result }
 {
     put_line(out, mark, Buffer::new().format(count).as_bytes())
 }
 
-// A count that may be past what a `usize` holds.
+/// A count that may be past what a `usize` holds.
 fn put_wide_count(out: &mut Vec<u8>, mark: u8, count: u128) -> Result<(), AllocError>
-    ensures { MatchResult result (λ _. out.new.items ≡ out.old.items ++ count_text mark count)
-        (λ _. (more : List ℕ) × (out.new.items ≡ out.old.items ++ more)) }
+    ensures { Appends out.old.items out.new.items (count_text mark count) result }
 {
     put_line(out, mark, Buffer::new().format(count).as_bytes())
 }
 
 #[inline(never)]
 pub(super) fn put_number(out: &mut Vec<u8>, number: i64) -> Result<(), AllocError>
-    ensures { MatchResult result (λ _. out.new.items ≡ out.old.items ++ line_text 58 (signed_decimal number))
-        (λ _. (more : List ℕ) × (out.new.items ≡ out.old.items ++ more)) }
+    ensures { Appends out.old.items out.new.items (line_text 58 (signed_decimal number)) result }
 {
     put_line(out, b':', Buffer::new().format(number).as_bytes())
 }
 
 #[inline(never)]
 pub(super) fn put_bulk(out: &mut Vec<u8>, bytes: &[u8]) -> Result<(), AllocError>
-    ensures { MatchResult result (λ _. out.new.items ≡ out.old.items ++ bulk_text bytes.now)
-        (λ _. (more : List ℕ) × (out.new.items ≡ out.old.items ++ more)) }
+    ensures { Appends out.old.items out.new.items (bulk_text bytes.now) result }
 {
     put_count(out, b'$', bytes.len())?;
     out.extend_from_slice(bytes)?;
@@ -62,8 +57,7 @@ pub(super) fn put_bulk(out: &mut Vec<u8>, bytes: &[u8]) -> Result<(), AllocError
 
 #[inline(never)]
 pub(super) fn put_nil(out: &mut Vec<u8>, protocol: Protocol) -> Result<(), AllocError>
-    ensures { MatchResult result (λ _. out.new.items ≡ out.old.items ++ nil_text protocol)
-        (λ _. (more : List ℕ) × (out.new.items ≡ out.old.items ++ more)) }
+    ensures { Appends out.old.items out.new.items (nil_text protocol) result }
 {
     match protocol {
         Protocol::Resp2 => out.extend_from_slice(b"$-1\r\n"),
@@ -73,8 +67,7 @@ pub(super) fn put_nil(out: &mut Vec<u8>, protocol: Protocol) -> Result<(), Alloc
 
 #[inline(never)]
 pub(super) fn put_simple(out: &mut Vec<u8>, text: &str) -> Result<(), AllocError>
-    ensures { MatchResult result (λ _. out.new.items ≡ out.old.items ++ simple_text text.now)
-        (λ _. (more : List ℕ) × (out.new.items ≡ out.old.items ++ more)) }
+    ensures { Appends out.old.items out.new.items (simple_text text.now) result }
 {
     if is_one_line(text.as_bytes()) {
         put_line(out, b'+', text.as_bytes())
@@ -89,8 +82,7 @@ pub(super) fn put_boolean(
     protocol: Protocol,
     truth: bool,
 ) -> Result<(), AllocError>
-    ensures { MatchResult result (λ _. out.new.items ≡ out.old.items ++ boolean_text protocol truth)
-        (λ _. (more : List ℕ) × (out.new.items ≡ out.old.items ++ more)) }
+    ensures { Appends out.old.items out.new.items (boolean_text protocol truth) result }
 {
     match protocol {
         Protocol::Resp2 => {
@@ -116,8 +108,7 @@ pub(super) fn put_double(
     protocol: Protocol,
     text: &str,
 ) -> Result<(), AllocError>
-    ensures { MatchResult result (λ _. out.new.items ≡ out.old.items ++ double_text protocol text.now)
-        (λ _. (more : List ℕ) × (out.new.items ≡ out.old.items ++ more)) }
+    ensures { Appends out.old.items out.new.items (double_text protocol text.now) result }
 {
     match protocol {
         Protocol::Resp2 => put_bulk(out, text.as_bytes()),
@@ -133,8 +124,7 @@ pub(super) fn put_double(
 
 #[inline(never)]
 pub(super) fn put_big(out: &mut Vec<u8>, protocol: Protocol, bytes: &[u8]) -> Result<(), AllocError>
-    ensures { MatchResult result (λ _. out.new.items ≡ out.old.items ++ big_text protocol bytes.now)
-        (λ _. (more : List ℕ) × (out.new.items ≡ out.old.items ++ more)) }
+    ensures { Appends out.old.items out.new.items (big_text protocol bytes.now) result }
 {
     match protocol {
         Protocol::Resp2 => put_bulk(out, bytes),
@@ -148,7 +138,7 @@ pub(super) fn put_big(out: &mut Vec<u8>, protocol: Protocol, bytes: &[u8]) -> Re
     }
 }
 
-// The number of the bytes of a format, a colon and a text.
+/// The number of the bytes of a format, a colon and a text.
 #[tactic(auto, using(crate::proofs::WrittenTexts::marked_up_length))]
 fn marked_up_len(format: &str, text: &str) -> u128
     ensures { result ≡ length (format.now ++ (58 ∷ text.now)) }
@@ -157,9 +147,8 @@ fn marked_up_len(format: &str, text: &str) -> u128
 }
 
 fn put_marked_up(out: &mut Vec<u8>, format: &str, text: &str) -> Result<(), AllocError>
-    ensures { MatchResult result
-        (λ _. out.new.items ≡ out.old.items ++ counted_text 61 (format.now ++ (58 ∷ text.now)))
-        (λ _. (more : List ℕ) × (out.new.items ≡ out.old.items ++ more)) }
+    ensures { Appends out.old.items out.new.items
+        (counted_text 61 (format.now ++ (58 ∷ text.now))) result }
 {
     put_wide_count(out, b'=', marked_up_len(format, text))?;
     out.extend_from_slice(format.as_bytes())?;
@@ -175,9 +164,8 @@ pub(super) fn put_verbatim(
     format: &VerbatimFormat,
     text: &str,
 ) -> Result<(), AllocError>
-    ensures { MatchResult result
-        (λ _. out.new.items ≡ out.old.items ++ verbatim_text protocol (format_view format.now) text.now)
-        (λ _. (more : List ℕ) × (out.new.items ≡ out.old.items ++ more)) }
+    ensures { Appends out.old.items out.new.items
+        (verbatim_text protocol (format_view format.now) text.now) result }
 {
     match protocol {
         Protocol::Resp2 => put_bulk(out, text.as_bytes()),
@@ -185,10 +173,9 @@ pub(super) fn put_verbatim(
     }
 }
 
-// The text that the server sent.
+/// The text that the server sent.
 fn put_text(out: &mut Vec<u8>, error: &ServerError) -> Result<(), AllocError>
-    ensures { MatchResult result (λ _. out.new.items ≡ out.old.items ++ joined (error_text error.now))
-        (λ _. (more : List ℕ) × (out.new.items ≡ out.old.items ++ more)) }
+    ensures { Appends out.old.items out.new.items (joined (error_text error.now)) result }
 {
     out.extend_from_slice(error.code.as_bytes())?;
     if let Some(detail) = &error.detail {
@@ -198,7 +185,7 @@ fn put_text(out: &mut Vec<u8>, error: &ServerError) -> Result<(), AllocError>
     Ok(())
 }
 
-// The number of the bytes of that text.
+/// The number of the bytes of that text.
 #[tactic(auto, using(crate::proofs::WrittenTexts::joined_length))]
 fn text_len(error: &ServerError) -> u128
     ensures { result ≡ length (joined (error_text error.now)) }
@@ -222,8 +209,7 @@ fn is_in_one_line(error: &ServerError) -> bool
 }
 
 fn put_spaced(out: &mut Vec<u8>, bytes: &[u8]) -> Result<(), AllocError>
-    ensures { MatchResult result (λ _. out.new.items ≡ out.old.items ++ spaced bytes.now)
-        (λ _. (more : List ℕ) × (out.new.items ≡ out.old.items ++ more)) }
+    ensures { Appends out.old.items out.new.items (spaced bytes.now) result }
 {
     'bytes: for byte in bytes {
         out.push(if is_inner(*byte) { *byte } else { b' ' })?;
@@ -233,9 +219,7 @@ fn put_spaced(out: &mut Vec<u8>, bytes: &[u8]) -> Result<(), AllocError>
 
 #[tactic(auto, using(crate::proofs::WrittenTexts::joined_spaced))]
 fn put_spaced_text(out: &mut Vec<u8>, error: &ServerError) -> Result<(), AllocError>
-    ensures { MatchResult result
-        (λ _. out.new.items ≡ out.old.items ++ spaced (joined (error_text error.now)))
-        (λ _. (more : List ℕ) × (out.new.items ≡ out.old.items ++ more)) }
+    ensures { Appends out.old.items out.new.items (spaced (joined (error_text error.now))) result }
 {
     put_spaced(out, error.code.as_bytes())?;
     if let Some(detail) = &error.detail {
@@ -246,9 +230,8 @@ fn put_spaced_text(out: &mut Vec<u8>, error: &ServerError) -> Result<(), AllocEr
 }
 
 fn put_spaced_line(out: &mut Vec<u8>, error: &ServerError) -> Result<(), AllocError>
-    ensures { MatchResult result
-        (λ _. out.new.items ≡ out.old.items ++ line_text 45 (spaced (joined (error_text error.now))))
-        (λ _. (more : List ℕ) × (out.new.items ≡ out.old.items ++ more)) }
+    ensures { Appends out.old.items out.new.items
+        (line_text 45 (spaced (joined (error_text error.now)))) result }
 {
     out.extend_from_slice(b"-")?;
     put_spaced_text(out, error)?;
@@ -256,9 +239,8 @@ fn put_spaced_line(out: &mut Vec<u8>, error: &ServerError) -> Result<(), AllocEr
 }
 
 fn put_error_line(out: &mut Vec<u8>, error: &ServerError) -> Result<(), AllocError>
-    ensures { MatchResult result
-        (λ _. out.new.items ≡ out.old.items ++ line_text 45 (joined (error_text error.now)))
-        (λ _. (more : List ℕ) × (out.new.items ≡ out.old.items ++ more)) }
+    ensures { Appends out.old.items out.new.items
+        (line_text 45 (joined (error_text error.now))) result }
 {
     out.extend_from_slice(b"-")?;
     put_text(out, error)?;
@@ -266,9 +248,8 @@ fn put_error_line(out: &mut Vec<u8>, error: &ServerError) -> Result<(), AllocErr
 }
 
 fn put_bulk_error(out: &mut Vec<u8>, error: &ServerError) -> Result<(), AllocError>
-    ensures { MatchResult result
-        (λ _. out.new.items ≡ out.old.items ++ counted_text 33 (joined (error_text error.now)))
-        (λ _. (more : List ℕ) × (out.new.items ≡ out.old.items ++ more)) }
+    ensures { Appends out.old.items out.new.items
+        (counted_text 33 (joined (error_text error.now))) result }
 {
     put_wide_count(out, b'!', text_len(error))?;
     put_text(out, error)?;
@@ -281,9 +262,8 @@ pub(super) fn put_error(
     protocol: Protocol,
     error: &ServerError,
 ) -> Result<(), AllocError>
-    ensures { MatchResult result
-        (λ _. out.new.items ≡ out.old.items ++ failed_text protocol (joined (error_text error.now)))
-        (λ _. (more : List ℕ) × (out.new.items ≡ out.old.items ++ more)) }
+    ensures { Appends out.old.items out.new.items
+        (failed_text protocol (joined (error_text error.now))) result }
 {
     match protocol {
         Protocol::Resp2 => put_spaced_line(out, error),
@@ -302,8 +282,7 @@ pub(super) fn put_set_head(
     protocol: Protocol,
     count: usize,
 ) -> Result<(), AllocError>
-    ensures { MatchResult result (λ _. out.new.items ≡ out.old.items ++ set_head protocol count)
-        (λ _. (more : List ℕ) × (out.new.items ≡ out.old.items ++ more)) }
+    ensures { Appends out.old.items out.new.items (set_head protocol count) result }
 {
     match protocol {
         Protocol::Resp2 => put_count(out, b'*', count),
@@ -316,8 +295,7 @@ pub(super) fn put_map_head(
     protocol: Protocol,
     count: usize,
 ) -> Result<(), AllocError>
-    ensures { MatchResult result (λ _. out.new.items ≡ out.old.items ++ map_head protocol count)
-        (λ _. (more : List ℕ) × (out.new.items ≡ out.old.items ++ more)) }
+    ensures { Appends out.old.items out.new.items (map_head protocol count) result }
 {
     match protocol {
         Protocol::Resp2 => put_wide_count(out, b'*', 2 * (count as u128)),
@@ -330,8 +308,7 @@ pub(super) fn put_push_head(
     protocol: Protocol,
     count: usize,
 ) -> Result<(), AllocError>
-    ensures { MatchResult result (λ _. out.new.items ≡ out.old.items ++ push_head protocol (suc count))
-        (λ _. (more : List ℕ) × (out.new.items ≡ out.old.items ++ more)) }
+    ensures { Appends out.old.items out.new.items (push_head protocol (suc count)) result }
 {
     match protocol {
         Protocol::Resp2 => put_wide_count(out, b'*', count as u128 + 1),

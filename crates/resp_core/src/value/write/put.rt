@@ -1,9 +1,9 @@
 //! Whole replies, as bytes. A level of a reply takes one turn of small functions.
 //!
 //! Where memory is refused, some more bytes stand behind those of the buffer.
-ghost use Rattle.std.specs.Prelude.{◌≡◌, ◌++◌, ℕ, suc, List, MatchResult};
+ghost use Rattle.std.specs.Prelude.{◌++◌, suc};
 ghost use Rattle.resp_core.specs.View.{view, trees_view, pairs_view, kind_view};
-ghost use Rattle.resp_core.specs.Written.{written, written_all, written_pairs, beside, count, pair_count, count_text, set_head, map_head, push_head, bulk_text};
+ghost use Rattle.resp_core.specs.Written.{Appends, written, written_all, written_pairs, beside, count, pair_count, count_text, set_head, map_head, push_head, bulk_text};
 ghost use Rattle.resp_core.specs.Printed.{kind_text};
 
 use crate::value::write::Protocol;
@@ -22,8 +22,7 @@ pub(super) fn put_value(
     protocol: Protocol,
     out: &mut Vec<u8>,
 ) -> Result<(), AllocError>
-    ensures { MatchResult result (λ _. out.new.items ≡ out.old.items ++ written protocol (view value.now))
-        (λ _. (more : List ℕ) × (out.new.items ≡ out.old.items ++ more)) }
+    ensures { Appends out.old.items out.new.items (written protocol (view value.now)) result }
 {
     match value {
         Value::Nil => put_nil(out, protocol),
@@ -50,11 +49,9 @@ pub(super) fn put_value(
 #[cycle(put)]
 #[inline(never)]
 fn put_array(items: &Vec<Value>, protocol: Protocol, out: &mut Vec<u8>) -> Result<(), AllocError>
-    ensures { MatchResult result
-        (λ _. out.new.items ≡ out.old.items
-        ++ (count_text 42 (count (trees_view items.now.items))
-        ++ written_all protocol (trees_view items.now.items)))
-        (λ _. (more : List ℕ) × (out.new.items ≡ out.old.items ++ more)) }
+    ensures { Appends out.old.items out.new.items
+        (count_text 42 (count (trees_view items.now.items))
+        ++ written_all protocol (trees_view items.now.items)) result }
 {
     put_count(out, b'*', count_of(items))?;
     put_items(items, protocol, out)
@@ -63,11 +60,9 @@ fn put_array(items: &Vec<Value>, protocol: Protocol, out: &mut Vec<u8>) -> Resul
 #[cycle(put)]
 #[inline(never)]
 fn put_set(items: &Vec<Value>, protocol: Protocol, out: &mut Vec<u8>) -> Result<(), AllocError>
-    ensures { MatchResult result
-        (λ _. out.new.items ≡ out.old.items
-        ++ (set_head protocol (count (trees_view items.now.items))
-        ++ written_all protocol (trees_view items.now.items)))
-        (λ _. (more : List ℕ) × (out.new.items ≡ out.old.items ++ more)) }
+    ensures { Appends out.old.items out.new.items
+        (set_head protocol (count (trees_view items.now.items))
+        ++ written_all protocol (trees_view items.now.items)) result }
 {
     put_set_head(out, protocol, count_of(items))?;
     put_items(items, protocol, out)
@@ -80,11 +75,9 @@ fn put_map(
     protocol: Protocol,
     out: &mut Vec<u8>,
 ) -> Result<(), AllocError>
-    ensures { MatchResult result
-        (λ _. out.new.items ≡ out.old.items
-        ++ (map_head protocol (pair_count (pairs_view pairs.now.items))
-        ++ written_pairs protocol (pairs_view pairs.now.items)))
-        (λ _. (more : List ℕ) × (out.new.items ≡ out.old.items ++ more)) }
+    ensures { Appends out.old.items out.new.items
+        (map_head protocol (pair_count (pairs_view pairs.now.items))
+        ++ written_pairs protocol (pairs_view pairs.now.items)) result }
 {
     put_map_head(out, protocol, pair_count_of(pairs))?;
     put_pairs(pairs, protocol, out)
@@ -97,10 +90,8 @@ fn put_push_kind(
     protocol: Protocol,
     out: &mut Vec<u8>,
 ) -> Result<(), AllocError>
-    ensures { MatchResult result
-        (λ _. out.new.items ≡ out.old.items
-        ++ (push_head protocol (suc count) ++ bulk_text (kind_text (kind_view kind.now))))
-        (λ _. (more : List ℕ) × (out.new.items ≡ out.old.items ++ more)) }
+    ensures { Appends out.old.items out.new.items
+        (push_head protocol (suc count) ++ bulk_text (kind_text (kind_view kind.now))) result }
 {
     put_push_head(out, protocol, count)?;
     put_bulk(out, kind.as_str().as_bytes())
@@ -114,18 +105,15 @@ fn put_push(
     protocol: Protocol,
     out: &mut Vec<u8>,
 ) -> Result<(), AllocError>
-    ensures { MatchResult result
-        (λ _. out.new.items ≡ out.old.items
-        ++ (push_head protocol (suc (count (trees_view items.now.items)))
-        ++ (bulk_text (kind_text (kind_view kind.now))
-        ++ written_all protocol (trees_view items.now.items))))
-        (λ _. (more : List ℕ) × (out.new.items ≡ out.old.items ++ more)) }
+    ensures { Appends out.old.items out.new.items
+        (push_head protocol (suc (count (trees_view items.now.items))) ++ (bulk_text
+        (kind_text (kind_view kind.now)) ++ written_all protocol (trees_view items.now.items))) result }
 {
     put_push_kind(kind, count_of(items), protocol, out)?;
     put_items(items, protocol, out)
 }
 
-// What stands before the value that an attribute is about.
+/// What stands before the value that an attribute is about.
 #[cycle(put)]
 #[inline(never)]
 fn put_beside(
@@ -133,11 +121,9 @@ fn put_beside(
     protocol: Protocol,
     out: &mut Vec<u8>,
 ) -> Result<(), AllocError>
-    ensures { MatchResult result
-        (λ _. out.new.items ≡ out.old.items
-        ++ beside protocol (pair_count (pairs_view pairs.now.items))
-        (written_pairs protocol (pairs_view pairs.now.items)))
-        (λ _. (more : List ℕ) × (out.new.items ≡ out.old.items ++ more)) }
+    ensures { Appends out.old.items out.new.items
+        (beside protocol (pair_count (pairs_view pairs.now.items))
+        (written_pairs protocol (pairs_view pairs.now.items))) result }
 {
     match protocol {
         Protocol::Resp2 => Ok(()),
@@ -150,9 +136,8 @@ fn put_beside(
 
 #[cycle(put)]
 fn put_items(items: &Vec<Value>, protocol: Protocol, out: &mut Vec<u8>) -> Result<(), AllocError>
-    ensures { MatchResult result
-        (λ _. out.new.items ≡ out.old.items ++ written_all protocol (trees_view items.now.items))
-        (λ _. (more : List ℕ) × (out.new.items ≡ out.old.items ++ more)) }
+    ensures { Appends out.old.items out.new.items
+        (written_all protocol (trees_view items.now.items)) result }
 {
     'items: for item in items {
         put_value(item, protocol, out)?;
@@ -166,9 +151,8 @@ fn put_pairs(
     protocol: Protocol,
     out: &mut Vec<u8>,
 ) -> Result<(), AllocError>
-    ensures { MatchResult result
-        (λ _. out.new.items ≡ out.old.items ++ written_pairs protocol (pairs_view pairs.now.items))
-        (λ _. (more : List ℕ) × (out.new.items ≡ out.old.items ++ more)) }
+    ensures { Appends out.old.items out.new.items
+        (written_pairs protocol (pairs_view pairs.now.items)) result }
 {
     'pairs: for pair in pairs {
         put_value(&pair.0, protocol, out)?;

@@ -13,11 +13,11 @@ returns-in_err-reply-clause-asked g c =
     let d = c.args.question.request.dispatch in
     let p = err_from_is_err_and c.from_residual.result c.from_residual.ensures.1 in
     let memory : c.in_err-reply.field-0.0 ≡ by_cause Memory = c.in_err-reply.ensures.only in
-    rw (p.1, p.2, memory) (node_lost _ _ (dispatch_of d) (record { entries = refl; settings = refl; picked = refl }) (tree_result view c.exchange_one_over-reply.result) c.needs_refresh_by-self.ensures _ c.requires.placed.place _
-    (by_asking (dispatch_of d) d.hop.asking c.requires.placed.direct) c.exchange_one_over-reply.ensures.exchange (ap (tree_result view) c.in_err-reply.ensures.lacked))
+    rw (p.1, p.2, memory) (node_lost _ _ (dispatch_of d) (record { entries = refl; settings = refl; picked = refl }) (tree_result view c.exchange_one-reply.result) c.needs_refresh_by-self.ensures _ c.requires.placed.place _
+    (by_asking (dispatch_of d) d.to.asking c.requires.placed.direct) c.exchange_one-reply.ensures.exchange (ap (tree_result view) c.in_err-reply.ensures.lacked))
 
 pub returns-clause-asked : goal.returns-clause-asked
 returns-clause-asked g c =
     let d = c.args.question.request.dispatch in
-    rw (c.args.question.same, c.in_ok-reply.ensures.same) (node_told _ _ (dispatch_of d) (record { entries = refl; settings = refl; picked = refl }) (tree_result view c.exchange_one_over-reply.result) c.needs_refresh_by-self.ensures _ c.requires.placed.place _
-    (by_asking (dispatch_of d) d.hop.asking c.requires.placed.direct) c.exchange_one_over-reply.ensures.exchange _ (own_outcome c.exchange_one_over-reply.result (rw c.in_ok-reply.ensures.same at c.in_ok-reply.ensures.memory)))
+    rw (c.args.question.same, c.in_ok-reply.ensures.same) (node_told _ _ (dispatch_of d) (record { entries = refl; settings = refl; picked = refl }) (tree_result view c.exchange_one-reply.result) c.needs_refresh_by-self.ensures _ c.requires.placed.place _
+    (by_asking (dispatch_of d) d.to.asking c.requires.placed.direct) c.exchange_one-reply.ensures.exchange _ (own_outcome c.exchange_one-reply.result (rw c.in_ok-reply.ensures.same at c.in_ok-reply.ensures.memory)))

@@ -13,7 +13,7 @@ pub returns-in_err-list : goal.returns-in_err-list
 returns-in_err-list g c =
     let p = err_from_is_err_and c.from_residual.result c.from_residual.ensures.1 in
     let world = whole g.L.ConnectionLike.seen c.args.self.now in
-    rw (p.1, p.2) (λ strategy. fan_not_sent strategy _ _ c.args.cmd.now _ (record { nodes = refl; log = c.new.ensures.items; entries = refl; settings = refl; flag = refl }) (ap addresses c.new-2.ensures.items)
+    rw (p.1, p.2) (λ strategy. fan_not_sent strategy _ _ c.args.cmd.now _ (record { nodes = refl; log = c.begin.ensures.asked; entries = refl; settings = refl; flag = refl }) (ap addresses c.begin.ensures.picked)
     (λ m. c.in_err-list.ensures.planned (λ k. m (cc k)) strategy (client_of world) refl (sym c.map.ensures) (ap texts (sym c.deref.ensures.value))))
 
 pub ask_each-requires-clause-apart : goal.ask_each-requires-clause-apart
@@ -28,7 +28,7 @@ returns-in_err-replies g c =
     let world = whole g.L.ConnectionLike.seen c.args.self.now in
     rw (p.1, p.2) (λ strategy.
     let planned = c.in_ok-list.ensures.planned (λ k. cc k) strategy (client_of world) refl (sym c.map.ensures) (ap texts (sym c.deref.ensures.value)) in
-    fan_made strategy world _ _ _ c.args.cmd.now _ _ _ c.new.ensures.items (ap addresses c.new-2.ensures.items) planned c.in_err-replies.ensures refl)
+    fan_made strategy world _ _ _ c.args.cmd.now _ _ _ c.begin.ensures.asked (ap addresses c.begin.ensures.picked) planned c.in_err-replies.ensures refl)
 
 pub returns-in_err-outcomes : goal.returns-in_err-outcomes
 returns-in_err-outcomes g c =
@@ -37,12 +37,12 @@ returns-in_err-outcomes g c =
     let world = whole g.L.ConnectionLike.seen c.args.self.now in
     rw (p.1, p.2, memory) (λ strategy.
     let planned = c.in_ok-list.ensures.planned (λ k. cc k) strategy (client_of world) refl (sym c.map.ensures) (ap texts (sym c.deref.ensures.value)) in
-    fan_made strategy world _ _ _ c.args.cmd.now _ _ _ c.new.ensures.items (ap addresses c.new-2.ensures.items) planned c.in_ok-replies.ensures (λ had. absurd (had refl)))
+    fan_made strategy world _ _ _ c.args.cmd.now _ _ _ c.begin.ensures.asked (ap addresses c.begin.ensures.picked) planned c.in_ok-replies.ensures (λ had. absurd (had refl)))
 
 pub returns : goal.returns
 returns g c = λ strategy.
     let world = whole g.L.ConnectionLike.seen c.args.self.now in
     let planned = c.in_ok-list.ensures.planned (λ k. cc k) strategy (client_of world) refl (sym c.map.ensures) (ap texts (sym c.deref.ensures.value)) in
     let made = rw c.in_ok-outcomes.ensures.outcomes at c.reply_of_nodes.ensures in
-    fan_made strategy world _ _ _ c.args.cmd.now _ _ _ c.new.ensures.items (ap addresses c.new-2.ensures.items) planned c.in_ok-replies.ensures
+    fan_made strategy world _ _ _ c.args.cmd.now _ _ _ c.begin.ensures.asked (ap addresses c.begin.ensures.picked) planned c.in_ok-replies.ensures
     (made_of c.args.cmd.now _ _ _ c.in_ok-list.ensures.policy made)

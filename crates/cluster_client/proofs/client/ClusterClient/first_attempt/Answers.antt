@@ -16,7 +16,7 @@ returns-in_err-hop-clause-planned g c =
     let own = sym (c.in_ok-slot.ensures (λ k. cc k)) ∙ ap (λ o. Ok o) c.in-Some.is in
     rw (p.1, p.2) (λ m.
     let found = c.in_err-hop.ensures.found (λ k. m (cc k)) in
-    let leads = rw (c.map.ensures, c.new-3.ensures) at found.leads in
+    let leads = rw c.new.ensures at found.leads in
     primary_planned (client_of world) c.args.commands.now c.in-Some.slot found.own (Err c.in_err-hop.field-0.0) own leads)
 
 pub returns-clause-planned : goal.returns-clause-planned
@@ -24,6 +24,6 @@ returns-clause-planned g c = λ m.
     let world = whole g.L.ConnectionLike.seen c.args.self.now in
     let own = sym (c.in_ok-slot.ensures (λ k. cc k)) ∙ ap (λ o. Ok o) c.in-Some.is in
     let found = c.in_ok-hop.ensures.found (λ k. cc k) in
-    let leads = rw (c.map.ensures, c.new-3.ensures) at found.leads in
+    let leads = rw c.new.ensures at found.leads in
     primary_planned (client_of world) c.args.commands.now c.in-Some.slot found.own (Ok (address c.in_ok-hop.hop.node)) own leads
     ∙ ap (λ (p : CodeHop). Ok (dispatches_to (address p.node) (args_of c.args.commands.now))) (sym c.in_ok-attempt.ensures.hop)

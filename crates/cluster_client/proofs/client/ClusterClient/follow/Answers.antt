@@ -23,7 +23,7 @@ pub returns-in_err-reply-clause-made : goal.returns-in_err-reply-clause-made
 returns-in_err-reply-clause-made g c =
     let p = err_from_is_err_and c.from_residual.result c.from_residual.ensures.1 in
     let is = with_args (request_in c.requests.request.dispatch) _ c.requests.invariant.same in
-    rw (p.1, p.2) (loop_err _ _ _ _ _ _ _ _ c.requests.invariant.loop (record { entries = refl; settings = refl; picked = refl }) _ is _ c.in_err-reply.ensures.exchange (grown_by _ _ _ _ 1 c.requests.self.asked.ok.0 c.exchange_one_over.new.log.ok.0 c.in_err-reply.ensures.log_len) refl)
+    rw (p.1, p.2) (loop_err _ _ _ _ _ _ _ _ c.requests.invariant.loop (record { entries = refl; settings = refl; picked = refl }) _ is _ c.in_err-reply.ensures.exchange (grown_by _ _ _ _ 1 c.requests.self.asked.ok.0 c.exchange_one.new.log.ok.0 c.in_err-reply.ensures.log_len) refl)
 
 pub returns-in_err-value-clause-made : goal.returns-in_err-value-clause-made
 returns-in_err-value-clause-made g c =
@@ -52,15 +52,15 @@ requests-preserved g c =
     let goes = rw c.in-On.is at (c.in_ok-value.ensures.turns (λ k. cc k)) in
     let on = rw c.in-On.is at c.in_ok-value.ensures.on in
     let some = rw c.in-On.is at c.in_ok-value.ensures.some in
-    let within : c.in-On.next.link < length c.exchange_one_over.new.links.nodes.items = rw length-map at on.1 in
+    let within : c.in-On.next.link < length c.exchange_one.new.links.nodes.items = rw length-map at on.1 in
     let again = c.in_ok-again-in-On.ensures.args _ (ap last_of c.deref.ensures.value ∙ (behind_request _ _ _ made.0).0) in
-    let hop : c.in_ok-request-in-On.request.dispatch.hop ≡ c.in-On.next = ap (λ d. d.hop) c.in_ok-request-in-On.ensures.dispatch ∙ c.in_ok-again-in-On.ensures.hop in
-    let world = record (whole g.L.ConnectionLike.seen c.requests.self) { nodes = nodes g.L.ConnectionLike.seen c.exchange_one_over.new.links.nodes.items; needs_refresh = c.needs_refresh-self.result; log = c.exchange_one_over.new.log.items } in
+    let hop : c.in_ok-request-in-On.request.dispatch.to ≡ c.in-On.next = ap (λ d. d.to) c.in_ok-request-in-On.ensures.dispatch ∙ c.in_ok-again-in-On.ensures.hop in
+    let world = record (whole g.L.ConnectionLike.seen c.requests.self) { nodes = nodes g.L.ConnectionLike.seen c.exchange_one.new.links.nodes.items; needs_refresh = c.needs_refresh-self.result; log = c.exchange_one.new.log.items } in
     let more = loop_more _ _ world _ _ _ _ _ c.requests.invariant.loop (record { entries = refl; settings = refl; picked = refl }) _ made.1 made.0 c.needs_refresh-self.ensures (hop_to c.in-On.next) c.in-On.next.link goes (some refl) on.0 (followed_bad _ _ _ _ goes) in
     record {
       loop = chain_with_room _ world _ _ _ _ _ _ c.in_ok-request-in-On.ensures.log (chain_to _ world _ _ _ _ _ hop more);
       same = ap (λ d. texts d.args.items) c.in_ok-request-in-On.ensures.dispatch ∙ again;
-      within = subst (λ p. p.link < c.exchange_one_over.new.links.nodes.len) (sym hop) (rw c.exchange_one_over.new.links.nodes.ok.0 within);
+      within = subst (λ p. p.link < c.exchange_one.new.links.nodes.len) (sym hop) (rw c.exchange_one.new.links.nodes.ok.0 within);
       room = c.in_ok-request-in-On.ensures.room;
     }
 

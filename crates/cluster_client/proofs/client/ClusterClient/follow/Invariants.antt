@@ -7,9 +7,9 @@ use Rattle.cluster_client.proofs.client.ClusterClient.follow.Given as goal
 
 abbrev pub invariant-requests : goal.invariant-requests
 invariant-requests g l = record {
-  loop : Loop (whole g.L.ConnectionLike.seen l.fn.self) (whole g.L.ConnectionLike.seen l.self) (texts l.fn.first.dispatch.args.items) (hop_to l.fn.first.dispatch.hop) l.redirects (hop_to l.request.dispatch.hop) l.request.dispatch.hop.link;
+  loop : Loop (whole g.L.ConnectionLike.seen l.fn.self) (whole g.L.ConnectionLike.seen l.self) (texts l.fn.first.dispatch.args.items) (hop_to l.fn.first.dispatch.to) l.redirects (hop_to l.request.dispatch.to) l.request.dispatch.to.link;
   same : texts l.request.dispatch.args.items ≡ texts l.fn.first.dispatch.args.items;
-  within : l.request.dispatch.hop.link < vec_len l.self.links.nodes;
+  within : l.request.dispatch.to.link < vec_len l.self.links.nodes;
   room : vec_len l.self.asked + l.fn.parts ≤ vec_capacity l.self.asked;
 }
 

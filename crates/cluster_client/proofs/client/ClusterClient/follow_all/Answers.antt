@@ -47,7 +47,7 @@ follow-requires-clause-within g c =
     let steps : into_iter_items c.parts.request-iterator ≡ c.in-Some.request ∷ into_iter_items c.next.new.self = c.in-Some.ensures.steps.0 in
     let placed = rw steps at c.parts.invariant.placed in
     let at = still_placed c.parts.invariant.loop _ _ placed.0.place in
-    let within : c.in-Some.request.dispatch.hop.link < length c.parts.self.links.nodes.items = rw length-map at (place_within (nodes g.L.ConnectionLike.seen c.parts.self.links.nodes.items) (address c.in-Some.request.dispatch.hop.node) c.in-Some.request.dispatch.hop.link at.place) in
+    let within : c.in-Some.request.dispatch.to.link < length c.parts.self.links.nodes.items = rw length-map at (place_within (nodes g.L.ConnectionLike.seen c.parts.self.links.nodes.items) (address c.in-Some.request.dispatch.to.node) c.in-Some.request.dispatch.to.link at.place) in
     rw c.parts.self.links.nodes.ok.0 within
 
 pub returns-in_err-reply : goal.returns-in_err-reply

@@ -21,7 +21,7 @@ follow-requires-clause-place g c = rw c.in_ok-request.ensures.dispatch c.require
 
 pub follow-requires-clause-within : goal.follow-requires-clause-within
 follow-requires-clause-within g c =
-    let within : c.args.dispatch.hop.link < length c.args.self.now.links.nodes.items = rw length-map at c.requires.within in
+    let within : c.args.dispatch.to.link < length c.args.self.now.links.nodes.items = rw length-map at c.requires.within in
     rw (c.in_ok-request.ensures.dispatch, c.args.self.now.links.nodes.ok.0) within
 
 pub returns : goal.returns

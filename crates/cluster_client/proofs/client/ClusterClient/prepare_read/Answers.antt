@@ -12,10 +12,10 @@ returns-in_err-dispatches-clause-planned g c =
     let p = err_from_is_err_and c.from_residual-in_err-dispatches.result c.from_residual-in_err-dispatches.ensures.1 in
     let world = whole g.L.ConnectionLike.seen c.args.self.now in
     let parts = rw c.deref.ensures.value at c.in_ok-list.ensures.parts in
-    rw (p.1, p.2) (λ m. read_unplaced c.args.options.now (streams_in c.args.streams.now) c.requires.by_key c.requires.met _ (client_of world) _ (map part_of c.in_ok-list.field-0.list.items) parts _ (rw c.map.ensures at (c.in_err-dispatches.ensures.dispatched (λ k. m (cc k)) world.settings)))
+    rw (p.1, p.2) (λ m. read_unplaced c.args.options.now (streams_in c.args.streams.now) c.requires.by_key c.requires.met _ (client_of world) _ (map part_of c.in_ok-list.field-0.list.items) parts _ (c.in_err-dispatches.ensures.dispatched (λ k. m (cc k)) world.settings))
 
 pub returns-clause-planned : goal.returns-clause-planned
 returns-clause-planned g c m =
     let world = whole g.L.ConnectionLike.seen c.args.self.now in
     let parts = rw c.deref.ensures.value at c.in_ok-list.ensures.parts in
-    read_planned c.args.options.now (streams_in c.args.streams.now) c.requires.by_key c.requires.met _ (client_of world) _ (map part_of c.in_ok-list.field-0.list.items) parts _ (rw c.map.ensures at (c.in_ok-dispatches.ensures.dispatched (λ k. cc k) world.settings))
+    read_planned c.args.options.now (streams_in c.args.streams.now) c.requires.by_key c.requires.met _ (client_of world) _ (map part_of c.in_ok-list.field-0.list.items) parts _ (c.in_ok-dispatches.ensures.dispatched (λ k. cc k) world.settings)

@@ -34,7 +34,7 @@ returns-in-Ok-Whole g c =
     let told = rw c.in-Ok-Whole.field-0-is at c.in-Ok-Whole.ensures in
     let whole = ap (λ b. cond b (read_of options streams) (sentence_task (Xread streams options))) told.1 in
     let written = subst (λ args. IfOk c.xread-cmd.result (λ k. k ≡ plain_command args)) (read_sentence_by g.K.ToSingleRedisArg.arg g.I.ToSingleRedisArg.arg c.args.streams.now options) c.xread-cmd.ensures in
-    c.reply_as.ensures (Xread streams options) Read told.0 whole written (λ tree. refl)
+    c.reply_as.ensures (Xread streams options) Read (record { unrefused = told.0; whole = whole; written = written }) (λ tree. refl)
 
 pub returns-in-Ok-Refused : goal.returns-in-Ok-Refused
 returns-in-Ok-Refused g c =

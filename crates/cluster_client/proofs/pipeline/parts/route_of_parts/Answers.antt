@@ -1,5 +1,5 @@
-use Rattle.std.proofs.Common.{◌≡◌, ◌∙◌, [], ap}
-use Rattle.resp_core.specs.Errors.{by_cause, kind_of}
+use Rattle.std.proofs.Common.{◌≡◌, ◌∙◌, []}
+use Rattle.resp_core.specs.Errors.{by_cause}
 use Rattle.resp_core.specs.declared.errors.redis_error.Cause.TheVariants.{Memory}
 use Rattle.resp_args.specs.Packed.{sent}
 use Rattle.cluster_calls.specs.Calls.Parts.{parts_of}
@@ -12,10 +12,10 @@ returns-in-Ok-clause-route c =
     let command = c.args.command.now in
     c.primary_route.ensures (sent command) ∙ whole_by_targets (sent command) (targets_in c.in-Ok.targets) (parts_of [] command 0) (c.in-Ok.ensures.targets (λ k. cc k))
 
-pub returns : goal.returns
-returns c =
+pub returns-else-is_memory : goal.returns-else-is_memory
+returns-else-is_memory c =
     let command = c.args.command.now in
-    let told = c.in-Err.ensures.targets (λ k. let same : c.in-Err.e ≡ by_cause Memory = cc in c.in_default.not-Memory (c.kind.ensures ∙ ap kind_of same)) in
+    let told = c.in-Err.ensures.targets (λ k. let same : c.in-Err.e ≡ by_cause Memory = cc in let yes = c.is_memory.ensures.1 same in absurd (cc (yes, c.if-is_memory.false))) in
     record {
       route = no_whole (sent command) c.in-Err.e (parts_of [] command 0) told;
       only = tt;

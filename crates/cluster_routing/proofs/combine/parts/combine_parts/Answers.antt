@@ -1,7 +1,7 @@
 use Rattle.std.proofs.Common.{◌≡◌, ◌∙◌, ap, sym, map}
 use Rattle.resp_core.specs.View.{view}
 use Rattle.cluster_routing.specs.Combine.{all_okay, combine_at, combine_by, items_by_place, part_replies, slots_by, sum_tree}
-use Rattle.cluster_routing.specs.Info.{shown_part}
+use Rattle.cluster_routing.specs.Info.{positions_in}
 use Rattle.cluster_routing.specs.Parts.{width_of}
 use Rattle.cluster_routing.specs.Policies.{or_bad_reply}
 use Rattle.cluster_routing.specs.declared.policy.ResponsePolicy.TheVariants.{Aggregate}
@@ -16,7 +16,7 @@ returns-in-CombineArrays c =
           c.combine_and_sort_array_results.ensures memory
           ∙ ap or_bad_reply (
           ap (λ places. items_by_place places (map view c.args.values.items)) (part_places (width_of c.args.pattern) c.args.routes.now)
-          ∙ ap (λ policy. combine_at policy (width_of c.args.pattern) (map (λ p. p.1) (map shown_part c.args.routes.now)) (map view c.args.values.items)) (sym c.in-CombineArrays.is)
+          ∙ ap (λ policy. combine_at policy (width_of c.args.pattern) (positions_in c.args.routes.now) (map view c.args.values.items)) (sym c.in-CombineArrays.is)
           );
       cut = λ args s order cut_into memory.
           c.combine_and_sort_array_results.ensures memory
@@ -34,7 +34,7 @@ returns-in-Aggregate-Sum c =
     record {
       any = λ memory.
           c.aggregate.ensures
-          ∙ ap or_bad_reply (ap (λ policy. combine_at policy (width_of c.args.pattern) (map (λ p. p.1) (map shown_part c.args.routes.now)) (map view c.args.values.items)) (sym (c.in-Aggregate-Sum.is ∙ ap (λ o. Aggregate o) op)));
+          ∙ ap or_bad_reply (ap (λ policy. combine_at policy (width_of c.args.pattern) (positions_in c.args.routes.now) (map view c.args.values.items)) (sym (c.in-Aggregate-Sum.is ∙ ap (λ o. Aggregate o) op)));
       cut = λ args s order cut_into memory.
           c.aggregate.ensures
           ∙ ap or_bad_reply (
@@ -51,7 +51,7 @@ returns-in-AllSucceeded c =
           c.all_succeeded.ensures
           ∙ ap or_bad_reply (
           ap (λ values. all_okay (map view values)) c.deref.ensures.value
-          ∙ ap (λ policy. combine_at policy (width_of c.args.pattern) (map (λ p. p.1) (map shown_part c.args.routes.now)) (map view c.args.values.items)) (sym c.in-AllSucceeded.is)
+          ∙ ap (λ policy. combine_at policy (width_of c.args.pattern) (positions_in c.args.routes.now) (map view c.args.values.items)) (sym c.in-AllSucceeded.is)
           );
       cut = λ args s order cut_into memory.
           c.all_succeeded.ensures

@@ -4,7 +4,7 @@ use Rattle.std.proofs.Common.{◌∙◌, ◌++◌, ◌∷◌, [], Some, map, ap}
 use Rattle.cluster_routing.specs.Info.{shown_split}
 use Rattle.cluster_steps.specs.CodeParts.{routed_at, routed_part}
 use Rattle.cluster_steps.specs.FirstPlaces.{part_of}
-use Rattle.cluster_steps.specs.declared.route.Part.{Part}
+use Rattle.cluster_steps.specs.Requests.{CodePart as Part}
 use Rattle.cluster_client.specs.InParts.{entry, joins_after}
 use Rattle.cluster_client.proofs.InParts.{parts_go, parts_placed}
 use Rattle.cluster_client.proofs.pipeline.in_parts.InParts.add_parts.Goals as goal

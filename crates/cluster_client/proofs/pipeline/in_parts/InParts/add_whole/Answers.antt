@@ -5,7 +5,7 @@ use Rattle.std.proofs.lemmas.List.{map-append}
 use Rattle.resp_args.specs.Packed.{sent}
 use Rattle.cluster_steps.specs.FirstPlaces.{part_of}
 use Rattle.cluster_steps.specs.WholeParts.{whole_by}
-use Rattle.cluster_steps.specs.declared.route.Part.{Part}
+use Rattle.cluster_steps.specs.Requests.{CodePart as Part}
 use Rattle.cluster_client.specs.InParts.{entry, joins_after, places_of}
 use Rattle.cluster_calls.proofs.LogLaws.EachInParts.{entry_part, is_whole}
 use Rattle.cluster_client.proofs.InParts.{whole_goes, whole_placed}

@@ -1,0 +1,4 @@
+//! What a client tells of itself, and answers later, where a read, a write or a request for memory is refused.
+mod failing;
+mod memory;
+mod rows;

@@ -1,0 +1,3 @@
+//! What a crate outside may do with the links, and that it succeeds; the groups of requests to few and to many.
+mod groups_of_places;
+mod outside_links;

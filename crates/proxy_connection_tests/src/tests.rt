@@ -1,0 +1,4 @@
+//! Guests by their bytes, before made-up servers.
+mod guests;
+mod memory;
+mod pieces;

@@ -1,0 +1,3 @@
+//! Many guests by their bytes, before made-up servers.
+mod guests;
+mod memory;

@@ -1,0 +1,4 @@
+//! Requests as a Redis server answered them, whole and in pieces.
+mod answers;
+mod seen;
+mod takes;

@@ -1,6 +1,0 @@
-use Rattle.std.specs.List.{IsDistinct}
-use Rattle.stream_commands_tests.proofs.join.no_key_has_no_row.Goals as goal
-
-pub join_read_replies-record-requires-clause-differ : goal.join_read_replies-record-requires-clause-differ
-unfolding IsDistinct
-join_read_replies-record-requires-clause-differ g c = tt
