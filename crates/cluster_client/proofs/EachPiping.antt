@@ -205,7 +205,7 @@ one_number (j ∷ ks) d zero (suc m) k e f = let same : j ≡ k = cc in absurd (
 one_number (j ∷ ks) d (suc n) zero k e f = let same : j ≡ k = cc in absurd (false≢true (sym d.0 ∙ subst (λ i. among nat_eq i ks ≡ true) (sym same) (found_among ks n k e)))
 one_number (j ∷ ks) d (suc n) (suc m) k e f = ap suc (one_number ks d.1 n m k e f)
 
-numbers_agree : (ks : List ℕ) → IsDistinct nat_eq ks → (n m k l : ℕ) → slice_get ks n ≡ Some k → slice_get ks m ≡ Some l → (n == m) ≡ (k == l)
+pub numbers_agree : (ks : List ℕ) → IsDistinct nat_eq ks → (n m k l : ℕ) → slice_get ks n ≡ Some k → slice_get ks m ≡ Some l → (n == m) ≡ (k == l)
 numbers_agree ks d n m k l e f = by (n == m) refl (k == l) refl
   where
     by : (b : Bool) → (n == m) ≡ b → (c : Bool) → (k == l) ≡ c → b ≡ c

@@ -1,6 +1,7 @@
 pub mod GroupLoop
 pub mod EachLoop
 pub mod EachPiping
+pub mod DrawnNumbers
 pub mod InParts
 pub mod Logged
 mod WholeRun

@@ -227,13 +227,9 @@ pub dispatches_within : (ns : List Node) (count : ℕ) (cds : List CodeDispatch)
 dispatches_within ns count [] e p = tt
 dispatches_within ns count (d ∷ ds) e p = (subst (λ n. place_in d < n) e p.0.within, dispatches_within ns count ds e p.1)
 
-pub places_within : (ns : List Node) (count : ℕ) (cds : List CodeDispatch) → length ns ≡ count → AllByRecursion (IsPlaced ns) cds → AllByRecursion (λ n. n < count) (map place_in cds)
-places_within ns count cds e p = all_mapped (λ n. n < count) place_in cds (dispatches_within ns count cds e p)
-
-pub answers_within : (ns : List Node) (count : ℕ) (cds : List CodeDispatch) (gs : List NodeRequests) (old new : World) (answers : List (ℕ × List Tree)) → length ns ≡ count → AllByRecursion (IsPlaced ns) cds → gs ≡ pipe_groups cds → GroupsMade old new gs (Ok answers)
-    → AllByRecursion (λ (a : ℕ × List Tree). a.0 < count) answers
-answers_within ns count cds gs old new answers e p same made =
+-- each answer came from the place of its group
+pub answered_links : (cds : List CodeDispatch) (gs : List NodeRequests) (old new : World) (answers : List (ℕ × List Tree)) → gs ≡ pipe_groups cds → GroupsMade old new gs (Ok answers) → map (λ (a : ℕ × List Tree). a.0) answers ≡ firsts nat_eq (map place_in cds)
+answered_links cds gs old new answers same made =
     let m = subst (λ hs. GroupsMade old new hs (Ok answers)) same made in
     let told = (m.answered (λ k. cc k)).tells (faults_of m.events) (agrees old.nodes new.nodes m.events m.runs) 0 in
-    all_unmapped (λ n. n < count) (λ (a : ℕ × List Tree). a.0) answers
-    (subst (AllByRecursion (λ n. n < count)) (sym (told.0 ∙ group_links cds)) (order_within count cds (dispatches_within ns count cds e p)))
+    told.0 ∙ group_links cds

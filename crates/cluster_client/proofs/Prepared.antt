@@ -1,13 +1,15 @@
 -- What is prepared for a command, from the code's parts and dispatches.
 use Rattle.std.specs.Prelude.{IfSome}
-use Rattle.std.proofs.Common.{◌≡◌, ℕ, true, false, List, [], map, length, Option, Some, option_map, Ok, Err, sym, ap, ◌∙◌, subst}
+use Rattle.std.proofs.Common.{◌≡◌, ℕ, true, false, List, [], ◌∷◌, map, length, Option, Some, option_map, Ok, Err, sym, ap, ◌∙◌, subst}
 use Rattle.std.proofs.lemmas.List.{length-map}
 use Rattle.resp_core.specs.Errors.{Refusal, by_cause}
 use Rattle.resp_core.specs.declared.errors.redis_error.Cause.TheVariants.{BadOrder}
 use Rattle.resp_args.specs.Command.{Command}
+use Rattle.resp_args.specs.Packed.{sent}
 use Rattle.cluster_routing.specs.Address.{Address}
 use Rattle.cluster_routing.specs.Choice.{Strategy}
-use Rattle.cluster_routing.specs.Info.{shown_parts, shown_split}
+use Rattle.cluster_routing.specs.Seen.{address}
+use Rattle.cluster_routing.specs.Info.{shown_parts, shown_split, texts}
 use Rattle.cluster_routing.specs.Split.{parts_by_place}
 use Rattle.cluster_routing.specs.declared.split.SplitParts.{SplitParts}
 use Rattle.cluster_steps.specs.Requests.{CodeDispatch}
@@ -16,11 +18,11 @@ use Rattle.cluster_steps.specs.Dispatches.{AreDispatched, IsPlanned, dispatch_of
 use Rattle.cluster_steps.specs.CodeParts.{routed_at, routed_part}
 use Rattle.cluster_steps.specs.FirstPlaces.{part_of}
 use Rattle.cluster_calls.specs.Links.Orders.{command_call}
-use Rattle.cluster_calls.specs.Calls.Parts.{fits_order, parts_of}
+use Rattle.cluster_calls.specs.Calls.Parts.{Target, fits_order, part_to, parts_of}
 use Rattle.cluster_calls.specs.Calls.Plan.{Client, in_order}
 use Rattle.cluster_steps.proofs.Directions.{parts_are}
 use Rattle.cluster_steps.proofs.Dispatched.{command_planned, command_unfit, command_unplaced}
-use Rattle.cluster_calls.proofs.LinkLaws.Ordering.{made_in_order}
+use Rattle.cluster_calls.proofs.LinkLaws.Ordering.{made_in_order, one_in_order}
 use Rattle.cluster_steps.proofs.PartReplies.{dispatches_fit, routes_fit}
 
 -- the parts that were pushed for a command that is split
@@ -53,3 +55,13 @@ module _ (client : Client) (command : Command) (order : Option (List ℕ)) (numb
         prepared_planned sent e =
             let moved : in_order order (map dispatch_of ds) ≡ map dispatch_of sent = sym (made_in_order dispatch_of order ds) ∙ ap (map dispatch_of) (sym e) in
             subst (λ es. IsPlanned strategy client (command_call command order number) picks (Ok es)) moved (command_planned command order number client strategy (map part_of list) are parts_fit picks (map dispatch_of ds) d)
+
+-- ---- a command that goes whole
+
+pub planned_alone : (client : Client) (command : Command) (order : Option (List ℕ)) (number : ℕ) (target : Target) → parts_of client.settings.read_only command number ≡ Ok (part_to (sent command) target ∷ []) → fits_order order 1 ≡ true
+    → (strategy : Option Strategy) (picks : List Address) (made : CodeDispatch) → texts made.args.items ≡ sent command
+    → AreDispatched strategy client (part_to (sent command) target ∷ []) picks (Ok (record { node = address made.to.node; args = sent command } ∷ [])) → IsPlanned strategy client (command_call command order number) picks (Ok (dispatch_of made ∷ []))
+planned_alone client command order number target are fits strategy picks made args d =
+    subst (λ ds. IsPlanned strategy client (command_call command order number) picks (Ok ds))
+    (one_in_order order (record { node = address made.to.node; args = sent command }) fits ∙ ap (λ as'. record { node = address made.to.node; args = as' } ∷ []) (sym args))
+    (command_planned command order number client strategy (part_to (sent command) target ∷ []) are fits picks (record { node = address made.to.node; args = sent command } ∷ []) d)

@@ -2,7 +2,7 @@
 use Rattle.std.specs.Prelude.{ℕ, List, Option, option_map}
 use Rattle.cluster_calls.specs.Calls.Call.{Call}
 use Rattle.cluster_calls.specs.Links.Orders.{command_call}
-use Rattle.cluster_client.specs.declared.client.CommandCall.{CommandCall}
+use Rattle.cluster_client.specs.declared.command_call.CommandCall.{CommandCall}
 
 -- the order in which its parts are sent, where one is given
 abbrev pub given_order : CommandCall → Option (List ℕ)

@@ -6,6 +6,7 @@ ghost use Rattle.resp_core.specs.View.{push_view, view};
 ghost use Rattle.resp_core.specs.declared.errors.redis_error.Cause.TheVariants.{Memory, RepeatedAddress};
 ghost use Rattle.resp_link.specs.Call.{Seen};
 ghost use Rattle.cluster_routing.specs.Choice.{strategy_of};
+ghost use Rattle.cluster_routing.specs.Directions.{direction as direction_of, shown_direction};
 ghost use Rattle.cluster_routing.specs.Info.{shown_split, texts};
 ghost use Rattle.cluster_routing.specs.Seen.{address, addresses};
 ghost use Rattle.cluster_routing.specs.SlotMap.{put_all};
@@ -29,14 +30,19 @@ ghost use Rattle.cluster_calls.specs.Links.Run.{with_log};
 ghost use Rattle.cluster_calls.specs.Links.World.{addresses_of, has_repeats, link_at, new_world, nodes, one_reply, tree_result, tree_results};
 
 mod at;
+mod directed;
 mod ordered;
 mod reading;
 mod relink;
 
-use cluster_routing::{ClusterTopology, NodeAddress, ReadRoutingStrategy, SlotMap, SplitParts};
+use crate::command_call::CommandCall;
+use cluster_routing::{
+    ClusterTopology, Direction, NodeAddress, ReadRoutingStrategy, SlotMap, SplitParts,
+};
 use cluster_steps::asked::{Asked, sent_again};
-use cluster_steps::dispatch::{Dispatch, Outset, Prepared, dispatches, one_dispatch};
+use cluster_steps::dispatch::{Dispatch, Outset, Prepared, dispatches};
 use cluster_steps::exchange::exchange_one;
+use cluster_steps::hop::first_hop;
 use cluster_steps::known_links::KnownLinks;
 use cluster_steps::node_links::NodeLinks;
 use cluster_steps::numbered_map::NumberedMap;
@@ -44,22 +50,14 @@ use cluster_steps::order::{fits_order, prepared_in_order};
 use cluster_steps::picker::Picker;
 use cluster_steps::ready::{Ready, make_all_ready, make_ready};
 use cluster_steps::reply::{needs_refresh, reply_of_parts};
-use cluster_steps::route::{Targets, push_split, targets_of, whole_part};
+use cluster_steps::request::Request;
+use cluster_steps::route::{Targets, push_split, targets_of};
 use cluster_steps::slots::{slot_map_in, slots_dispatch};
 use cluster_steps::turn::{Turn, turn_by};
 use resp_args::{Cmd, FromRedisValue, from_redis_value};
 use resp_core::{Cause, PushInfo, RedisError, Value};
 use resp_link::ConnectionLike;
 use std::alloc::{AllocError, Global};
-
-/// A command as it is sent: its parts in the order given, where one is, and where any node may serve
-/// it, to the one with this number.
-#[derive(Clone, Copy)]
-pub(crate) struct CommandCall<'a> {
-    pub command: &'a Cmd,
-    pub order: Option<&'a [usize]>,
-    pub number: u64,
-}
 
 /// Empties the log and the picks, as each call does first. It takes no memory.
 pub(crate) fn begin(alloc: Global, asked: &mut Vec<Asked>, picked: &mut Vec<NodeAddress>)
@@ -204,6 +202,7 @@ impl<L: ConnectionLike + Drop> ClusterClient<L> {
     {
         let call = CommandCall {
             command: cmd,
+            direction: None,
             order: None,
             number,
         };
@@ -214,7 +213,7 @@ impl<L: ConnectionLike + Drop> ClusterClient<L> {
     fn value_of<T: FromRedisValue>(
         &mut self,
         alloc: Global,
-        call: &CommandCall<'_>,
+        call: &CommandCall<'_, '_>,
         strategy: Option<&dyn ReadRoutingStrategy>,
     ) -> Result<T, RedisError>
         ensures happened { Happened (strategy_of admits strategy.entry) (whole L.seen self.old)
@@ -235,34 +234,24 @@ impl<L: ConnectionLike + Drop> ClusterClient<L> {
     pub(crate) fn reply_to(
         &mut self,
         alloc: Global,
-        call: &CommandCall<'_>,
+        call: &CommandCall<'_, '_>,
         strategy: Option<&dyn ReadRoutingStrategy>,
     ) -> Result<Value, RedisError>
         ensures { ReplyMade (strategy_of admits strategy.entry) (whole L.seen self.old)
             (whole L.seen self.new) (call_of call.now) (tree_result view result) }
     {
-        let reply = self.reply_with_picks(alloc, call, strategy);
+        let reply = match self.prepare(alloc, call, strategy) {
+            Ok(Outset::Whole(request)) => self.follow(alloc, request, 1),
+            Ok(Outset::InParts(Prepared { dispatches, split })) => {
+                match self.follow_all(alloc, dispatches) {
+                    Ok(replies) => reply_of_parts(alloc, split, replies),
+                    Err(e) => Err(e),
+                }
+            }
+            Err(e) => Err(e),
+        };
         self.unpick(&reply);
         reply
-    }
-
-    /// The same; its picks are shown also where memory was refused before a request was written down.
-    fn reply_with_picks(
-        &mut self,
-        alloc: Global,
-        call: &CommandCall<'_>,
-        strategy: Option<&dyn ReadRoutingStrategy>,
-    ) -> Result<Value, RedisError>
-        ensures { CommandEnded (strategy_of admits strategy.entry) (whole L.seen self.old)
-            (whole L.seen self.new) (call_of call.now) (value_answer (tree_result view result)) }
-    {
-        match self.prepare(alloc, call, strategy)? {
-            Outset::Whole(dispatch) => self.follow_whole(alloc, dispatch),
-            Outset::InParts(Prepared { dispatches, split }) => {
-                let replies = self.follow_all(alloc, dispatches)?;
-                reply_of_parts(alloc, split, replies)
-            }
-        }
     }
 
     /// Forgets the picks where memory was refused before a request was written down.
@@ -281,12 +270,27 @@ impl<L: ConnectionLike + Drop> ClusterClient<L> {
         }
     }
 
+    /// The direction of a command: that which is known, where no names only read.
+    fn direction_of(
+        &self,
+        alloc: Global,
+        call: &CommandCall<'_, '_>,
+    ) -> Result<Direction, AllocError>
+        ensures { IfOk result (λ d. shown_direction d
+            ≡ direction_of call.now.command.now.args (texts self.now.read_only.items)) }
+    {
+        match call.direction {
+            Some(direction) if self.read_only.is_empty() => direction.clone(),
+            _ => Direction::for_routable(alloc, call.command, &self.read_only),
+        }
+    }
+
     /// What is done for a command before its first byte: where it goes first, or its parts, where each of
     /// them goes first, and the order in which they are sent.
     fn prepare(
         &mut self,
         alloc: Global,
-        call: &CommandCall<'_>,
+        call: &CommandCall<'_, '_>,
         strategy: Option<&dyn ReadRoutingStrategy>,
     ) -> Result<Outset, RedisError>
         ensures stays { whole L.seen self.new
@@ -296,6 +300,8 @@ impl<L: ConnectionLike + Drop> ClusterClient<L> {
             (call_of call.now) (addresses self.new.picked.items) (set_out_by result) }
         ensures placed { IfOk result
             (λ o. AllByRecursion (IsPlaced (nodes L.seen self.new.links.nodes.items)) (dispatches_in o)) }
+        ensures room { IfOk result
+            (λ o. is_whole o ≡ true → vec_len self.new.asked + 1 ≤ vec_capacity self.new.asked) }
         ensures split { IfOk result (λ o. option_map shown_split (split_in o)
             ≡ option_map (routes_in_order (given_order call.now))
             (parts_by_place call.now.command.now.args (texts self.new.read_only.items))) }
@@ -303,14 +309,14 @@ impl<L: ConnectionLike + Drop> ClusterClient<L> {
             (λ o. is_whole o ≡ not (has_split_word call.now.command.now.args)) }
     {
         begin(alloc, &mut self.asked, &mut self.picked);
-        let targets = targets_of(alloc, call.command, &self.read_only, call.number)?;
+        let direction = self.direction_of(alloc, call)?;
+        let targets = targets_of(call.command, direction, call.number)?;
         match targets {
             Targets::Split(split) => {
                 let prepared = self.prepare_parts(alloc, call, split, strategy)?;
                 Ok(Outset::InParts(prepared))
             }
             Targets::Whole(target) => {
-                let part = whole_part(call.command, target)?;
                 if !fits_order(alloc, call.order, 1)? {
                     return Err(RedisError::from(Cause::BadOrder));
                 }
@@ -318,10 +324,14 @@ impl<L: ConnectionLike + Drop> ClusterClient<L> {
                     strategy,
                     picked: Vec::new(alloc),
                 };
-                let placed = one_dispatch(alloc, &self.links, &mut self.slots, part, &mut picker);
+                let hop = first_hop(alloc, &self.links, &mut self.slots, &target, &mut picker);
                 self.picked = picker.picked;
-                let dispatch = placed?;
-                Ok(Outset::Whole(dispatch))
+                let dispatch = Request {
+                    to: hop?,
+                    args: call.command.wire_args()?,
+                };
+                let request = make_ready(alloc, &mut self.asked, dispatch, 1)?;
+                Ok(Outset::Whole(request))
             }
         }
     }
@@ -330,7 +340,7 @@ impl<L: ConnectionLike + Drop> ClusterClient<L> {
     fn prepare_parts(
         &mut self,
         alloc: Global,
-        call: &CommandCall<'_>,
+        call: &CommandCall<'_, '_>,
         split: SplitParts,
         strategy: Option<&dyn ReadRoutingStrategy>,
     ) -> Result<Prepared, RedisError>
@@ -366,16 +376,6 @@ impl<L: ConnectionLike + Drop> ClusterClient<L> {
             split: Some(split),
         };
         Ok(prepared_in_order(alloc, prepared, call.order)?)
-    }
-
-    /// The reply to a command that goes out whole, behind its redirects.
-    fn follow_whole(&mut self, alloc: Global, dispatch: Dispatch) -> Result<Value, RedisError>
-        requires { IsPlaced (nodes L.seen self.old.links.nodes.items) dispatch }
-        ensures { PartsMade (whole L.seen self.old) (whole L.seen self.new) (dispatch_of dispatch ∷ [])
-            (one_reply (tree_result view result)) }
-    {
-        let request = make_ready(alloc, &mut self.asked, dispatch, 1)?;
-        self.follow(alloc, request, 1)
     }
 
     /// The replies to parts that are sent one after another, each behind its redirects, up to the first

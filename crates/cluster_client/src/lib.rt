@@ -2,6 +2,7 @@
 #![tactic(auto)]
 
 mod client;
+mod command_call;
 mod fan_out;
 mod pipeline;
 mod run;

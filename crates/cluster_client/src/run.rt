@@ -8,7 +8,8 @@ ghost use Rattle.cluster_calls.specs.Links.Play.{Plays, PlaysOne};
 ghost use Rattle.cluster_client.specs.Shown.{answer_result, call_in, shown};
 ghost use Rattle.cluster_client.specs.Whole.{whole};
 
-use crate::client::{ClusterClient, CommandCall};
+use crate::client::ClusterClient;
+use crate::command_call::CommandCall;
 use crate::pipeline::ClusterPipeline;
 use crate::streams::Claimant;
 use cluster_routing::{NodeAddress, ReadRoutingStrategy};
@@ -180,6 +181,7 @@ impl<L: PipelinedLink + Drop> ClusterClient<L> {
             Call::Ordered { cmd, order, number } => {
                 let call = CommandCall {
                     command: cmd,
+                    direction: None,
                     order: Some(order),
                     number: *number,
                 };
@@ -254,6 +256,7 @@ impl<L: PipelinedLink + Drop> ClusterClient<L> {
     {
         let call = CommandCall {
             command: cmd,
+            direction: None,
             order: None,
             number,
         };

@@ -21,7 +21,8 @@ ghost use Rattle.cluster_calls.specs.Links.Typed.{IsReadBy, StreamCallMade, dele
 ghost use Rattle.cluster_client.specs.Streams.{GoesOutAs, claimant_by, fields_by};
 ghost use Rattle.cluster_client.specs.Whole.{whole};
 
-use crate::client::{ClusterClient, CommandCall, begin};
+use crate::client::{ClusterClient, begin};
+use crate::command_call::CommandCall;
 use cluster_routing::ReadRoutingStrategy;
 use cluster_steps::read_checks::{Reading, reading_of};
 use resp_args::{Cmd, FromRedisValue, ToSingleRedisArg, from_redis_value};
@@ -307,6 +308,7 @@ impl<L: ConnectionLike + Drop> ClusterClient<L> {
             Ok(cmd) => {
                 let call = CommandCall {
                     command: &cmd,
+                    direction: None,
                     order: None,
                     number: 0,
                 };

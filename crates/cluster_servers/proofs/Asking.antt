@@ -1,5 +1,5 @@
 -- What the steps of a call come to: a query of one command, and a pipeline that was refused for memory.
-use Rattle.std.proofs.Common.{◌≡◌, ◌≢◌, false, List, [], Some, None, Result, Ok, Err, refl, sym, ap, subst, inl, inr}
+use Rattle.std.proofs.Common.{◌≡◌, ◌≢◌, [], Some, None, Result, Ok, Err, refl, sym, ap, subst, inl, inr}
 use Rattle.resp_core.specs.Errors.{Refusal, by_cause}
 use Rattle.resp_core.specs.Trees.{Tree}
 use Rattle.resp_core.specs.View.{view}

@@ -1,6 +1,6 @@
 -- The slots of a command's keys, by where its parts go.
 use Rattle.std.specs.Prelude.{filter_map}
-use Rattle.std.proofs.Common.{◌≡◌, ◌≢◌, ℕ, List, [], ◌∷◌, map, Option, Some, None, Result, Ok, Err, refl, ap}
+use Rattle.std.proofs.Common.{◌≡◌, ◌≢◌, List, [], ◌∷◌, map, Result, Ok, Err, refl}
 use Rattle.resp_core.specs.Errors.{Refusal, by_cause}
 use Rattle.resp_core.specs.declared.errors.redis_error.Cause.TheVariants.{NoRoute}
 use Rattle.cluster_routing.specs.Directions.{shown_direction}

@@ -66,7 +66,7 @@ fn ask_alone<L: ConnectionLike + Drop>(
 ) -> Outcome<Reply>
     ensures { IsAskedAlone patient (whole L.seen client.old) (whole L.seen client.new) command.now result }
 {
-    let told = client.query::<Value>(alloc, &command.command, 0, None);
+    let told = client.query_directed::<Value>(alloc, &command.directed(), 0, None);
     let fate = fate_alone(patient, client.asked(), &told);
     Outcome {
         fate,

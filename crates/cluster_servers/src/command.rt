@@ -6,9 +6,11 @@ ghost use Rattle.cluster_routing.specs.Directions.{shown_direction};
 ghost use Rattle.cluster_routing.specs.Directions as directions;
 ghost use Rattle.cluster_routing.specs.Info.{shown_parts};
 ghost use Rattle.cluster_steps.specs.CodeParts.{route_target};
+ghost use Rattle.cluster_client.specs.InParts.{IsDirected};
 ghost use Rattle.cluster_servers.specs.Slots.{slot_at, slots_of};
 ghost use Rattle.proxy_core.specs.Slots.{overlap};
 
+use cluster_client::Directed;
 use cluster_routing::{Direction, Route};
 use proxy_core::{Bytes, Command};
 use resp_args::Cmd;
@@ -58,6 +60,17 @@ impl GuestCommand {
         ensures { shown_direction result.now ≡ directions.direction self.now.command.args [] }
     {
         &self.direction
+    }
+
+    /// The command, lent with where it goes.
+    pub(crate) fn directed(&self) -> Directed<'_>
+        ensures command { result.command.now ≡ self.now.command }
+        ensures directed { IsDirected result }
+    {
+        Directed {
+            command: &self.command,
+            direction: &self.direction,
+        }
     }
 
     /// Whether it goes by its keys: to the node of their slot, or in parts to the nodes of several.

@@ -29,10 +29,7 @@ pub(crate) fn directed_of<'a>(
 {
     let mut all = Vec::with_capacity(alloc, batch.len())?;
     'batch: for asked in batch {
-        all.push(Directed {
-            command: asked.command.command(),
-            direction: asked.command.direction(),
-        })?;
+        all.push(asked.command.directed())?;
     }
     Ok(all)
 }
@@ -83,18 +80,12 @@ pub(crate) fn tell_all(
     }
 }
 
-fn is_redirect(fate: Fate) -> bool
-    ensures { result ≡ is_redirect fate }
-{
-    matches!(fate, Fate::Redirected)
-}
-
 /// Whether a node sent one of the commands on.
 pub(crate) fn some_redirected(outcomes: &[Outcome<Reply>]) -> bool
     ensures { result ≡ some_redirected outcomes.now }
 {
     'outcomes: for outcome in outcomes {
-        if is_redirect(outcome.fate) {
+        if matches!(outcome.fate, Fate::Redirected) {
             return true;
         }
     }

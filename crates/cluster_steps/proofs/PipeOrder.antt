@@ -8,9 +8,7 @@ use Rattle.resp_core.specs.Trees.{Tree}
 use Rattle.resp_args.specs.Packed.{sent}
 use Rattle.cluster_routing.specs.Lists.{among, concat, draw, firsts, group_by_group, IsDistinct, Pairwise}
 use Rattle.cluster_calls.specs.Links.Log.{Exchange}
-use Rattle.cluster_steps.specs.declared.drawn.Answered.{Answered as CodeAnswered}
-use Rattle.cluster_steps.specs.GroupRuns.{answered_at}
-use Rattle.cluster_steps.specs.Queues.{items_at, queued, no_queues}
+use Rattle.cluster_steps.specs.Queues.{queued, no_queues}
 use Rattle.cluster_calls.specs.Calls.Call.{Entry}
 use Rattle.cluster_calls.specs.Calls.Replies.{args_slot, in_pipeline_order, reply_or_nil, with_slot}
 use Rattle.cluster_steps.proofs.PipeGroups.{map_twice, all_both}
@@ -79,32 +77,12 @@ queued_length count queues (a ∷ answers) s h e =
     later false f false g k ih = absurd (false≢true (sym f ∙ k))
 
 -- where no place stands twice each answer is its place's queue
-queued_each : (queues : ℕ → List Tree) (answers : List (ℕ × List Tree)) → IsDistinct nat_eq (map (λ (a : ℕ × List Tree). a.0) answers) → map (λ (a : ℕ × List Tree). a.1) answers ≡ map (λ (a : ℕ × List Tree). queued queues answers a.0) answers
+pub queued_each : (queues : ℕ → List Tree) (answers : List (ℕ × List Tree)) → IsDistinct nat_eq (map (λ (a : ℕ × List Tree). a.0) answers) → map (λ (a : ℕ × List Tree). a.1) answers ≡ map (λ (a : ℕ × List Tree). queued queues answers a.0) answers
 queued_each queues [] d = refl
 queued_each queues (a ∷ answers) d =
     ap (λ ts. ts ∷ map (λ (a : ℕ × List Tree). a.1) answers)
     (sym (queued_none (λ n. cond (n == a.0) a.1 (queues n)) answers a.0 d.0 ∙ ap (λ b. cond b a.1 (queues a.0)) (eq-eqb a.0 a.0 refl)))
     ∙ ap (λ r. queued queues (a ∷ answers) a.0 ∷ r) (queued_each (λ n. cond (n == a.0) a.1 (queues n)) answers d.1)
-
--- values as their trees
-queued_view : {V : Type 0} (view : V → Tree) (queues : ℕ → List V) (trees : ℕ → List Tree) (answers : List (CodeAnswered V)) → ((k : ℕ) → map view (queues k) ≡ trees k)
-    → (k : ℕ) → map view (queued queues (map items_at answers) k) ≡ queued trees (map (answered_at view) answers) k
-queued_view view queues trees [] h k = h k
-queued_view {V} view queues trees (a ∷ answers) h k =
-    queued_view view (λ n. cond (n == a.link) a.items.items (queues n)) (λ n. cond (n == a.link) (map view a.items.items) (trees n)) answers (λ n. by n (n == a.link) (h n)) k
-  where
-    by : (n : ℕ) (b : Bool) → map view (queues n) ≡ trees n → map view (cond b a.items.items (queues n)) ≡ cond b (map view a.items.items) (trees n)
-    by n true e = refl
-    by n false e = e
-
-pub drawn_view : {V : Type 0} (view : V → Tree) (ks : List ℕ) (answers : List (CodeAnswered V)) → map view (draw ks (queued no_queues (map items_at answers))) ≡ draw ks (queued no_queues (map (answered_at view) answers))
-drawn_view view ks answers =
-    sym (draw-map view ks (queued no_queues (map items_at answers)))
-    ∙ drawn_same ks (λ s. map view (queued no_queues (map items_at answers) s)) (queued no_queues (map (answered_at view) answers)) (queued_view view no_queues no_queues answers (λ k. refl))
-
-pub replies_are : {V : Type 0} (view : V → Tree) (places ks : List ℕ) (answers : List (CodeAnswered V)) (replies : List V) → replies ≡ draw places (queued no_queues (map items_at answers)) → places ≡ ks
-    → map view replies ≡ draw ks (queued no_queues (map (answered_at view) answers))
-replies_are view places ks answers replies e same = ap (map view) e ∙ drawn_view view places answers ∙ ap (λ ns. draw ns (queued no_queues (map (answered_at view) answers))) same
 
 -- ---- each command with its reply
 

@@ -4,16 +4,9 @@ use Rattle.std.proofs.Common.{◌≡◌, ◌<◌, ℕ, zero, suc, ◌+◌, ◌==
 use Rattle.std.proofs.lemmas.Bool.{false≢true}
 use Rattle.std.proofs.lemmas.List.{nil_from_length}
 use Rattle.cluster_routing.specs.Lists.{draw, front, rest, without_front_of}
-use Rattle.cluster_steps.specs.Queues.{list_or_none, queue_in, queued}
+use Rattle.cluster_steps.specs.Queues.{list_or_none, queue_in}
 use Rattle.cluster_calls.proofs.Lists.{set_other}
 use Rattle.cluster_calls.proofs.ServerLaws.Draw.{drawn_same}
-
--- one more empty queue
-pub queue_pushed : {T : Type 0} (queues : List (List T)) → ((k : ℕ) → queue_in queues k ≡ []) → (k : ℕ) → queue_in (queues ++ [] ∷ []) k ≡ []
-queue_pushed [] h zero = refl
-queue_pushed [] h (suc k) = refl
-queue_pushed (q ∷ queues) h zero = h zero
-queue_pushed (q ∷ queues) h (suc k) = queue_pushed queues (λ j. h (suc j)) k
 
 set_here : {X : Type 0} (xs : List X) (n : ℕ) (a : X) → n < length xs → slice_get (slice_set xs n a) n ≡ Some a
 set_here [] n a h = absurd (let f : ⊥ = omega (arith, h) in f)
@@ -28,15 +21,14 @@ queue_set queues link queue within k = by (k == link) refl
     by true e = ap list_or_none (subst (λ n. slice_get (slice_set queues link queue) n ≡ Some queue) (sym (eqb-true k link e)) (set_here queues link queue within))
     by false e = ap list_or_none (set_other queues link k queue (λ f. false≢true (sym e ∙ eq-eqb k link (sym f))))
 
--- queues that are alike stay so
-pub queued_same : {T : Type 0} (f g : ℕ → List T) (answers : List (ℕ × List T)) → ((k : ℕ) → f k ≡ g k) → (k : ℕ) → queued f answers k ≡ queued g answers k
-queued_same f g [] h k = h k
-queued_same f g (a ∷ answers) h k = queued_same (λ n. cond (n == a.0) a.1 (f n)) (λ n. cond (n == a.0) a.1 (g n)) answers (λ n. ap (cond (n == a.0) a.1) (h n)) k
-
 -- what is left behind the front of a queue
 pub rest_popped : {T : Type 0} (xs : List T) (o : Option T) (ys : List T) (n m : ℕ) → xs ≡ option_to_list o ++ ys → n ≡ length xs → MatchOption o ((n ≡ 0) × (m ≡ 0)) (λ _. m + 1 ≡ n) → ys ≡ rest xs
 rest_popped xs None ys n m e len none = let nothing : xs ≡ [] = nil_from_length xs (sym len ∙ none.0) in sym e ∙ nothing ∙ sym (ap rest nothing)
 rest_popped xs (Some x) ys n m e len some = sym (ap rest e)
+
+pub front_popped : {T : Type 0} (xs : List T) (o : Option T) (ys : List T) (n m : ℕ) → xs ≡ option_to_list o ++ ys → n ≡ length xs → MatchOption o ((n ≡ 0) × (m ≡ 0)) (λ _. m + 1 ≡ n) → option_to_list o ≡ front xs
+front_popped xs None ys n m e len none = sym (ap front (nil_from_length xs (sym len ∙ none.0)))
+front_popped xs (Some x) ys n m e len some = sym (ap front e)
 
 -- the queues behind it
 pub queue_popped : {T : Type 0} (queues : List (List T)) (place : ℕ) (old new : List T) → place < length queues → slice_get queues place ≡ Some old → new ≡ rest old

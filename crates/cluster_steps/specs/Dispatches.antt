@@ -32,11 +32,6 @@ abbrev pub dispatches_of : Result (Vec CodeDispatch Global) Refusal → Result (
 dispatches_of (Ok ds) = Ok (map dispatch_of ds.items)
 dispatches_of (Err refusal) = Err refusal
 
--- the only dispatch, or why there is none
-abbrev pub one_dispatch : Result CodeDispatch Refusal → Result (List Dispatch) Refusal
-one_dispatch (Ok d) = Ok (dispatch_of d ∷ [])
-one_dispatch (Err refusal) = Err refusal
-
 -- the picks for the parts; without a strategy there are none
 abbrev pub ArePicksFor : Option Strategy → Client → List Part → List Address → Type 0
 ArePicksFor None client parts picks = picks ≡ []
@@ -58,16 +53,16 @@ pub record IsPlaced (all : List Node) (d : CodeDispatch) : Type 0 where
 
 -- what there is of it, as its dispatches
 abbrev pub dispatches_in : Outset → List CodeDispatch
-dispatches_in (Whole d) = d ∷ []
+dispatches_in (Whole r) = r.dispatch ∷ []
 dispatches_in (InParts p) = p.dispatches.items
 
 -- it goes out whole
 abbrev pub is_whole : Outset → Bool
-is_whole (Whole d) = true
+is_whole (Whole r) = true
 is_whole (InParts p) = false
 
 abbrev pub split_in : Outset → Option SplitParts
-split_in (Whole d) = None
+split_in (Whole r) = None
 split_in (InParts p) = p.split
 
 abbrev pub prepared_by : Result Prepared Refusal → Result (List Dispatch) Refusal

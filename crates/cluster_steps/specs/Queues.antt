@@ -3,10 +3,9 @@ use Rattle.std.specs.Prelude.{ℕ, ◌==◌, if◌then◌else◌, List, [], ◌�
 use Rattle.cluster_steps.specs.declared.drawn.Answered.{Answered as CodeAnswered}
 
 -- what came from a place
-abbrev pub items_at : {T : Type 0} → CodeAnswered T → ℕ × List T
-items_at a = (a.link, a.items.items)
+abbrev pub items_in : {T : Type 0} → CodeAnswered T → List T
+items_in a = a.items.items
 
--- the queue of a place
 abbrev pub list_or_none : {T : Type 0} → Option (List T) → List T
 list_or_none None = []
 list_or_none (Some xs) = xs

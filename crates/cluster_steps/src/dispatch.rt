@@ -4,7 +4,7 @@ ghost use Rattle.std.specs.List.{AllByRecursion};
 ghost use Rattle.resp_core.specs.Errors.{by_cause};
 ghost use Rattle.resp_core.specs.declared.errors.redis_error.Cause.TheVariants.{Memory};
 ghost use Rattle.cluster_calls.specs.Links.World.{Settings};
-ghost use Rattle.cluster_steps.specs.Dispatches.{AreDispatched, IsPlaced, client_with, dispatches_of, one_dispatch};
+ghost use Rattle.cluster_steps.specs.Dispatches.{AreDispatched, IsPlaced, client_with, dispatches_of};
 ghost use Rattle.cluster_steps.specs.FirstPlaces.{part_of};
 ghost use Rattle.cluster_steps.specs.Groups.{request_in};
 ghost use Rattle.cluster_steps.specs.Picker.{picked_by, strategy_in};
@@ -14,6 +14,7 @@ use crate::hop::{Hop, first_hop};
 use crate::node_links::NodeLinks;
 use crate::numbered_map::NumberedMap;
 use crate::picker::Picker;
+use crate::ready::Ready;
 use crate::request::Request;
 use crate::route::Part;
 use cluster_routing::{ReadRoutingStrategy, SplitParts};
@@ -23,18 +24,6 @@ use std::alloc::Global;
 /// A part's arguments, and the hop that they go by first.
 pub type Dispatch = Request<Hop>;
 
-/// The request that a dispatch is sent as.
-pub(crate) fn request_of(dispatch: Dispatch) -> Asked
-    ensures { result ≡ request_in dispatch }
-{
-    let Request { to, args } = dispatch;
-    Asked {
-        node: to.node,
-        args,
-        asking: to.asking,
-    }
-}
-
 /// What is there of a command before its first byte: where each of its parts goes first, and how the
 /// replies to the parts of a split command become one.
 #[derive(Drop)]
@@ -43,37 +32,12 @@ pub struct Prepared {
     pub split: Option<SplitParts>,
 }
 
-/// What there is of a command before its first byte: where it goes first as a whole, or what is prepared of its
+/// What there is of a command before its first byte: the request that it is as a whole, or what is prepared of its
 /// parts.
 #[derive(Drop)]
 pub enum Outset {
-    Whole(Dispatch),
+    Whole(Ready),
     InParts(Prepared),
-}
-
-/// A part with the hop that it goes by first. `picker` then has what the strategy answered.
-///
-/// # Errors
-/// `NoNode` and `NoLink` where no node serves it, or no usable link leads to its node; `Memory`.
-pub fn one_dispatch<K: NodeLinks>(
-    alloc: Global,
-    links: &K,
-    slots: &mut NumberedMap,
-    part: Part,
-    picker: &mut Picker<&dyn ReadRoutingStrategy>,
-) -> Result<Dispatch, RedisError>
-    requires { picked_by picker.old ≡ [] }
-    ensures stays { slots.new ≡ slots.old }
-    ensures dispatched { result ≢ Err (by_cause Memory) → (settings : Settings) → AreDispatched
-        (strategy_in admits picker.old) (client_with settings slots.old (K.nodes links.now))
-        (part_of part ∷ []) (picked_by picker.new) (one_dispatch result) }
-    ensures placed { IfOk result (λ d. IsPlaced (K.nodes links.now) d) }
-{
-    let hop = first_hop(alloc, links, slots, &part.to, picker)?;
-    Ok(Request {
-        to: hop,
-        args: part.args,
-    })
 }
 
 /// The parts with the hops that they go by first, in the order given. `picker` then has what the

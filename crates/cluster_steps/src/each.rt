@@ -19,24 +19,15 @@ pub fn link_cause(error: &RedisError) -> Cause
     error.cause().unwrap_or(Cause::Io)
 }
 
-/// A reply as an outcome: where it is itself an error, that.
-fn reply_outcome(reply: Value) -> Result<Value, RedisError>
-    ensures { tree_result view result ≡ reply_outcome (view reply) }
-{
-    match reply {
-        Value::ServerError(error) => Err(RedisError::from(error)),
-        reply => Ok(reply),
-    }
-}
-
-/// The next reply of a node, or why there is none.
+/// The next reply of a node as an outcome: where it is itself an error, that. Or why there is none.
 fn next_outcome(answer: &mut Result<VecDeque<Value>, Cause>) -> Result<Value, RedisError>
     ensures outcome { tree_result view result ≡ next_outcome (left_or_cause deque_items answer.old) }
     ensures rest { left_or_cause deque_items answer.new ≡ without_next (left_or_cause deque_items answer.old) }
 {
     match answer {
         Ok(replies) => match replies.pop_front() {
-            Some(reply) => reply_outcome(reply),
+            Some(Value::ServerError(error)) => Err(RedisError::from(error)),
+            Some(reply) => Ok(reply),
             None => Err(RedisError::from(Cause::Io)),
         },
         Err(cause) => Err(RedisError::from(*cause)),

@@ -3,14 +3,15 @@
 ghost use Rattle.std.specs.Prelude.{◌≡◌, ◌<◌, ◌≤◌, ◌+◌, ◌∷◌, [], length, vec_capacity, vec_len};
 ghost use Rattle.resp_core.specs.View.{view};
 ghost use Rattle.cluster_calls.specs.Links.Request.{skipped};
-ghost use Rattle.cluster_calls.specs.Links.World.{Called, CallsLink, one_reply, tree_result, tree_results};
+ghost use Rattle.cluster_calls.specs.Links.World.{one_reply, tree_result, tree_results};
 ghost use Rattle.cluster_calls.specs.Links.Exchanges.{Exchanges};
 ghost use Rattle.cluster_steps.specs.Groups.{request_in};
 
 use crate::asked::Asked;
-use crate::dispatch::request_of;
+use crate::hop::Hop;
 use crate::node_links::{NodeLinks, Wanted};
 use crate::ready::{NodeRequests, Ready};
+use crate::request::Request;
 use resp_core::{RedisError, Value};
 use std::alloc::Global;
 
@@ -60,32 +61,16 @@ pub fn exchange_one<K: NodeLinks>(
         (skipped ready.dispatch.to.asking) 1 (one_reply (tree_result view result)) }
 {
     let Ready { dispatch, bytes } = ready;
-    let link = dispatch.to.link;
-    let asking = dispatch.to.asking;
-    log.push(request_of(dispatch)).unwrap();
-    reply_to_one(alloc, links, link, &bytes, asking)
-}
-
-/// The reply to one request, which is the one behind that to ASKING where that was sent before it.
-fn reply_to_one<K: NodeLinks>(
-    alloc: Global,
-    links: &mut K,
-    link: usize,
-    bytes: &[u8],
-    asking: bool,
-) -> Result<Value, RedisError>
-    requires { link < length (K.nodes links.old) }
-    ensures call { CallsLink (K.nodes links.old) (K.nodes links.new) link
-        (λ before after. Called before after bytes.now (skipped asking) 1 (one_reply (tree_result view result))) }
-    ensures len { length (K.nodes links.new) ≡ length (K.nodes links.old) }
-{
+    let Request { to, args } = dispatch;
+    let Hop { node, link, asking } = to;
+    log.push(Asked { node, args, asking }).unwrap();
     if !asking {
-        return links.call_one(alloc, link, bytes);
+        return links.call_one(alloc, link, &bytes);
     }
     let wanted = Wanted {
         offset: 1,
         count: 1,
     };
-    let mut replies = links.call(alloc, link, bytes, wanted)?;
+    let mut replies = links.call(alloc, link, &bytes, wanted)?;
     Ok(replies.remove(0))
 }

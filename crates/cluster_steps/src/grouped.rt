@@ -6,9 +6,11 @@ ghost use Rattle.cluster_steps.specs.Groups.{AreNumbered, Puts, gathered_of, gro
 ghost use Rattle.cluster_steps.specs.Numbers.{HasPlace, found};
 
 use crate::asked::Asked;
-use crate::dispatch::{Dispatch, request_of};
+use crate::dispatch::Dispatch;
+use crate::hop::Hop;
 use crate::numbers::Numbers;
 use crate::ready::{NodeRequests, bytes_of};
+use crate::request::Request;
 use std::alloc::{AllocError, Global};
 
 /// The requests to one place, before they are packed.
@@ -25,17 +27,6 @@ pub struct NumberedGroups {
     pub groups: Vec<NodeRequests>,
     /// For each request, in order, the number of its group.
     pub numbers: Vec<usize>,
-}
-
-/// The places of the links that the commands go to.
-pub fn places_of(alloc: Global, dispatches: &[Dispatch]) -> Result<Vec<usize>, AllocError>
-    ensures { IfOk result (λ v. v.items ≡ map place_in dispatches.now) }
-{
-    let mut places = Vec::with_capacity(alloc, dispatches.len())?;
-    'dispatches: for dispatch in dispatches {
-        places.push(dispatch.to.link)?;
-    }
-    Ok(places)
 }
 
 /// The number of the group of a place, which is made where nothing goes there yet.
@@ -66,16 +57,6 @@ fn number_of(
             Ok(number)
         }
     }
-}
-
-/// Puts a request behind those of the group with this number.
-fn put(groups: &mut Vec<Gathered>, number: usize, request: Asked) -> Result<(), AllocError>
-    requires { number < vec_len groups.old }
-    ensures { OnOk result
-        (Puts (map gathered_of groups.old.items) (map gathered_of groups.new.items) number request) }
-{
-    groups[number].requests.push(request)?;
-    Ok(())
 }
 
 /// The groups with the bytes of each.
@@ -114,8 +95,12 @@ pub fn grouped(
     let mut gathered = Vec::new(alloc);
     let mut numbers = Vec::with_capacity(alloc, dispatches.len())?;
     'dispatches: for dispatch in dispatches {
-        let number = number_of(alloc, &mut table, &mut gathered, dispatch.to.link)?;
-        put(&mut gathered, number, request_of(dispatch))?;
+        let Request { to, args } = dispatch;
+        let Hop { node, link, asking } = to;
+        let number = number_of(alloc, &mut table, &mut gathered, link)?;
+        gathered[number]
+            .requests
+            .push(Asked { node, args, asking })?;
         numbers.push(number)?;
     }
     Ok(NumberedGroups {

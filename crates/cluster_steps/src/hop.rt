@@ -58,15 +58,6 @@ fn pick<'a>(
     slots.slot_addr_for_route(read, 0, strategy)
 }
 
-/// The primary of a route's slot.
-fn primary(slots: &SlotMap, route: Route) -> Option<&NodeAddress>
-    ensures { option_map (λ a. address a.now) result
-        ≡ option_map (λ n. n.primary) (nodes_at route.slot slots.now) }
-{
-    let write = Route::new(route.slot(), SlotAddr::Master);
-    slots.slot_addr_for_route(write, 0, None)
-}
-
 /// The node that serves a route: the one that the strategy picks, which is written down behind those
 /// that were picked before, else the primary.
 fn node_at_slot<'a>(
@@ -83,7 +74,8 @@ fn node_at_slot<'a>(
         picker.picked.push(node.clone()?)?;
         return Ok(node);
     }
-    match primary(slots, route) {
+    let write = Route::new(route.slot(), SlotAddr::Master);
+    match slots.slot_addr_for_route(write, 0, None) {
         None => Err(RedisError::from(Cause::NoNode)),
         Some(node) => Ok(node),
     }

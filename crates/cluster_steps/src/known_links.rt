@@ -5,7 +5,7 @@ ghost use Rattle.cluster_calls.specs.Links.World.{Node, nodes, place_at, has_rep
 ghost use Rattle.resp_link.specs.TwoCalls.{Receives, Sends};
 
 use crate::at_once::{received_over, sent_over};
-use crate::links::{Links, Told, called, called_one, replaced};
+use crate::links::{Links, Told, called, called_one, first_of, replaced};
 use crate::node_links::{NodeLinks, Wanted};
 use cluster_routing::NodeAddress;
 use resp_core::{RedisError, Value};
@@ -145,9 +145,10 @@ impl<L: ConnectionLike> NodeLinks for KnownLinks<L> {
 
     fn place_of(&self, node: &NodeAddress) -> Option<usize> {
         match self.links.told(node) {
+            Told::At(link) => Some(link),
             // The table has the address of each link: none leads to a node that it lacks.
             Told::Absent => None,
-            told => self.links.place_by(told, node),
+            Told::Nothing => first_of(&self.links.nodes, node),
         }
     }
 

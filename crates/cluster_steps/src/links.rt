@@ -6,7 +6,7 @@ ghost use Rattle.resp_core.specs.View.{view};
 ghost use Rattle.cluster_routing.specs.Address.{same_address};
 ghost use Rattle.cluster_routing.specs.Seen.{address, addresses};
 ghost use Rattle.cluster_calls.specs.Links.World.{nodes, place_at, has_repeats, addresses_of, CallsLink, Called, one_reply, tree_result, tree_results};
-ghost use Rattle.cluster_steps.specs.LinkTable.{knows_all, knows_links};
+ghost use Rattle.cluster_steps.specs.LinkTable.{knows_all, knows_links, told_place};
 ghost use Rattle.cluster_steps.specs.declared.links.Told.TheVariants.{Absent};
 ghost use Rattle.indexmap.specs.IndexSet.{insert_key};
 
@@ -34,10 +34,11 @@ pub struct Links<L> {
 /// What the table tells of a node.
 #[derive(Drop)]
 pub(crate) enum Told {
-    /// Nothing: there is no table.
+    /// Nothing: there is no table, or the node does not stand where it tells.
     Nothing,
     /// The table lacks the node.
     Absent,
+    /// The node stands at this place.
     At(usize),
 }
 
@@ -143,48 +144,30 @@ impl<L: ConnectionLike> Links<L> {
         ensures place { result ≡ place_at (nodes L.seen self.now.nodes.items) (address node.now) }
         ensures within { IfSome result (λ link. link < vec_len self.now.nodes) }
     {
-        self.place_by(self.told(node), node)
+        match self.told(node) {
+            Told::At(link) => Some(link),
+            _ => first_of(&self.nodes, node),
+        }
     }
 
-    /// What the table tells of a node. A node that it lacks has no place, where it has the address of each
-    /// link.
+    /// What the table tells of a node: its place, where it does stand there. A node that it lacks has no place,
+    /// where it has the address of each link.
     pub(crate) fn told(&self, node: &NodeAddress) -> Told
-        ensures { result ≡ Absent → knows_links self.now.places self.now.nodes.items ≡ true
+        ensures absent { result ≡ Absent → knows_links self.now.places self.now.nodes.items ≡ true
             → place_at (nodes L.seen self.now.nodes.items) (address node.now) ≡ None }
+        ensures place { IfSome (told_place result)
+            (λ link. place_at (nodes L.seen self.now.nodes.items) (address node.now) ≡ Some link) }
+        ensures within { IfSome (told_place result) (λ link. link < vec_len self.now.nodes) }
     {
-        match &self.places {
-            None => Told::Nothing,
-            Some(table) => match table.get_index_of(node) {
-                None => Told::Absent,
-                Some(link) => Told::At(link),
-            },
-        }
-    }
-
-    /// The place of a node, by what the table told, or else looked for.
-    pub(crate) fn place_by(&self, told: Told, node: &NodeAddress) -> Option<usize>
-        ensures place { result ≡ place_at (nodes L.seen self.now.nodes.items) (address node.now) }
-        ensures within { IfSome result (λ link. link < vec_len self.now.nodes) }
-    {
-        if let Told::At(link) = told {
-            if let Some(link) = self.told_place(link, node) {
-                return Some(link);
-            }
-        }
-        place_of(&self.nodes, node)
-    }
-
-    /// The place that the table told, where the node does stand there.
-    fn told_place(&self, index: usize, node: &NodeAddress) -> Option<usize>
-        ensures place { IfSome result
-            (λ index. place_at (nodes L.seen self.now.nodes.items) (address node.now) ≡ Some index) }
-        ensures within { IfSome result (λ index. index < vec_len self.now.nodes) }
-    {
-        let link = self.nodes.get(index)?;
-        if is_same(&link.0, node) {
-            Some(index)
-        } else {
-            None
+        let Some(table) = &self.places else {
+            return Told::Nothing;
+        };
+        let Some(index) = table.get_index_of(node) else {
+            return Told::Absent;
+        };
+        match self.nodes.get(index) {
+            Some(link) if link.0 == *node => Told::At(index),
+            _ => Told::Nothing,
         }
     }
 }
@@ -262,33 +245,22 @@ pub(crate) fn called_one<L: ConnectionLike>(
     link.req_packed_command(alloc, bytes)
 }
 
-fn is_same(one: &NodeAddress, other: &NodeAddress) -> bool
-    ensures { result ≡ same_address (address one.now) (address other.now) }
-{
-    one == other
-}
-
 /// The first place at which the address stands.
-fn first_of<L: ConnectionLike>(links: &[(NodeAddress, L)], node: &NodeAddress) -> Option<usize>
+pub(crate) fn first_of<L: ConnectionLike>(
+    links: &[(NodeAddress, L)],
+    node: &NodeAddress,
+) -> Option<usize>
     ensures first { result ≡ position (λ link. same_address (address link.0) (address node.now)) links.now }
     ensures within { IfSome result (λ index. index < length links.now) }
 {
-    links.iter().position(|link| is_same(&link.0, node))
-}
-
-/// The place of a node.
-fn place_of<L: ConnectionLike>(links: &[(NodeAddress, L)], node: &NodeAddress) -> Option<usize>
-    ensures place { result ≡ place_at (nodes L.seen links.now) (address node.now) }
-    ensures within { IfSome result (λ link. link < length links.now) }
-{
-    first_of(links, node)
+    links.iter().position(|link| link.0 == *node)
 }
 
 fn is_among<L: ConnectionLike>(links: &[(NodeAddress, L)], node: &NodeAddress) -> bool
     ensures { result ≡ list_any (λ known. same_address known (address node.now))
         (addresses_of (nodes L.seen links.now)) }
 {
-    place_of(links, node).is_some()
+    first_of(links, node).is_some()
 }
 
 /// Whether an address is given twice, by comparing each with all behind it. It takes no memory.

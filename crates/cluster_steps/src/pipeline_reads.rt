@@ -1,6 +1,5 @@
 //! Reads of streams among the commands of a pipeline.
-ghost use Rattle.std.specs.Prelude.{◌≡◌, ◌<◌, [], ◌∷◌, Some, codes, length, option_map, IfOk};
-ghost use Rattle.cluster_routing.specs.Command.{is_one_of};
+ghost use Rattle.std.specs.Prelude.{◌≡◌, ◌<◌, Some, length, option_map, IfOk};
 ghost use Rattle.cluster_routing.specs.Info.{lent, lent_texts};
 ghost use Rattle.cluster_routing.specs.Routing.{name_of};
 ghost use Rattle.cluster_calls.specs.Calls.Parts.{first_half, have_several_slots, is_read_name, keys_behind, reads_several_slots};
@@ -32,15 +31,9 @@ fn is_read(command: &Cmd) -> bool
     ensures { result ≡ is_read_name (name_of command.now.args) }
 {
     match command.arg_idx(0) {
-        Some(word) => is_xread(word),
+        Some(word) => b"XREAD".eq_ignore_ascii_case(word),
         None => false,
     }
-}
-
-fn is_xread(name: &[u8]) -> bool
-    ensures { result ≡ is_one_of (codes "XREAD" ∷ []) name.now }
-{
-    b"XREAD".eq_ignore_ascii_case(name)
 }
 
 /// Whether the keys behind the word at a place have several slots.

@@ -45,20 +45,13 @@ fn append_outgoing(bytes: &mut Vec<u8>, args: &[Vec<u8>], asking: bool) -> Resul
     pack_command_into(bytes, args)
 }
 
-/// Appends the bytes of a request.
-fn append_request(bytes: &mut Vec<u8>, request: &Asked) -> Result<(), AllocError>
-    ensures { OnOk result (bytes.new.items ≡ bytes.old.items ++ outgoing request.now) }
-{
-    append_outgoing(bytes, &request.args, request.asking)
-}
-
 /// The bytes of requests, one after another. Each is packed where it stands in the end.
 pub(crate) fn bytes_of(alloc: Global, requests: &[Asked]) -> Result<Vec<u8>, AllocError>
     ensures { IfOk result (λ v. v.items ≡ bytes_of requests.now) }
 {
     let mut bytes = Vec::new(alloc);
     for request in requests {
-        append_request(&mut bytes, request)?;
+        append_outgoing(&mut bytes, &request.args, request.asking)?;
     }
     Ok(bytes)
 }
@@ -77,13 +70,6 @@ fn outgoing_for(alloc: Global, args: &[Vec<u8>], asking: bool) -> Result<Vec<u8>
     pack_command(alloc, args)
 }
 
-fn packed(alloc: Global, dispatch: Dispatch) -> Result<Ready, AllocError>
-    ensures { IfOk result (λ r. r.dispatch ≡ dispatch) }
-{
-    let bytes = outgoing_for(alloc, &dispatch.args, dispatch.to.asking)?;
-    Ok(Ready { dispatch, bytes })
-}
-
 /// Makes one dispatch ready, with room in the log for so many requests.
 ///
 /// # Errors
@@ -99,7 +85,8 @@ pub fn make_ready(
     ensures dispatch { IfOk result (λ r. r.dispatch ≡ dispatch) }
 {
     log.reserve(room)?;
-    packed(alloc, dispatch)
+    let bytes = outgoing_for(alloc, &dispatch.args, dispatch.to.asking)?;
+    Ok(Ready { dispatch, bytes })
 }
 
 /// Makes all of these ready, with room in the log for a request of each.
@@ -118,7 +105,8 @@ pub fn make_all_ready(
     log.reserve(dispatches.len())?;
     let mut all = Vec::with_capacity(alloc, dispatches.len())?;
     'dispatches: for dispatch in dispatches {
-        all.push(packed(alloc, dispatch)?)?;
+        let bytes = outgoing_for(alloc, &dispatch.args, dispatch.to.asking)?;
+        all.push(Ready { dispatch, bytes })?;
     }
     Ok(all)
 }

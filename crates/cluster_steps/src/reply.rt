@@ -18,21 +18,14 @@ use cluster_routing::{SplitParts, combine_parts};
 use resp_core::{Cause, RedisError, ServerErrorKind, Value};
 use std::alloc::Global;
 
-/// Whether a reply is itself MOVED.
-pub fn is_moved(reply: &Value) -> bool
-    ensures { result ≡ is_moved_sort (sort_of (view reply.now)) }
-{
-    match reply {
-        Value::ServerError(e) => matches!(e.kind(), Some(ServerErrorKind::Moved)),
-        _ => false,
-    }
-}
-
-/// Whether a refresh is needed after this reply.
+/// Whether a refresh is needed after this reply: where it was needed before, or the reply is itself MOVED.
 pub fn needs_refresh(flag: bool, reply: &Value) -> bool
     ensures { result ≡ (flag || is_moved_sort (sort_of (view reply.now))) }
 {
-    flag || is_moved(reply)
+    match reply {
+        Value::ServerError(e) => flag || matches!(e.kind(), Some(ServerErrorKind::Moved)),
+        _ => flag,
+    }
 }
 
 /// The reply to a command from those of its parts, in the order of sending. `split` says how a split

@@ -1,9 +1,9 @@
 //! Where a command goes, and its parts as they stand on the wire.
-ghost use Rattle.std.specs.Prelude.{◌≡◌, ◌≢◌, ◌++◌, Err, is_some, map, option_map, false, IfOk};
+ghost use Rattle.std.specs.Prelude.{◌≡◌, ◌≢◌, ◌++◌, Err, is_some, map, option_map, false, ℕ, List, IfOk};
 ghost use Rattle.resp_core.specs.Errors.{by_cause};
 ghost use Rattle.resp_core.specs.declared.errors.redis_error.Cause.TheVariants.{Memory};
 ghost use Rattle.resp_args.specs.Packed.{sent};
-ghost use Rattle.cluster_routing.specs.Directions.{parts_in, shown_direction};
+ghost use Rattle.cluster_routing.specs.Directions.{direction as direction_of, parts_in, shown_direction};
 ghost use Rattle.cluster_routing.specs.Info.{shown_parts, shown_routed, shown_split, texts};
 ghost use Rattle.cluster_routing.specs.Split.{IsOwnSplitting, has_split_word, parts_by_place};
 ghost use Rattle.cluster_calls.specs.Calls.Parts.{part_to, parts_of};
@@ -37,39 +37,29 @@ pub enum Targets {
     Split(SplitParts),
 }
 
-/// Where the parts of a command are to go, by one look into the routing table. No argument is copied.
+/// Where the parts of a command are to go that goes this way. No argument is copied.
 ///
 /// # Errors
 /// `NoResponse` for a command that waits for none; for one whose word is split by its keys,
 /// `CursorInSplit` where an argument is a gap, and `BrokenTuples` where its last tuple is broken or
-/// it has none; `NoRoute` for one that goes nowhere or to several nodes by the routing table;
-/// `Memory`.
-pub fn targets_of(
-    alloc: Global,
-    cmd: &Cmd,
-    read_only: &[Vec<u8>],
-    number: u64,
-) -> Result<Targets, RedisError>
-    ensures targets { result ≢ Err (by_cause Memory)
-        → targets_by result ≡ part_targets (parts_of (texts read_only.now) cmd.now number) }
-    ensures split { IfOk result
-        (λ t. option_map shown_split (split_in t) ≡ parts_by_place cmd.now.args (texts read_only.now)) }
-    ensures word { IfOk result (λ t. is_some (split_in t) ≡ has_split_word cmd.now.args) }
+/// it has none; `NoRoute` for one that goes nowhere or to several nodes by the routing table.
+pub fn targets_of(cmd: &Cmd, direction: Direction, number: u64) -> Result<Targets, RedisError>
+    ensures targets { (read_only : List (List ℕ)) → shown_direction direction ≡ direction_of cmd.now.args read_only
+        → targets_by result ≡ part_targets (parts_of read_only cmd.now number) }
+    ensures split { (read_only : List (List ℕ)) → shown_direction direction ≡ direction_of cmd.now.args read_only
+        → IfOk result (λ t. option_map shown_split (split_in t) ≡ parts_by_place cmd.now.args read_only) }
+    ensures word { (read_only : List (List ℕ)) → shown_direction direction ≡ direction_of cmd.now.args read_only
+        → IfOk result (λ t. is_some (split_in t) ≡ has_split_word cmd.now.args) }
     ensures response { IfOk result (λ _. cmd.now.no_response ≡ false) }
 {
     if cmd.is_no_response() {
         return Err(RedisError::from(Cause::NoResponse));
     }
-    let direction = Direction::for_routable(alloc, cmd, read_only)?;
-    let targets = targets_by(direction, number)?;
-    Ok(targets)
+    targets_by(direction, number)
 }
 
-/// Where the parts of a command are to go that goes this way.
-///
-/// # Errors
-/// Why it goes nowhere; `NoRoute` where it goes to several nodes by the routing table.
-pub fn targets_by(direction: Direction, number: u64) -> Result<Targets, RedisError>
+/// The same of a command that waits for a response.
+fn targets_by(direction: Direction, number: u64) -> Result<Targets, RedisError>
     ensures targets { targets_by result ≡ targets_in_direction number (shown_direction direction) }
     ensures split { IfOk result
         (λ t. option_map shown_split (split_in t) ≡ parts_in (shown_direction direction)) }

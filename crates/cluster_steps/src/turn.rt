@@ -147,16 +147,8 @@ pub fn turn_by<K: NodeLinks>(
     ensures error { IfErr result (λ e. is_data (sort_of (view reply)) ≡ false) }
 {
     match next_place(alloc, links, redirects, &reply)? {
-        Onward::Stay => answer(reply),
+        Onward::Stay => Ok(Turn::Answered(reply.extract_error()?)),
         Onward::Lost => Err(RedisError::from(Cause::NoLink)),
         Onward::Go(hop) => Ok(Turn::On(hop)),
     }
-}
-
-fn answer(reply: Value) -> Result<Turn, RedisError>
-    ensures turns { result ≢ Err (by_cause Memory) → TurnsBy Stays (view reply) result }
-    ensures only { IfOk result (λ turn. turns_on turn ≡ false) }
-    ensures error { IfErr result (λ e. is_data (sort_of (view reply)) ≡ false) }
-{
-    Ok(Turn::Answered(reply.extract_error()?))
 }

@@ -23,7 +23,7 @@ use Rattle.proxy_connection.specs.declared.progress.Progress.{Progress}
 use Rattle.proxy_connection.specs.declared.progress.Progress.TheVariants.{Taken, Short, Full, Ended, NoGuest}
 use Rattle.proxy_connection.specs.History.{History, came, then, written_more}
 use Rattle.proxy_connection.specs.Moves.{Advances, Rests}
-use Rattle.proxy_connection.specs.Serving.{AlwaysStays, Serves, Goes, AreAnswered, IsInTime, and_heard, and_unput, is_nothing, rest_of}
+use Rattle.proxy_connection.specs.Serving.{AlwaysStays, Serves, Goes, AreAnswered, IsInTime, and_heard, and_unput, rest_of}
 use Rattle.proxy_connection.specs.Ways.{Ways, Understands}
 
 -- ---- words
@@ -104,12 +104,6 @@ read_first r commands p bytes s =
     (heard.0 ++ first.0, first.1 ∙ ap (λ (cs : List Command). cs ++ first.0) heard.1 ∙ append_assoc commands heard.0 first.0)
 
 -- ---- what is pending
-
-pub nothing_is : {C V : Type 0} (p : Pending C V) → is_nothing p ≡ true → p ≡ pendings.Nothing
-nothing_is pendings.Nothing e = refl
-nothing_is (pendings.Words words) e = absurd (let no : ⊥ = cc in no)
-nothing_is (pendings.Fault f) e = absurd (let no : ⊥ = cc in no)
-nothing_is (pendings.Entry d) e = absurd (let no : ⊥ = cc in no)
 
 module _ {T C V : Type 0} (w : Ways T C V) where
   -- where nothing was refused, the fault does not count
@@ -255,12 +249,3 @@ module _ {T C V : Type 0} (w : Ways T C V) where
     rests_advances Taken r k e = absurd r
     rests_advances Full r k e = absurd r
     rests_advances NoGuest r k e = absurd r
-
-    -- a step before by which nothing was seen
-    pub advances_behind : (first : Connection T C V) (p : Progress) → AlwaysStays w first old
-        → Advances w command reply share is_there g old new qs qs' p → Advances w command reply share is_there g first new qs qs' p
-    advances_behind first Taken k a = (a.0, a.1, λ h s. a.2 h (k (queue_at qs g) h s))
-    advances_behind first Short k a = ((a.0.0, λ h s. a.0.1 h (k (queue_at qs g) h s)), λ h s. a.1 h (k (queue_at qs g) h s))
-    advances_behind first Full k a = ((a.0.0, λ h s. a.0.1 h (k (queue_at qs g) h s)), a.1, a.2, a.3)
-    advances_behind first Ended k a = ((a.0.0, λ h s. a.0.1 h (k (queue_at qs g) h s)), a.1, a.2)
-    advances_behind first NoGuest k a = ((a.0.0, λ h s. a.0.1 h (k (queue_at qs g) h s)), a.1)

@@ -115,8 +115,23 @@ impl<T: Translator<C, V>, C: Command, V: Written> Connection<T, C, V> {
             return Ok(progress);
         }
         self.understand(alloc)?;
-        let progress = self.put(proxy)?;
-        Ok(progress)
+        match mem::replace(&mut self.pending, Pending::Nothing) {
+            Pending::Entry(entry) => match proxy.put(self.guest, entry) {
+                Ok(()) => Ok(Progress::Taken),
+                Err(refused) => {
+                    self.pending = Pending::Entry(refused.value);
+                    match refused.why {
+                        Refusal::NoGuest => Ok(Progress::NoGuest),
+                        Refusal::Full => Ok(Progress::Full),
+                        Refusal::NoMemory => Err(AllocError),
+                    }
+                }
+            },
+            other => {
+                self.pending = other;
+                Ok(Progress::Short)
+            }
+        }
     }
 
     /// Reads the words of the next command, where nothing is pending; or why there are none.
@@ -129,7 +144,7 @@ impl<T: Translator<C, V>, C: Command, V: Written> Connection<T, C, V> {
             C.bytes V.bytes self.new) }
         ensures guest { self.new.guest ≡ self.old.guest }
     {
-        if !self.pending.is_nothing() {
+        if !matches!(self.pending, Pending::Nothing) {
             return Ok(None);
         }
         if self.is_refused || self.translator.has_ended() {
@@ -169,38 +184,6 @@ impl<T: Translator<C, V>, C: Command, V: Written> Connection<T, C, V> {
         };
         self.pending = Pending::Entry(entry);
         Ok(())
-    }
-
-    /// Puts the entry that is pending into the guest's queue.
-    fn put(&mut self, proxy: &mut Proxy<C, V>) -> Result<Progress, AllocError>
-        requires { HoldsEntry self.old.pending }
-        ensures ok { IfOk result (λ progress. AdvancesIn (ways C.overlaps V.written T.Translator) C.bytes V.bytes
-            self.old self.new proxy.old proxy.new progress) }
-        ensures err { OnErr result (Keeps (ways C.overlaps V.written T.Translator)
-            self.old.guest self.old self.new proxy.old.queues proxy.new.queues) }
-        ensures due { OnErr result (IsUnderWayIn (ways C.overlaps V.written T.Translator) C.bytes V.bytes
-            self.old self.new proxy.old) }
-        ensures guest { self.new.guest ≡ self.old.guest }
-        ensures openings { proxy.new.openings ≡ proxy.old.openings }
-        ensures limits { proxy.new.limits ≡ proxy.old.limits }
-    {
-        match mem::replace(&mut self.pending, Pending::Nothing) {
-            Pending::Entry(entry) => match proxy.put(self.guest, entry) {
-                Ok(()) => Ok(Progress::Taken),
-                Err(refused) => {
-                    self.pending = Pending::Entry(refused.value);
-                    match refused.why {
-                        Refusal::NoGuest => Ok(Progress::NoGuest),
-                        Refusal::Full => Ok(Progress::Full),
-                        Refusal::NoMemory => Err(AllocError),
-                    }
-                }
-            },
-            other => {
-                self.pending = other;
-                Ok(Progress::Short)
-            }
-        }
     }
 
     /// Looks for bytes to write: those that are left of the reply that is going out, or, where none are, those of
@@ -260,7 +243,7 @@ impl<T: Translator<C, V>, C: Command, V: Written> Connection<T, C, V> {
             (queue_at proxy.now.queues self.now.guest) }
     {
         (self.is_refused || self.translator.has_ended())
-            && self.pending.is_nothing()
+            && matches!(self.pending, Pending::Nothing)
             && proxy.held(self.guest) == 0
             && self.output().is_empty()
     }

@@ -1,7 +1,4 @@
 //! What stands between a guest's bytes and its queue.
-ghost use Rattle.std.specs.Prelude.{◌≡◌};
-ghost use Rattle.proxy_connection.specs.Serving.{is_nothing};
-
 use proxy_core::Entry;
 use resp_requests::Fault;
 
@@ -15,12 +12,4 @@ pub(crate) enum Pending<C, V> {
     Fault(Fault),
     /// What the words mean, or the answer to a fault.
     Entry(Entry<C, V>),
-}
-
-impl<C, V> Pending<C, V> {
-    pub(crate) fn is_nothing(&self) -> bool
-        ensures { result ≡ is_nothing self.now }
-    {
-        matches!(self, Pending::Nothing)
-    }
 }

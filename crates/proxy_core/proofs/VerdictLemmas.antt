@@ -41,9 +41,6 @@ module _ {C V : Type 0} (overlaps : C → C → Bool) where
   reads_here : (es : List (Entry C V)) (i : ℕ) (x : Entry C V) (v : V) → i < length es → x ≡ get_or es i x → x ≡ Reads v → drop i es ≡ Reads v ∷ drop (i + 1) es
   reads_here es i x v h e k = drop_read es i x h e ∙ ap (λ y. y ∷ drop (i + 1) es) k
 
-  waits_here : (es : List (Entry C V)) (i : ℕ) (x : Entry C V) (d : C) → i < length es → x ≡ get_or es i x → x ≡ Waits d → drop i es ≡ Waits d ∷ drop (i + 1) es
-  waits_here es i x d h e k = drop_read es i x h e ∙ ap (λ y. y ∷ drop (i + 1) es) k
-
   module _ (slots : C → List ℕ) where
     -- the commands from the place i on, of which the first that waits has the outcome at `next`: those that were done, and the verdicts
     pub record Behind (es : List (Entry C V)) (os : List (Outcome V)) (i next : ℕ) (done : Done) (told : List Bool) : Type 0 where
@@ -78,21 +75,24 @@ module _ {C V : Type 0} (overlaps : C → C → Bool) where
     behind_has es os i j next done told x d s h e k b =
         b.next_is ∙ ap (λ n. length (waiting (take n es))) s ∙ waits_one es i x d h e k
 
+    -- what stands at its place and behind it, and the place of its outcome
+    waits_at : (es : List (Entry C V)) (i j next now : ℕ) (x : Entry C V) (d : C) → j ≡ i + 1 → i < length es → x ≡ get_or es i x → x ≡ Waits d → now + 1 ≡ next → next ≡ length (waiting (take i es)) + 1
+        → (drop i es ≡ Waits d ∷ drop (i + 1) es) × (drop j es ≡ drop (i + 1) es) × (now ≡ length (waiting (take i es)))
+    waits_at es i j next now x d s h e k m had = (drop_read es i x h e ∙ ap (λ y. y ∷ drop (i + 1) es) k, ap (λ n. drop n es) s, omega arith)
+
     pub behind_none : (es : List (Entry C V)) (os : List (Outcome V)) (i j next now : ℕ) (done : Done) (told : List Bool) (x : Entry C V) (d : C)
         → j ≡ i + 1 → i < length es → x ≡ get_or es i x → x ≡ Waits d → now + 1 ≡ next → length os ≤ now
         → Behind es os j next done told → Behind es os i now done told
     behind_none es os i j next now done told x d s h e k m past b =
-        let here = waits_here es i x d h e k in
-        let from : drop j es ≡ drop (i + 1) es = ap (λ n. drop n es) s in
-        let had = behind_has es os i j next done told x d s h e k b in
+        let at = waits_at es i j next now x d s h e k m (behind_has es os i j next done told x d s h e k b) in
         let before : drop next os ≡ [] = drop_all next os (omega arith) in
         let after : drop now os ≡ [] = drop_all now os (omega arith) in
         record {
-          next_is = omega arith;
+          next_is = at.2;
           done_are = λ c. b.done_are c ∙ ap (λ ys. overtaken overlaps c (drop j es) ys) before ∙ overtaken_none overlaps c (drop j es)
-              ∙ sym (ap (λ xs. overtaken overlaps c xs (drop now os)) here ∙ ap (λ ys. overtaken overlaps c (Waits d ∷ drop (i + 1) es) ys) after);
-          told_are = b.told_are ∙ ap (λ xs. verdicts overlaps xs (drop next os)) from ∙ ap (λ ys. verdicts overlaps (drop (i + 1) es) ys) before
-              ∙ sym (ap (λ xs. verdicts overlaps xs (drop now os)) here ∙ ap (λ ys. verdicts overlaps (Waits d ∷ drop (i + 1) es) ys) after);
+              ∙ sym (ap (λ xs. overtaken overlaps c xs (drop now os)) at.0 ∙ ap (λ ys. overtaken overlaps c (Waits d ∷ drop (i + 1) es) ys) after);
+          told_are = b.told_are ∙ ap (λ xs. verdicts overlaps xs (drop next os)) at.1 ∙ ap (λ ys. verdicts overlaps (drop (i + 1) es) ys) before
+              ∙ sym (ap (λ xs. verdicts overlaps xs (drop now os)) at.0 ∙ ap (λ ys. verdicts overlaps (Waits d ∷ drop (i + 1) es) ys) after);
         }
 
     outcome_here : (os : List (Outcome V)) (next now : ℕ) (o : Outcome V) → now + 1 ≡ next → now < length os → o ≡ get_or os now o → drop now os ≡ o ∷ drop next os
@@ -105,17 +105,15 @@ module _ {C V : Type 0} (overlaps : C → C → Bool) where
         → ((ss : List ℕ) → overtakes more ss ≡ (overlap ss (slots d) || overtakes done ss))
         → Behind es os j next done told → Behind es os i now more told
     behind_done law es os i j next now done more told x d o s h e k m inside r was adds b =
-        let here = waits_here es i x d h e k in
-        let from : drop j es ≡ drop (i + 1) es = ap (λ n. drop n es) s in
-        let had = behind_has es os i j next done told x d s h e k b in
+        let at = waits_at es i j next now x d s h e k m (behind_has es os i j next done told x d s h e k b) in
         let first = outcome_here os next now o m inside r in
         record {
-          next_is = omega arith;
-          done_are = λ c. adds (slots c) ∙ ap (λ p. p || overtakes done (slots c)) (sym (law c d)) ∙ ap (λ q. overlaps c d || q) (b.done_are c ∙ ap (λ xs. overtaken overlaps c xs (drop next os)) from)
-              ∙ sym (ap (λ xs. overtaken overlaps c xs (drop now os)) here ∙ ap (λ ys. overtaken overlaps c (Waits d ∷ drop (i + 1) es) ys) first
+          next_is = at.2;
+          done_are = λ c. adds (slots c) ∙ ap (λ p. p || overtakes done (slots c)) (sym (law c d)) ∙ ap (λ q. overlaps c d || q) (b.done_are c ∙ ap (λ xs. overtaken overlaps c xs (drop next os)) at.1)
+              ∙ sym (ap (λ xs. overtaken overlaps c xs (drop now os)) at.0 ∙ ap (λ ys. overtaken overlaps c (Waits d ∷ drop (i + 1) es) ys) first
               ∙ ap (λ p. (p && overlaps c d) || overtaken overlaps c (drop (i + 1) es) (drop next os)) was);
-          told_are = b.told_are ∙ ap (λ xs. verdicts overlaps xs (drop next os)) from
-              ∙ sym (ap (λ xs. verdicts overlaps xs (drop now os)) here ∙ ap (λ ys. verdicts overlaps (Waits d ∷ drop (i + 1) es) ys) first
+          told_are = b.told_are ∙ ap (λ xs. verdicts overlaps xs (drop next os)) at.1
+              ∙ sym (ap (λ xs. verdicts overlaps xs (drop now os)) at.0 ∙ ap (λ ys. verdicts overlaps (Waits d ∷ drop (i + 1) es) ys) first
               ∙ ap (λ p. cond p (verdicts overlaps (drop (i + 1) es) (drop next os)) (verdicts overlaps (drop (i + 1) es) (drop next os) ++ overtaken overlaps d (drop (i + 1) es) (drop next os) ∷ [])) was);
         }
 
@@ -125,18 +123,16 @@ module _ {C V : Type 0} (overlaps : C → C → Bool) where
         → verdict ≡ overtakes done (slots d)
         → Behind es os j next done told → Behind es os i now done (told ++ verdict ∷ [])
     behind_undone es os i j next now done told x d o verdict s h e k m inside r kept is b =
-        let here = waits_here es i x d h e k in
-        let from : drop j es ≡ drop (i + 1) es = ap (λ n. drop n es) s in
-        let had = behind_has es os i j next done told x d s h e k b in
+        let at = waits_at es i j next now x d s h e k m (behind_has es os i j next done told x d s h e k b) in
         let first = outcome_here os next now o m inside r in
         record {
-          next_is = omega arith;
-          done_are = λ c. b.done_are c ∙ ap (λ xs. overtaken overlaps c xs (drop next os)) from
-              ∙ sym (ap (λ xs. overtaken overlaps c xs (drop now os)) here ∙ ap (λ ys. overtaken overlaps c (Waits d ∷ drop (i + 1) es) ys) first
+          next_is = at.2;
+          done_are = λ c. b.done_are c ∙ ap (λ xs. overtaken overlaps c xs (drop next os)) at.1
+              ∙ sym (ap (λ xs. overtaken overlaps c xs (drop now os)) at.0 ∙ ap (λ ys. overtaken overlaps c (Waits d ∷ drop (i + 1) es) ys) first
               ∙ ap (λ p. (p && overlaps c d) || overtaken overlaps c (drop (i + 1) es) (drop next os)) kept);
-          told_are = ap (λ v. told ++ v ∷ []) (is ∙ b.done_are d ∙ ap (λ xs. overtaken overlaps d xs (drop next os)) from)
-              ∙ ap (λ vs. vs ++ overtaken overlaps d (drop (i + 1) es) (drop next os) ∷ []) (b.told_are ∙ ap (λ xs. verdicts overlaps xs (drop next os)) from)
-              ∙ sym (ap (λ xs. verdicts overlaps xs (drop now os)) here ∙ ap (λ ys. verdicts overlaps (Waits d ∷ drop (i + 1) es) ys) first
+          told_are = ap (λ v. told ++ v ∷ []) (is ∙ b.done_are d ∙ ap (λ xs. overtaken overlaps d xs (drop next os)) at.1)
+              ∙ ap (λ vs. vs ++ overtaken overlaps d (drop (i + 1) es) (drop next os) ∷ []) (b.told_are ∙ ap (λ xs. verdicts overlaps xs (drop next os)) at.1)
+              ∙ sym (ap (λ xs. verdicts overlaps xs (drop now os)) at.0 ∙ ap (λ ys. verdicts overlaps (Waits d ∷ drop (i + 1) es) ys) first
               ∙ ap (λ p. cond p (verdicts overlaps (drop (i + 1) es) (drop next os)) (verdicts overlaps (drop (i + 1) es) (drop next os) ++ overtaken overlaps d (drop (i + 1) es) (drop next os) ∷ [])) kept);
         }
 

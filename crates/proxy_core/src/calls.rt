@@ -7,7 +7,7 @@ ghost use Rattle.proxy_core.specs.Queue.{first_reply};
 
 use crate::command::{Bytes, Command};
 use crate::guest_queue::GuestQueue;
-use crate::guests::{ask_waiting, free_number, put_in, renew, settle_all, take_from};
+use crate::guests::{ask_waiting, free_number, renew, settle_all};
 use crate::limits::Limits;
 use crate::proxy::Proxy;
 use crate::queue::Entry;
@@ -70,16 +70,6 @@ impl<C: Command, V: Bytes> Proxy<C, V> {
         Ok(())
     }
 
-    /// Whether a guest is there.
-    fn is_open(&self, guest: usize) -> bool
-        ensures is_there { result ≡ is_open_at self.now.openings guest }
-    {
-        if self.guests.len() <= guest {
-            return false;
-        }
-        self.guests[guest].open
-    }
-
     /// How many entries the proxy holds of a guest: commands that wait, and replies that it did not take.
     pub fn held(&self, guest: usize) -> usize
         ensures { result ≡ length (queue_at self.now.queues guest) }
@@ -109,13 +99,13 @@ impl<C: Command, V: Bytes> Proxy<C, V> {
         ensures openings { self.new.openings ≡ self.old.openings }
         ensures limits { self.new.limits ≡ self.old.limits }
     {
-        if !self.is_open(guest) || self.guests.len() <= guest {
+        if self.guests.len() <= guest || !self.guests[guest].open {
             return Err(Refused {
                 why: Refusal::NoGuest,
                 value: entry,
             });
         }
-        put_in(&mut self.guests, guest, self.limits.share, entry)
+        self.guests[guest].put(self.limits.share, entry)
     }
 
     /// Hands a guest its next reply: none where its first command waits.
@@ -129,7 +119,7 @@ impl<C: Command, V: Bytes> Proxy<C, V> {
         if self.guests.len() <= guest {
             return None;
         }
-        take_from(&mut self.guests, guest)
+        self.guests[guest].take()
     }
 
     /// Ends a guest, and drops what the proxy holds of it: its commands are not asked any more, and its

@@ -7,7 +7,7 @@ ghost use Rattle.proxy_core.specs.Queue.{first_reply, settled, waiting};
 use crate::command::{Bytes, Command};
 use crate::limits::Room;
 use crate::outcome::Outcome;
-use crate::queue::{Entry, settle, take_first};
+use crate::queue::{Entry, settle};
 use crate::refusal::{Refusal, Refused};
 use std::alloc::AllocFailed;
 use std::collections::VecDeque;
@@ -89,9 +89,17 @@ impl<C: Bytes, V: Bytes> GuestQueue<C, V> {
         ensures counted { IsCounted C.bytes V.bytes self.new }
         ensures still_open { self.new.open ≡ self.old.open }
     {
-        let reply = take_first(&mut self.entries)?;
-        self.bytes = self.bytes.saturating_sub(reply.bytes() as u128);
-        Some(reply)
+        match self.entries.pop_front() {
+            Some(Entry::Reads(reply)) => {
+                self.bytes = self.bytes.saturating_sub(reply.bytes() as u128);
+                Some(reply)
+            }
+            Some(Entry::Waits(command)) => {
+                self.entries.push_front_reserved(Entry::Waits(command));
+                None
+            }
+            None => None,
+        }
     }
 }
 

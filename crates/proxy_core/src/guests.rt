@@ -1,17 +1,12 @@
 //! The guests of a proxy, by their numbers, and what a turn does to all of them.
-ghost use Rattle.std.specs.Prelude.{◌≡◌, ◌≢◌, ◌≤◌, ◌<◌, ◌++◌, ◌∷◌, ℕ, [], ◌⊎◌, true, length, drop, vec_len, slice_set, IfErr, IfOk, MatchOption, OnErr, OnOk};
+ghost use Rattle.std.specs.Prelude.{◌≡◌, ◌≤◌, ◌<◌, [], ◌⊎◌, length, vec_len, slice_set, IfOk, OnErr};
 ghost use Rattle.std.specs.List.{AllByRecursion};
 ghost use Rattle.proxy_core.specs.Batch.{all_settled, batch_from, batch_of};
-ghost use Rattle.proxy_core.specs.Guests.{IsCounted, free_from, openings, queue_at, queue_bytes, queues};
-ghost use Rattle.proxy_core.specs.Moves.{IsPutDue};
-ghost use Rattle.proxy_core.specs.Queue.{first_reply};
+ghost use Rattle.proxy_core.specs.Guests.{IsCounted, free_from, openings, queues};
 
 use crate::command::{Bytes, Command};
 use crate::guest_queue::{GuestQueue, settle_guest};
-use crate::limits::Room;
 use crate::outcome::Outcome;
-use crate::queue::Entry;
-use crate::refusal::Refused;
 use crate::servers::{Servers, Waiting, gather_guest};
 use std::alloc::{AllocError, Global};
 use std::collections::VecDeque;
@@ -60,47 +55,6 @@ pub(crate) fn settle_all<C: Command, V: Bytes>(
     'guests: for i in 0..guests.len() {
         settle_guest(&mut guests[i], &mut left);
     }
-}
-
-/// Puts an entry behind those of a guest, where its share has room for it.
-pub(crate) fn put_in<C: Bytes, V: Bytes>(
-    guests: &mut [GuestQueue<C, V>],
-    guest: usize,
-    share: Room,
-    entry: Entry<C, V>,
-) -> Result<(), Refused<Entry<C, V>>>
-    requires there { guest < length guests.old }
-    requires counted { AllByRecursion (IsCounted C.bytes V.bytes) guests.old }
-    ensures ok { OnOk result (queues guests.new
-        ≡ slice_set (queues guests.old) guest (queue_at (queues guests.old) guest ++ entry ∷ [])) }
-    ensures bounded { OnOk result (length (queue_at (queues guests.new) guest) ≤ share.entries) }
-    ensures bytes_bounded { OnOk result
-        (queue_bytes C.bytes V.bytes (queue_at (queues guests.new) guest) ≤ share.bytes) }
-    ensures err { OnErr result (queues guests.new ≡ queues guests.old) }
-    ensures value { IfErr result (λ refused. refused.value ≡ entry) }
-    ensures why { IfErr result (λ refused. IsPutDue C.bytes V.bytes share
-        (queue_at (queues guests.old) guest) entry true refused.why) }
-    ensures openings { openings guests.new ≡ openings guests.old }
-    ensures counted { AllByRecursion (IsCounted C.bytes V.bytes) guests.new }
-{
-    guests[guest].put(share, entry)
-}
-
-/// Takes a guest's first reply, where no command waits before it.
-pub(crate) fn take_from<C: Bytes, V: Bytes>(
-    guests: &mut [GuestQueue<C, V>],
-    guest: usize,
-) -> Option<V>
-    requires there { guest < length guests.old }
-    requires counted { AllByRecursion (IsCounted C.bytes V.bytes) guests.old }
-    ensures taken { MatchOption result (queues guests.new ≡ queues guests.old) (λ v.
-        queues guests.new
-        ≡ slice_set (queues guests.old) guest (drop 1 (queue_at (queues guests.old) guest))) }
-    ensures first { result ≡ first_reply (queue_at (queues guests.old) guest) }
-    ensures openings { openings guests.new ≡ openings guests.old }
-    ensures counted { AllByRecursion (IsCounted C.bytes V.bytes) guests.new }
-{
-    guests[guest].take()
 }
 
 /// Drops what is held of a guest, which is there from now on or not.

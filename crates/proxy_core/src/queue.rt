@@ -1,8 +1,8 @@
 //! What a proxy holds of one guest.
-ghost use Rattle.std.specs.Prelude.{◌≡◌, ◌≤◌, ◌<◌, ◌+◌, ◌++◌, ◌∷◌, ◌⊎◌, [], take, drop, length, is_some, if◌then◌else◌};
+ghost use Rattle.std.specs.Prelude.{◌≡◌, ◌≤◌, ◌++◌, ◌∷◌, ◌⊎◌, [], take, drop, length};
 ghost use Rattle.proxy_core.specs.Fates.{may_be_done};
 ghost use Rattle.proxy_core.specs.Guests.{entry_bytes};
-ghost use Rattle.proxy_core.specs.Queue.{LeavesFirst, first_reply, overtaken, settled, waiting};
+ghost use Rattle.proxy_core.specs.Queue.{LeavesFirst, overtaken, settled, waiting};
 ghost use Rattle.proxy_core.specs.Verdicts.{MayTell, verdicts};
 
 use crate::command::{Bytes, Command};
@@ -146,21 +146,5 @@ pub(crate) fn settle<C: Command, V: Drop>(
             Entry::Reads(reply) => Entry::Reads(reply),
         };
         entries.push_back_reserved(left);
-    }
-}
-
-/// Takes the first reply, where no command waits before it.
-pub(crate) fn take_first<C, V>(entries: &mut VecDeque<Entry<C, V>>) -> Option<V>
-    ensures first { result ≡ first_reply entries.old.items }
-    ensures rest { entries.new.items
-        ≡ (if is_some result then drop 1 entries.old.items else entries.old.items) }
-{
-    match entries.pop_front() {
-        Some(Entry::Reads(reply)) => Some(reply),
-        Some(Entry::Waits(command)) => {
-            entries.push_front_reserved(Entry::Waits(command));
-            None
-        }
-        None => None,
     }
 }

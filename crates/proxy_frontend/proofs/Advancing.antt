@@ -1,5 +1,5 @@
 -- What comes of looking for a guest's next command.
-use Rattle.std.proofs.Common.{◌≡◌, ◌≢◌, ℕ, List, [], ◌∷◌, ◌++◌, Option, Some, None, MatchOption, set, refl, sym, ◌∙◌, ap, subst}
+use Rattle.std.proofs.Common.{◌≡◌, ◌≢◌, ℕ, ◌<◌, List, [], ◌∷◌, ◌++◌, length, get_or, Option, Some, None, MatchOption, set, refl, sym, ◌∙◌, ap, subst}
 use Rattle.std.specs.Prelude.{is_some}
 use Rattle.std.proofs.lemmas.List.{get_or-set_other}
 use Rattle.proxy_core.specs.Guests.{Queues, queue_at, is_open_at}
@@ -12,11 +12,12 @@ use Rattle.proxy_connection.specs.Moves as moves
 use Rattle.proxy_connection.specs.Serving.{Serves}
 use Rattle.proxy_connection.specs.Ways.{Ways}
 use Rattle.proxy_frontend.specs.Moves.{Advances, IsUnderWayAt, Rests, RestsAt}
-use Rattle.proxy_frontend.specs.Places.{Changes}
 use Rattle.proxy_frontend.specs.Serving.{AllStay, IsServed}
-use Rattle.proxy_frontend.specs.State.{State, connection_at}
-use Rattle.proxy_frontend.proofs.Places.{changes_either}
-use Rattle.proxy_frontend.proofs.Served.{own_number, served_by, still, unmoved, moved, now_at}
+use Rattle.proxy_frontend.specs.State.{State, connection_at, state_of}
+use Rattle.proxy_frontend.proofs.Places.{read_at}
+use Rattle.proxy_core.specs.State as core
+use Rattle.resp_requests.specs.declared.limits.Limits.{Limits}
+use Rattle.proxy_frontend.proofs.Served.{own_number, served_by, unmoved, moved, now_at}
 
 module _ {T C V : Type 0} (w : Ways T C V) (command : C → ℕ) (reply : V → ℕ) (old new : State T C V) (g : ℕ) (f : new.proxy.openings ≡ old.proxy.openings) where
   -- of a connection that is there
@@ -46,6 +47,7 @@ module _ {T C V : Type 0} (w : Ways T C V) (command : C → ℕ) (reply : V → 
           (rests why n m (histories g) (served_by w old histories g (Some c) was s)),
     )
 
+    -- it came, or rests
     advances_some : (progress : Progress) → Goes_so progress → Advances w command reply old new g progress
     advances_some Taken m = (
       m.0,
@@ -58,44 +60,22 @@ module _ {T C V : Type 0} (w : Ways T C V) (command : C → ℕ) (reply : V → 
     advances_some Ended m = (keeps m.0, rests_at Ended (λ e. let no : ⊥ = cc in no) m m.0.0)
     advances_some NoGuest m = (keeps m.0, rests_at NoGuest (λ e. let no : ⊥ = cc in no) m m.0.0)
 
-  nobody_rests : (h : Option (History T C V)) → IsServed w g None (is_open_at old.proxy.openings g) (queue_at old.proxy.queues g) h
-      → Rests w command reply old.proxy.limits.share None (queue_at old.proxy.queues g) h NoGuest
-  nobody_rests None s = tt
-  nobody_rests (Some h) s = absurd s
+    -- memory was wanted for the next command
+    under_way : moves.IsUnderWay w command reply old.proxy.limits.share (is_open_at old.proxy.openings c.guest) (queue_at old.proxy.queues c.guest) c' c'.pending
+        → IsUnderWayAt w command reply old new g
+    under_way so histories s =
+        let own = own_number w old histories g c was s in
+        subst (λ (x : Option (Connection T C V)). MatchOption x ⊥ (λ d. moves.IsUnderWay w command reply old.proxy.limits.share (is_open_at old.proxy.openings g) (queue_at old.proxy.queues g) d d.pending))
+        (sym (now_at w old new g c c' (λ h. h) was made))
+        (subst (λ (i : ℕ). moves.IsUnderWay w command reply old.proxy.limits.share (is_open_at old.proxy.openings i) (queue_at old.proxy.queues i) c' c'.pending) own so)
 
-  -- of guest g, whose connection there is or not
-  abbrev Moves_so : Progress → Connection T C V → Connection T C V → Type 0
-  Moves_so progress c c' =
-      moves.Advances w command reply old.proxy.limits.share (is_open_at old.proxy.openings c.guest) c.guest c c' old.proxy.queues new.proxy.queues progress
+-- the same, of the connection that a call finds and leaves at the guest's place
+module _ {T C V : Type 0} (w : Ways T C V) (command : C → ℕ) (reply : V → ℕ) (cs : List (Option (Connection T C V))) (p p' : core.State C V) (l : Limits) (g : ℕ) (o : Option (Connection T C V)) (c c' : Connection T C V)
+    (r : o ≡ get_or cs g o) (e : o ≡ Some c) (h : g < length cs) (k : c'.guest ≡ c.guest) (f : p'.openings ≡ p.openings) where
+  pub advances_at : (progress : Progress) → moves.Advances w command reply p.limits.share (is_open_at p.openings c.guest) c.guest c c' p.queues p'.queues progress
+      → Advances w command reply (state_of cs p l) (state_of (set cs g (Some c')) p' l) g progress
+  advances_at = advances_some w command reply (state_of cs p l) (state_of (set cs g (Some c')) p' l) g f c c' (read_at cs g o c r e h) refl k
 
-  pub advances : (progress : Progress)
-      → Changes old.connections new.connections g ((progress ≡ NoGuest) × (new.proxy.queues ≡ old.proxy.queues)) (Moves_so progress) → Advances w command reply old new g progress
-  advances progress m =
-      changes_either old.connections new.connections g ((progress ≡ NoGuest) × (new.proxy.queues ≡ old.proxy.queues)) (Moves_so progress) (Advances w command reply old new g progress)
-      (λ e k n. subst (λ (p : Progress). Advances w command reply old new g p) (sym n.0) (still w old new k f n.1, nobody_at e k n.1))
-      (λ c c' was made k so. advances_some c c' was made k progress so) m where
-        nobody_at : connection_at old.connections g ≡ None → new.connections ≡ old.connections → new.proxy.queues ≡ old.proxy.queues → RestsAt w command reply old new g NoGuest
-        nobody_at e k n = (
-          n,
-          λ histories s. subst (λ (x : Option (Connection T C V)). Rests w command reply old.proxy.limits.share x (queue_at old.proxy.queues g) (histories g) NoGuest)
-              (sym (ap (λ (cs : List (Option (Connection T C V))). connection_at cs g) k ∙ e))
-              (nobody_rests (histories g) (served_by w old histories g None e s)),
-        )
-
-  pub not_advanced : Changes old.connections new.connections g ⊥ (λ c c'. moves.Keeps w c.guest c c' old.proxy.queues new.proxy.queues)
-      → AllStay w old new × (new.proxy.queues ≡ old.proxy.queues)
-  not_advanced m =
-      changes_either old.connections new.connections g ⊥ (λ c c'. moves.Keeps w c.guest c c' old.proxy.queues new.proxy.queues) (AllStay w old new × (new.proxy.queues ≡ old.proxy.queues))
-      (λ e k n. absurd n) (λ c c' was made k so. (keeps c c' was made k so, so.0)) m
-
-  abbrev Wants_so : ℕ → Connection T C V → Type 0
-  Wants_so n c = moves.IsUnderWay w command reply old.proxy.limits.share (is_open_at old.proxy.openings n) (queue_at old.proxy.queues n) c c.pending
-
-  pub under_way : Changes old.connections new.connections g ⊥ (λ c c'. Wants_so c.guest c') → IsUnderWayAt w command reply old new g
-  under_way m =
-      changes_either old.connections new.connections g ⊥ (λ c c'. Wants_so c.guest c') (IsUnderWayAt w command reply old new g)
-      (λ e k n. absurd n)
-      (λ c c' was made k so histories s.
-      let own = own_number w old histories g c was s in
-      subst (λ (x : Option (Connection T C V)). MatchOption x ⊥ (Wants_so g)) (sym (now_at w old new g c c' (λ h. h) was made))
-      (subst (λ (i : ℕ). Wants_so i c') own so)) m
+  pub under_way_at : moves.IsUnderWay w command reply p.limits.share (is_open_at p.openings c.guest) (queue_at p.queues c.guest) c' c'.pending
+      → IsUnderWayAt w command reply (state_of cs p l) (state_of (set cs g (Some c')) p' l) g
+  under_way_at = under_way w command reply (state_of cs p l) (state_of (set cs g (Some c')) p' l) g f c c' (read_at cs g o c r e h) refl k

@@ -5,7 +5,7 @@ use Rattle.std.proofs.lemmas.List.{get_or_past, get_or-set_same, get_or-set_othe
 use Rattle.proxy_core.specs.declared.outcome.Outcome.{Outcome}
 use Rattle.proxy_core.specs.declared.queue.Entry.{Entry}
 use Rattle.proxy_core.specs.Batch.{outcomes_of}
-use Rattle.proxy_core.specs.Guests.{Queues, queue_at, is_open_at, free_from}
+use Rattle.proxy_core.specs.Guests.{queue_at, is_open_at, free_from}
 use Rattle.proxy_core.specs.Moves.{Renews, Settles}
 use Rattle.proxy_core.specs.Queue.{settled}
 use Rattle.proxy_core.specs.Sees.{Told}
@@ -15,11 +15,11 @@ use Rattle.proxy_connection.specs.Serving.{Goes}
 use Rattle.proxy_connection.specs.Ways.{Ways}
 use Rattle.proxy_connection.proofs.Served.{turn_told}
 use Rattle.proxy_frontend.specs.Histories.{Histories, only, told}
-use Rattle.proxy_frontend.specs.Places.{Changes, Places, SameOthers}
+use Rattle.proxy_frontend.specs.Places.{Places, SameOthers}
 use Rattle.proxy_frontend.specs.Serving.{AllGo, AllStay, Always, AreServed, IsServed, IsServedAt}
 use Rattle.proxy_frontend.specs.State.{State, connection_at}
 use Rattle.proxy_frontend.proofs.Numbers.{free_open}
-use Rattle.proxy_frontend.proofs.Places.{changes_either, within}
+use Rattle.proxy_frontend.proofs.Places.{within}
 
 module _ {T C V : Type 0} (w : Ways T C V) where
   -- ---- one number
@@ -50,11 +50,6 @@ module _ {T C V : Type 0} (w : Ways T C V) where
   moved_here n c c' b q q' more None k go s = absurd s
   moved_here n c c' b q q' more (Some h) k go s = (s.0, k ∙ s.1, go h s.2)
 
-  unseen : (n : ℕ) (b : Bool) (q : List (Entry C V)) (more : History T C V → History T C V) (h : Option (History T C V))
-      → IsServed w n None b q h → option_map more h ≡ h
-  unseen n b q more None s = refl
-  unseen n b q more (Some h) s = absurd s
-
   gone : (n : ℕ) (b : Bool) (q : List (Entry C V)) (h : Option (History T C V)) → IsServed w n None b q h → (q ≡ []) × IsServed w n None false [] h
   gone n b q None s = (s.1, (refl, refl))
   gone n b q (Some h) s = absurd s
@@ -79,10 +74,6 @@ module _ {T C V : Type 0} (w : Ways T C V) where
   -- ---- one call
 
   module _ (old new : State T C V) where
-    pub still : new.connections ≡ old.connections → new.proxy.openings ≡ old.proxy.openings → new.proxy.queues ≡ old.proxy.queues → AllStay w old new
-    still e f k histories s n =
-        same_place n _ _ _ _ _ _ (histories n) (ap (λ (cs : List (Option (Connection T C V))). connection_at cs n) e) (ap (λ (bs : List Bool). is_open_at bs n) f) (ap (λ (qs : Queues C V). queue_at qs n) k) (s n)
-
     pub told_all : (batch : List (ℕ × C)) (outcomes : List (Outcome V)) → new.connections ≡ old.connections → new.proxy.openings ≡ old.proxy.openings
         → Settles w.overlaps old.proxy.queues new.proxy.queues batch outcomes → AllGo w old new (told batch outcomes)
     told_all batch outcomes e f settles histories s n =
@@ -91,17 +82,6 @@ module _ {T C V : Type 0} (w : Ways T C V) where
         (told_here n (connection_at old.connections n) (is_open_at old.proxy.openings n) (queue_at old.proxy.queues n) os (histories n) (s n))
 
     module _ (g : ℕ) where
-      -- nothing happens to a guest that is not there
-      pub nobody_moved : (more : History T C V → History T C V) → connection_at old.connections g ≡ None → AllStay w old new → AllGo w old new (only g (option_map more))
-      nobody_moved more e stays histories s n =
-          subst (λ (h : Option (History T C V)). IsServedAt w new n h)
-          (sym (same (g == n) refl)) (stays histories s n) where
-            same : (b : Bool) → (g == n) ≡ b → cond b (option_map more (histories n)) (histories n) ≡ histories n
-            same true k =
-                unseen n (is_open_at old.proxy.openings n) (queue_at old.proxy.queues n) more (histories n)
-                (served_by old histories n None (ap (connection_at old.connections) (sym (eqb-true g n k)) ∙ e) s)
-            same false k = refl
-
       pub unmoved : AllGo w old new (only g (option_map (λ h. h))) → AllStay w old new
       unmoved goes histories s n =
           subst (λ (h : Option (History T C V)). IsServedAt w new n h)
@@ -133,22 +113,6 @@ module _ {T C V : Type 0} (w : Ways T C V) where
               let other : n ≢ g = grind arith in
               same_place n _ _ _ _ _ _ (histories n) (ap (λ (cs : List (Option (Connection T C V))). connection_at cs n) made ∙ get_or-set_other old.connections g n (Some c') None other)
               (ap (λ (bs : List Bool). is_open_at bs n) f) (others n (λ same. other (same ∙ own))) (s n)
-
-      pub changed : (more : History T C V → History T C V) (none : Type 0) (some : Connection T C V → Connection T C V → Type 0)
-          → new.proxy.openings ≡ old.proxy.openings → (none → new.proxy.queues ≡ old.proxy.queues)
-          → ((c c' : Connection T C V) → some c c' → SameOthers c.guest old.proxy.queues new.proxy.queues × Goes w c (queue_at old.proxy.queues c.guest) c' (queue_at new.proxy.queues c.guest) more)
-          → Changes old.connections new.connections g none some → AllGo w old new (only g (option_map more))
-      changed more none some f if_none if_some m =
-          changes_either old.connections new.connections g none some (AllGo w old new (only g (option_map more)))
-          (λ e k n. nobody_moved more e (still k f (if_none n)))
-          (λ c c' was made k so. moved c c' more was made k f (if_some c c' so).0 (if_some c c' so).1) m
-
-      -- nothing was seen
-      pub kept : (none : Type 0) (some : Connection T C V → Connection T C V → Type 0)
-          → new.proxy.openings ≡ old.proxy.openings → (none → new.proxy.queues ≡ old.proxy.queues)
-          → ((c c' : Connection T C V) → some c c' → SameOthers c.guest old.proxy.queues new.proxy.queues × Goes w c (queue_at old.proxy.queues c.guest) c' (queue_at new.proxy.queues c.guest) (λ h. h))
-          → Changes old.connections new.connections g none some → AllStay w old new
-      kept none some f if_none if_some m = unmoved (changed (λ h. h) none some f if_none if_some m)
 
       -- ---- a guest's place is taken, or free
 

@@ -1,5 +1,5 @@
 -- What is done at the place of one guest among all connections.
-use Rattle.std.specs.Prelude.{◌≡◌, ◌≢◌, ℕ, Bool, true, false, List, ◌++◌, Option, Some, None, MatchOption, slice_set}
+use Rattle.std.specs.Prelude.{◌≡◌, ◌≢◌, ℕ, Bool, true, false, List, ◌++◌, Option, Some, None}
 use Rattle.proxy_core.specs.Guests.{Queues, queue_at}
 use Rattle.proxy_connection.specs.declared.connection.Connection.{Connection}
 use Rattle.proxy_connection.specs.History.{written_more}
@@ -13,12 +13,6 @@ abbrev pub Places : {T C V : Type 0} → List (Option (Connection T C V)) → Li
     → Option (Connection T C V) → Type 0
 Places old new g o = (connection_at new g ≡ o) × ((n : ℕ) → n ≢ g → connection_at new n ≡ connection_at old n)
 
--- the connection at place g goes so from c to c', and no other changes; where there is none it is so, and none changes
-abbrev pub Changes : {T C V : Type 0} → List (Option (Connection T C V)) → List (Option (Connection T C V)) → ℕ
-    → Type 0 → (Connection T C V → Connection T C V → Type 0) → Type 0
-Changes {T} {C} {V} old new g none some = MatchOption (connection_at old g) ((new ≡ old) × none)
-    (λ c. (c' : Connection T C V) × (new ≡ slice_set old g (Some c')) × (c'.guest ≡ c.guest) × some c c')
-
 -- no queue changes but that of guest g
 abbrev pub SameOthers : {C V : Type 0} → ℕ → Queues C V → Queues C V → Type 0
 SameOthers g qs qs' = (n : ℕ) → n ≢ g → queue_at qs' n ≡ queue_at qs n
@@ -31,12 +25,6 @@ WritesNext w c c' qs qs' before after true = (bytes : List ℕ) × (after ≡ be
     × Goes w c (queue_at qs c.guest) c' (queue_at qs' c.guest) (λ h. written_more h bytes)
 WritesNext w c c' qs qs' before after false = (after ≡ before)
     × (next_bytes w (Some c) (queue_at qs c.guest) ≡ None) × (qs' ≡ qs) × Stays w c c' (queue_at qs c.guest)
-
--- so of the guest at place g; where no connection is there, nothing was written
-abbrev pub WritesAt : {T C V : Type 0} → Ways T C V → List (Option (Connection T C V)) → List (Option (Connection T C V))
-    → ℕ → Queues C V → Queues C V → List ℕ → List ℕ → Bool → Type 0
-WritesAt w old new g qs qs' before after any =
-    Changes old new g ((any ≡ false) × (after ≡ before) × (qs' ≡ qs)) (λ c c'. WritesNext w c c' qs qs' before after any)
 
 -- there were bytes, for which there was no memory, and none of them is lost
 abbrev pub KeepsNext : {T C V : Type 0} → Ways T C V → Connection T C V → Connection T C V → Queues C V → Queues C V

@@ -9,7 +9,7 @@ ghost use Rattle.proxy_frontend.specs.Moves.{Advances, HasNext, IsConnected, IsJ
 ghost use Rattle.proxy_frontend.specs.Serving.{AllGo, AllStay, Always, AreServed};
 ghost use Rattle.proxy_frontend.specs.State.{connection_at};
 
-use crate::connections::{advance_at, feed_at, place_at, remove_at, write_at};
+use crate::connections::{place_at, remove_at, write_next};
 use crate::frontend::Frontend;
 use proxy_connection::{Connection, Progress, Translator, Written};
 use proxy_core::{Command, JoinRefusal, Proxy, Servers};
@@ -70,7 +70,13 @@ impl<T: Translator<C, V>, C: Command, V: Written> Frontend<T, C, V> {
         ensures limits { self.new.limits ≡ self.old.limits }
         ensures shares { self.new.proxy.limits ≡ self.old.proxy.limits }
     {
-        feed_at(&mut self.connections, guest, bytes)
+        if self.connections.len() <= guest {
+            return Ok(());
+        }
+        match &mut self.connections[guest] {
+            Some(connection) => connection.feed(bytes),
+            None => Ok(()),
+        }
     }
 
     /// Takes a guest's next command, and puts what it means into the guest's queue; or tells why there is none.
@@ -88,7 +94,13 @@ impl<T: Translator<C, V>, C: Command, V: Written> Frontend<T, C, V> {
         ensures limits { self.new.limits ≡ self.old.limits }
         ensures shares { self.new.proxy.limits ≡ self.old.proxy.limits }
     {
-        advance_at(alloc, &mut self.connections, guest, &mut self.proxy)
+        if self.connections.len() <= guest {
+            return Ok(Progress::NoGuest);
+        }
+        match &mut self.connections[guest] {
+            Some(connection) => connection.advance(alloc, &mut self.proxy),
+            None => Ok(Progress::NoGuest),
+        }
     }
 
     /// Puts behind `out` the bytes that are to be written to a guest next: those of one reply. Whether there was a
@@ -106,7 +118,13 @@ impl<T: Translator<C, V>, C: Command, V: Written> Frontend<T, C, V> {
         ensures limits { self.new.limits ≡ self.old.limits }
         ensures shares { self.new.proxy.limits ≡ self.old.proxy.limits }
     {
-        write_at(&mut self.connections, guest, &mut self.proxy, out)
+        if self.connections.len() <= guest {
+            return Ok(false);
+        }
+        match &mut self.connections[guest] {
+            Some(connection) => write_next(connection, &mut self.proxy, out),
+            None => Ok(false),
+        }
     }
 
     /// Ends a guest: drops its connection, and what the proxy holds of it. Its number is free.

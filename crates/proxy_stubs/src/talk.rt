@@ -1,9 +1,11 @@
 //! What guests say.
 use crate::on_key::OnKey;
-use proxy_connection::Translator;
+use proxy_connection::{Progress, Translator};
 use proxy_core::Entry;
 use resp_requests::Fault;
 use std::alloc::{AllocError, Global};
+use std::io;
+use std::io::Print;
 
 /// GET asks at a key, QUIT ends, and all else is answered in its place.
 #[derive(Drop)]
@@ -55,5 +57,16 @@ impl Translator<OnKey, Vec<u8>> for Talk {
 
     fn has_ended(&self) -> bool {
         self.has_ended
+    }
+}
+
+/// Whether a guest may have said more, by what came of looking for it; tells where memory was refused.
+pub fn goes_on<R: Print>(rt: &R, advanced: Result<Progress, AllocError>) -> io::Result<bool> {
+    match advanced {
+        Ok(progress) => Ok(progress == Progress::Taken),
+        Err(AllocError) => {
+            println!(rt; "refused advance")?;
+            Ok(true)
+        }
     }
 }

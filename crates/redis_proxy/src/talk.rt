@@ -51,22 +51,19 @@ impl Talk {
         ensures err { OnErr result (self.new ≡ self.old) }
     {
         match way {
-            Way::ByTable => self.by_table(alloc, command),
+            Way::ByTable => {
+                let ask = Ask::together(alloc, command, self.protocol)?;
+                if ask.command.has_slots() {
+                    return Ok(Entry::Waits(ask));
+                }
+                let way = way_by_table(ask.command.direction());
+                Ok(Entry::Waits(ask.into_alone(way)?))
+            }
             Way::Refused => Ok(Entry::Reads(refuse(alloc, &command)?)),
             Way::Own(own) => Ok(Entry::Reads(own::answer(alloc, self, own, &command)?)),
             Way::Wait => self.wait(alloc, command),
             _ => Ok(Entry::Waits(Ask::alone(alloc, way, command, self.protocol)?)),
         }
-    }
-
-    /// What a command puts into the queue that goes as the routing table says.
-    fn by_table(&self, alloc: Global, command: Cmd) -> Result<Entry<Ask, Reply>, AllocError> {
-        let ask = Ask::together(alloc, command, self.protocol)?;
-        if ask.command.has_slots() {
-            return Ok(Entry::Waits(ask));
-        }
-        let way = way_by_table(ask.command.direction());
-        Ok(Entry::Waits(ask.into_alone(way)?))
     }
 
     /// What a command that waits puts into the queue.
@@ -173,18 +170,6 @@ fn nothing_done(alloc: Global, is_aborted: bool) -> Result<Reply, AllocError> {
     }
 }
 
-fn command_of(alloc: Global, words: &[Vec<u8>]) -> Result<Cmd, AllocError> {
-    let mut size = 0usize;
-    for word in words {
-        size = size.saturating_add(word.len());
-    }
-    let mut command = Cmd::with_capacity(alloc, words.len(), size)?;
-    for word in words {
-        command.arg(word.as_slice())?;
-    }
-    Ok(command)
-}
-
 impl Translator<Ask, Reply> for Talk {
     ghost translates = { λ old words entry new. Unit {0} };
 
@@ -197,7 +182,14 @@ impl Translator<Ask, Reply> for Talk {
         alloc: Global,
         words: &[Vec<u8>],
     ) -> Result<Entry<Ask, Reply>, AllocError> {
-        let command = command_of(alloc, words)?;
+        let mut size = 0usize;
+        for word in words {
+            size = size.saturating_add(word.len());
+        }
+        let mut command = Cmd::with_capacity(alloc, words.len(), size)?;
+        for word in words {
+            command.arg(word.as_slice())?;
+        }
         let way = way_of(&command);
         if self.queued.is_some() {
             return self.behind_multi(alloc, way, command);

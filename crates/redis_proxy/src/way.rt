@@ -46,7 +46,6 @@ pub(crate) enum Own {
     Discard,
 }
 
-// The words that the routing table does not decide, by their lengths.
 const OF_3: [(&str, Way); 1] = [("ACL", Way::Refused)];
 
 const OF_4: [(&str, Way); 11] = [
@@ -112,22 +111,22 @@ const OF_12: [(&str, Way); 2] = [
     ("SUNSUBSCRIBE", Way::Refused),
 ];
 
-/// The words of a length that the routing table does not decide.
-fn words_of(length: usize) -> &'static [(&'static str, Way)] {
-    match length {
-        3 => &OF_3,
-        4 => &OF_4,
-        5 => &OF_5,
-        6 => &OF_6,
-        7 => &OF_7,
-        8 => &OF_8,
-        9 => &OF_9,
-        10 => &OF_10,
-        11 => &OF_11,
-        12 => &OF_12,
-        _ => &[],
-    }
-}
+/// The words that the routing table does not decide, by their lengths.
+const WORDS: [&[(&str, Way)]; 13] = [
+    &[],
+    &[],
+    &[],
+    &OF_3,
+    &OF_4,
+    &OF_5,
+    &OF_6,
+    &OF_7,
+    &OF_8,
+    &OF_9,
+    &OF_10,
+    &OF_11,
+    &OF_12,
+];
 
 /// How a command is answered.
 pub(crate) fn way_of(command: &Cmd) -> Way {
@@ -137,9 +136,11 @@ pub(crate) fn way_of(command: &Cmd) -> Way {
     if is_word(command, 0, b"CLIENT") && is_word(command, 1, b"UNBLOCK") {
         return Way::Unblock;
     }
-    for (name, way) in words_of(word.len()) {
-        if name.as_bytes().eq_ignore_ascii_case(word) {
-            return *way;
+    if let Some(words) = WORDS.get(word.len()) {
+        for (name, way) in *words {
+            if name.as_bytes().eq_ignore_ascii_case(word) {
+                return *way;
+            }
         }
     }
     if waits(command) {
@@ -210,5 +211,8 @@ pub(crate) fn argument(command: &Cmd, place: usize) -> &[u8] {
 
 /// Whether the argument at a place is this word, whatever the case of its letters.
 pub(crate) fn is_word(command: &Cmd, place: usize, word: &[u8]) -> bool {
-    argument(command, place).eq_ignore_ascii_case(word)
+    match command.arg_idx(place) {
+        Some(argument) => argument.eq_ignore_ascii_case(word),
+        None => false,
+    }
 }

@@ -1,5 +1,5 @@
 -- Digits, one after another.
-use Rattle.std.proofs.Common.{◌≡◌, ℕ, ◌+◌, ◌*◌, ◌-◌, ◌^◌, ◌<◌, ◌≤◌, ◌==◌, ◌&&◌, Bool, true, false, not, nat_le, if◌then◌else◌, List, [], ◌∷◌, length, get_or, take, Option, Some, None, refl, sym, arith}
+use Rattle.std.proofs.Common.{◌≡◌, ℕ, ◌+◌, ◌*◌, ◌-◌, ◌^◌, ◌<◌, ◌≤◌, ◌==◌, ◌&&◌, ◌⊎◌, inl, inr, Bool, true, false, not, nat_le, if◌then◌else◌, List, [], ◌∷◌, length, get_or, take, Option, Some, None, refl, sym, arith}
 use Rattle.std.specs.Char.{is_ascii_digit, digit_value}
 use Rattle.std.specs.Str.{all_ascii_digits}
 use Rattle.std.specs.Str.Parse.{AllDigits, digits_value}
@@ -40,9 +40,27 @@ room_for_more ds i e lt h =
     let short : length (take i ds) ≤ 18 = omega (arith, well_led_short ds e, length-take-le i ds (omega arith)) in
     digits_below (take i ds) 18 h short
 
-pub not_led : (ds : List ℕ) → is_well_led ds ≡ false → number_in ds ≡ None
+not_led : (ds : List ℕ) → is_well_led ds ≡ false → number_in ds ≡ None
 unfolding number_in
 not_led ds e = rw e refl
+
+-- none, too many, or a zero before others
+pub many_led : (ds : List ℕ) → (length ds ≡ 0) ⊎ (19 < length ds) → number_in ds ≡ None
+many_led [] h = not_led [] refl
+many_led (c ∷ []) h = absurd (elim h [ inl e ↦ omega arith | inr e ↦ omega arith ])
+many_led (c ∷ d ∷ ds) (inl e) = absurd (omega arith)
+many_led (c ∷ d ∷ ds) (inr e) = not_led (c ∷ d ∷ ds) (grind (arith, nat_tests))
+
+pub zero_led : (ds : List ℕ) → 1 < length ds → get_or ds 0 0 ≡ 48 → number_in ds ≡ None
+zero_led [] some e = absurd (omega arith)
+zero_led (c ∷ []) some e = absurd (omega arith)
+zero_led (c ∷ d ∷ ds) some e = not_led (c ∷ d ∷ ds) (grind (arith, nat_tests, e))
+
+pub well_led : (ds : List ℕ) → 0 < length ds → length ds ≤ 19 → (length ds ≤ 1) ⊎ ((get_or ds 0 0 == 48) ≡ false) → is_well_led ds ≡ true
+well_led [] some few h = absurd (omega arith)
+well_led (c ∷ []) some few h = refl
+well_led (c ∷ d ∷ ds) some few (inl e) = absurd (omega arith)
+well_led (c ∷ d ∷ ds) some few (inr e) = grind (arith, nat_tests, e)
 
 other_digit : (b : Bool) (ds : List ℕ) (i : ℕ) → all_ascii_digits ds ≡ b → i < length ds → is_ascii_digit (get_or ds i 0) ≡ false → b ≡ false
 other_digit true ds i e h d =

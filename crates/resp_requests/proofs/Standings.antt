@@ -13,7 +13,7 @@ use Rattle.resp_requests.specs.Arrays.{count_at, argument_at}
 use Rattle.resp_requests.specs.Lines.{head_at, line_at}
 use Rattle.resp_requests.specs.Requests.{Command, as_command, inline_at, request_at}
 use Rattle.resp_requests.specs.Standing.{waiting, open_at, going, GoesOn, StandsIn, Stands, IsNext, AreAll, AreBeforeFault}
-use Rattle.resp_requests.specs.Advancing.{SameNext, Ends, Stops, SameStanding, StarWaits, OtherWaits, FollowsStop}
+use Rattle.resp_requests.specs.Advancing.{SameNext, Ends, Halts, Stops, SameStanding, StarWaits, OtherWaits}
 use Rattle.resp_requests.proofs.Goings.{goes_same, goes_behind, goes_fed, are_all, are_before, is_next, begins, fault_stays}
 use Rattle.resp_requests.proofs.ReaderSteps.{array_is_empty, array_goes, array_is_bad, argument_goes, argument_ends, argument_is_bad, line_reads, line_is_bad}
 
@@ -80,7 +80,7 @@ stops_by (stops.Fault f) r h = h
 stops_by stops.Memory r h = λ more. refl
 
 -- only what was searched is another
-pub stops_as : (e : Stop) (r s : RequestReader) → SameNext r s → Stops e r r → Stops e r s
+stops_as : (e : Stop) (r s : RequestReader) → SameNext r s → Stops e r r → Stops e r s
 stops_as stops.Short r s same h = record { unfinished = h.unfinished; same = same }
 stops_as (stops.Fault f) r s same h = h
 stops_as stops.Memory r s same h = same
@@ -91,8 +91,13 @@ fails_as (stops.Fault f) part all same h = same (fault f) h
 fails_as stops.Memory part all same h = tt
 
 -- a reader of parts was handed what waits
-pub fails_there : {A : Type 0} (e : Stop) (part : List ℕ → Read A) (bytes waits : List ℕ) → bytes ≡ waits → Fails e (part bytes) → Fails e (part waits)
+fails_there : {A : Type 0} (e : Stop) (part : List ℕ → Read A) (bytes waits : List ℕ) → bytes ≡ waits → Fails e (part bytes) → Fails e (part waits)
 fails_there e part bytes waits same h = subst (λ (bs : List ℕ). Fails e (part bs)) same h
+
+-- so is what such a reader stops for
+pub stops_there : {A : Type 0} (e : Stop) (r s : RequestReader) (part : List ℕ → Read A) (bytes : List ℕ) → bytes ≡ waiting r → SameNext r s
+    → (Fails e (part (waiting r)) → Stops e r r) → Fails e (part bytes) → Stops e r s
+stops_there e r s part bytes handed same stops fails = stops_as e r s same (stops (fails_there e part bytes (waiting r) handed fails))
 
 pub array_stops : (e : Stop) (r : RequestReader) → r.missing ≡ 0 → StarWaits r → Fails e (count_at r.limits (waiting r)) → Stops e r r
 array_stops e r none star h =
@@ -161,20 +166,18 @@ pub stands_behind : (r s : RequestReader) (c : Command) → r.fault ≡ None →
 stands_behind r s [] e f limits ends some cs bytes h = absurd (omega arith)
 stands_behind r s (name ∷ args) e f limits ends some cs bytes h = stands_ended r s (name ∷ args) cs (cs ++ (name ∷ args) ∷ []) bytes e f limits ends refl h
 
-pub follows_stop : (e : Stop) (r s : RequestReader) → r.fault ≡ None → s.fault ≡ r.fault → s.limits ≡ r.limits → Stops e r s → FollowsStop e r s
-follows_stop stops.Short r s e f limits h = λ cs bytes stands.
-    (are_all r.limits (going r) cs bytes h.unfinished (to_going r cs bytes e stands), stands_same r s e f limits h.same cs bytes stands)
-follows_stop (stops.Fault g) r s e f limits h = λ cs bytes stands. are_before r.limits (going r) cs bytes g h (to_going r cs bytes e stands)
-follows_stop stops.Memory r s e f limits h = stands_same r s e f limits h
+-- nothing more is read by a reader that stood so before
+pub stands_all : (q r s : RequestReader) → r.limits ≡ q.limits → SameStanding q r → r.fault ≡ None → s.fault ≡ r.fault → s.limits ≡ r.limits → Halts r s
+    → (cs : List Command) (bytes : List ℕ) → Stands q cs bytes → AreAll q.limits bytes cs × Stands s cs bytes
+stands_all q r s before same e f limits h cs bytes stands =
+    let there = same cs bytes stands in
+    (subst (λ (l : Limits). AreAll l bytes cs) before (are_all r.limits (going r) cs bytes h.unfinished (to_going r cs bytes e there)), stands_same r s e f limits h.same cs bytes there)
 
--- the same, of a reader that stood so before
-pub follows_from : (e : Stop) (q r s : RequestReader) → r.limits ≡ q.limits → SameStanding q r → FollowsStop e r s → FollowsStop e q s
-follows_from stops.Short q r s limits same h = λ cs bytes stands.
-    let there = h cs bytes (same cs bytes stands) in
-    (subst (λ (l : Limits). AreAll l bytes cs) limits there.0, there.1)
-follows_from (stops.Fault g) q r s limits same h = λ cs bytes stands.
-    subst (λ (l : Limits). AreBeforeFault l bytes cs g) limits (h cs bytes (same cs bytes stands))
-follows_from stops.Memory q r s limits same h = λ cs bytes stands. h cs bytes (same cs bytes stands)
+-- and where a fault is read
+pub stands_before : (q r : RequestReader) (g : Fault) → r.limits ≡ q.limits → SameStanding q r → r.fault ≡ None → going r [] ≡ Err (fault g)
+    → (cs : List Command) (bytes : List ℕ) → Stands q cs bytes → AreBeforeFault q.limits bytes cs g
+stands_before q r g before same e bad cs bytes stands =
+    subst (λ (l : Limits). AreBeforeFault l bytes cs g) before (are_before r.limits (going r) cs bytes g bad (to_going r cs bytes e (same cs bytes stands)))
 
 -- a command that was handed out is the next one
 pub stands_next : (s : RequestReader) (cs : List Command) (c : Command) (bytes : List ℕ) → s.fault ≡ None → Stands s (cs ++ c ∷ []) bytes → IsNext s.limits bytes cs c

@@ -3,6 +3,10 @@ use Rattle.std.proofs.Common.{◌≡◌, ℕ, zero, ◌<◌, ◌≤◌, ◌==◌
 use Rattle.std.proofs.lemmas.List.{take_rest}
 use Rattle.std.proofs.lemmas.Bool.Decides.{nat_tests}
 use Rattle.resp_requests.specs.Words.{is_space, ends_word, Place, between, plain, double, single, Effect, nothing, more, ended, Step, on, in_word, is_escaped_quote, step, does, split}
+use Rattle.resp_requests.specs.declared.stop.Stop.{Stop}
+use Rattle.resp_requests.specs.declared.stop.Stop.TheVariants as stops
+use Rattle.resp_requests.specs.Given.{Leaves}
+use Rattle.resp_requests.specs.WordParts.{ends_at}
 use Rattle.resp_requests.specs.WordRuns.{put_before, worded, after_words}
 
 -- a byte more of the word
@@ -114,20 +118,6 @@ pub none_at_end : split between zero [] ≡ Some []
 unfolding split
 none_at_end = refl
 
-one_before : (b : ℕ) (r : Option (List (List ℕ))) → does (more b) r ≡ put_before (b ∷ []) r
-one_before b None = refl
-one_before b (Some []) = refl
-one_before b (Some (w ∷ ws)) = refl
-
-pub word_begins_plain : (b : ℕ) (bs : List ℕ) → is_space b ≡ false → (b == 34) ≡ false → (b == 39) ≡ false → split between zero (b ∷ bs) ≡ put_before (b ∷ []) (split plain zero bs)
-word_begins_plain b bs e p q = word_begins b bs e ∙ plain_more b bs (space_or_not b e) p q ∙ one_before b (split plain zero bs)
-
-pub word_begins_double : (bs : List ℕ) → split between zero (34 ∷ bs) ≡ split double zero bs
-word_begins_double bs = word_begins 34 bs refl ∙ plain_double bs
-
-pub word_begins_single : (bs : List ℕ) → split between zero (39 ∷ bs) ≡ split single zero bs
-word_begins_single bs = word_begins 39 bs refl ∙ plain_single bs
-
 -- what is behind the first k bytes, as the code takes it
 abbrev pub tail_of : ℕ → List ℕ → List ℕ
 tail_of k bs = take (length bs - k) (drop k bs)
@@ -207,12 +197,21 @@ between_end_at bs h = at_end between bs _ h none_at_end
 pub between_space_at : (bs : List ℕ) → 1 ≤ length bs → is_space (get_or bs 0 0) ≡ true → (split between zero bs ≡ split between zero (tail_of 1 bs)) × (length (tail_of 1 bs) < length bs)
 between_space_at bs h e = at_byte between _ bs _ h refl (space_goes _ _ e)
 
-pub between_byte_at : (bs : List ℕ) → 1 ≤ length bs → (get_or bs 0 0 == 34) ≡ false → (get_or bs 0 0 == 39) ≡ false → is_space (get_or bs 0 0) ≡ false
-    → (split between zero bs ≡ put_before (get_or bs 0 0 ∷ []) (split plain zero (tail_of 1 bs))) × (length (tail_of 1 bs) < length bs)
-between_byte_at bs h p q e = at_byte between _ bs _ h refl (word_begins_plain _ _ e p q)
+-- where a word begins
+pub between_word_at : (bs : List ℕ) → 1 ≤ length bs → is_space (get_or bs 0 0) ≡ false → (split between zero bs ≡ split plain zero bs) × (ends_at bs ≡ false)
+between_word_at [] h e = absurd (omega arith)
+between_word_at (b ∷ bs) h e = (word_begins b bs e, space_or_not b e)
 
-pub between_double_at : (bs : List ℕ) → 1 ≤ length bs → get_or bs 0 0 ≡ 34 → (split between zero bs ≡ split double zero (tail_of 1 bs)) × (length (tail_of 1 bs) < length bs)
-between_double_at bs h e = at_byte between 34 bs _ h e (word_begins_double _)
+-- words that are missing in a word are missing in its line
+pub word_missing : (e : Stop) (front : List (List ℕ)) (w : List ℕ) (words rest : Option (List (List ℕ))) → words ≡ after_words front rest → w ≡ [] → Leaves e (put_before w rest) → Leaves e words
+word_missing stops.Memory front w words rest is none h = tt
+word_missing stops.Short front w words rest is none h = h
+word_missing (stops.Fault f) front w words rest is none h =
+    (h.0, is ∙ ap (after_words front) (sym (ap (λ (x : List ℕ). put_before x rest) none) ∙ h.1) ∙ after_none front)
 
-pub between_single_at : (bs : List ℕ) → 1 ≤ length bs → get_or bs 0 0 ≡ 39 → (split between zero bs ≡ split single zero (tail_of 1 bs)) × (length (tail_of 1 bs) < length bs)
-between_single_at bs h e = at_byte between 39 bs _ h e (word_begins_single _)
+-- and a word that is whole is one word more of it
+pub word_whole : (front all : List (List ℕ)) (w v : List ℕ) (words rest behind : Option (List (List ℕ))) → words ≡ after_words front rest → w ≡ [] → put_before w rest ≡ worded v behind
+    → all ≡ front ++ v ∷ [] → words ≡ after_words all behind
+word_whole front all w v words rest behind is none word longer =
+    is ∙ ap (after_words front) (sym (ap (λ (x : List ℕ). put_before x rest) none) ∙ word) ∙ after_word front v behind
+    ∙ ap (λ (ws : List (List ℕ)). after_words ws behind) (sym longer)

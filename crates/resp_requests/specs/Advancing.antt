@@ -1,13 +1,13 @@
 -- What a step of a reader does.
-use Rattle.std.specs.Prelude.{◌≡◌, ℕ, ◌<◌, ◌==◌, false, List, [], ◌∷◌, ◌++◌, length, Option, Some, None, Result, Ok, Err, Vec}
+use Rattle.std.specs.Prelude.{◌≡◌, ℕ, ◌<◌, ◌==◌, false, List, [], ◌∷◌, ◌++◌, Option, Some, None, Result, Ok, Err, Vec}
 use Rattle.std.specs.Global.{Global}
 use Rattle.resp_requests.specs.declared.stop.Stop.{Stop}
 use Rattle.resp_requests.specs.declared.stop.Stop.TheVariants as stops
 use Rattle.resp_requests.specs.declared.reader.RequestReader.{RequestReader}
-use Rattle.resp_requests.specs.Gaps.{Gap, short, fault}
+use Rattle.resp_requests.specs.Gaps.{short, fault}
 use Rattle.resp_requests.specs.Given.{texts}
 use Rattle.resp_requests.specs.Requests.{Command}
-use Rattle.resp_requests.specs.Standing.{waiting, going, Stands, AreAll, AreBeforeFault}
+use Rattle.resp_requests.specs.Standing.{waiting, going, Stands}
 
 -- whatever is fed, the same is read next
 abbrev pub SameNext : RequestReader → RequestReader → Type 0
@@ -38,6 +38,15 @@ abbrev pub SameStanding : RequestReader → RequestReader → Type 0
 SameStanding old new = (commands : List Command) (bytes : List ℕ)
     → Stands old commands bytes → Stands new commands bytes
 
+-- the bytes that are kept, what was told and the limits are the same
+abbrev pub SameBytes : RequestReader → RequestReader → Type 0
+SameBytes old new = (new.buffer ≡ old.buffer) × (new.fault ≡ old.fault) × (new.limits ≡ old.limits)
+
+-- the front is behind what was read, or where it was
+abbrev pub FrontMoves : {A E : Type 0} → Result A E → RequestReader → RequestReader → Type 0
+FrontMoves (Ok x) old new = old.front < new.front
+FrontMoves (Err e) old new = new.front ≡ old.front
+
 -- a star waits first
 abbrev pub StarWaits : RequestReader → Type 0
 StarWaits reader = (behind : List ℕ) × (waiting reader ≡ 42 ∷ behind)
@@ -45,16 +54,3 @@ StarWaits reader = (behind : List ℕ) × (waiting reader ≡ 42 ∷ behind)
 -- another byte waits first
 abbrev pub OtherWaits : RequestReader → Type 0
 OtherWaits reader = (b : ℕ) × (behind : List ℕ) × ((b == 42) ≡ false) × (waiting reader ≡ b ∷ behind)
-
--- Out of the same bytes one command more was handed out, or what is told of them is so.
-abbrev pub FollowsStop : Stop → RequestReader → RequestReader → Type 0
-FollowsStop stops.Short old new = (commands : List Command) (bytes : List ℕ) → Stands old commands bytes
-    → AreAll old.limits bytes commands × Stands new commands bytes
-FollowsStop (stops.Fault f) old new = (commands : List Command) (bytes : List ℕ) → Stands old commands bytes
-    → AreBeforeFault old.limits bytes commands f
-FollowsStop stops.Memory old new = SameStanding old new
-
-abbrev pub Follows : Result (Vec (Vec ℕ Global) Global) Stop → RequestReader → RequestReader → Type 0
-Follows (Ok command) old new = (0 < length command.items) × ((commands : List Command) (bytes : List ℕ)
-    → Stands old commands bytes → Stands new (commands ++ texts command.items ∷ []) bytes)
-Follows (Err e) old new = FollowsStop e old new

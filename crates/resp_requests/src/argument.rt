@@ -1,5 +1,5 @@
 //! The parts of an array: its count, and its arguments.
-ghost use Rattle.resp_requests.specs.Arrays.{within, count_in, length_in, count_at, text_at, argument_at};
+ghost use Rattle.resp_requests.specs.Arrays.{count_at, argument_at};
 ghost use Rattle.resp_requests.specs.Given.{Gives};
 ghost use Rattle.resp_requests.specs.Searches.{Unended};
 
@@ -10,39 +10,9 @@ use crate::number::{is_negative, number_of};
 use crate::stop::Stop;
 use std::alloc::Global;
 
-fn within(number: Option<u64>, most: usize, fault: Fault) -> Result<usize, Stop>
-    ensures { Gives (λ n. n) result (within number most fault) }
-{
-    match number {
-        Some(n) if n <= most as u64 => Ok(n as usize),
-        _ => Err(Stop::Fault(fault)),
-    }
-}
-
-#[tactic(auto, unfolding(crate::specs::Arrays::count_in))]
-fn count_in(digits: &[u8], most: usize) -> Result<usize, Stop>
-    ensures { Gives (λ n. n) result (count_in digits.now most) }
-{
-    if is_negative(digits) {
-        return Ok(0);
-    }
-    within(number_of(digits), most, Fault::BadCount)
-}
-
-#[tactic(auto, unfolding(crate::specs::Arrays::length_in))]
-fn length_in(line: &[u8], longest: usize) -> Result<usize, Stop>
-    ensures { Gives (λ n. n) result (length_in line.now longest) }
-{
-    match line {
-        [b'$', digits @ ..] => within(number_of(digits), longest, Fault::BadLength),
-        [byte, ..] => Err(Stop::Fault(Fault::NoDollar(*byte))),
-        [] => Err(Stop::Fault(Fault::NoDollar(b'\r'))),
-    }
-}
-
 /// How many arguments an array announces, and what is behind its line. The first `searched` bytes are not
 /// searched again, and it leaves how many were.
-#[tactic(auto, unfolding(crate::specs::Arrays::count_at))]
+#[tactic(auto, unfolding(crate::specs::Arrays::count_at, crate::specs::Arrays::count_in))]
 pub(crate) fn count_of<'a>(
     bytes: &'a [u8],
     searched: &mut usize,
@@ -57,24 +27,18 @@ pub(crate) fn count_of<'a>(
         [_, digits @ ..] => digits,
         [] => line,
     };
-    Ok((count_in(digits, limits.most_arguments)?, rest))
-}
-
-/// So many bytes, and what is behind the two that follow them.
-#[tactic(auto, unfolding(crate::specs::Arrays::text_at))]
-fn text_of(alloc: Global, bytes: &[u8], length: usize) -> Result<(Vec<u8>, &[u8]), Stop>
-    ensures { Gives (λ x. (x.0.items, x.1.now)) result (text_at length bytes.now) }
-{
-    if bytes.len() < 2 || bytes.len() - 2 < length {
-        return Err(Stop::Short);
+    if is_negative(digits) {
+        return Ok((0, rest));
     }
-    let text = Vec::from_slice(alloc, &bytes[..length])?;
-    Ok((text, &bytes[length + 2..]))
+    match number_of(digits) {
+        Some(count) if count <= limits.most_arguments as u64 => Ok((count as usize, rest)),
+        _ => Err(Stop::Fault(Fault::BadCount)),
+    }
 }
 
 /// The argument at the front of the bytes, and what is behind it. The first `searched` bytes are not searched
 /// again for the end of its length, and it leaves how many were.
-#[tactic(auto, unfolding(crate::specs::Arrays::argument_at))]
+#[tactic(auto, unfolding(crate::specs::Arrays::argument_at, crate::specs::Arrays::length_in, crate::specs::Arrays::text_at))]
 pub(crate) fn argument_of<'a>(
     alloc: Global,
     bytes: &'a [u8],
@@ -86,5 +50,18 @@ pub(crate) fn argument_of<'a>(
     ensures searched { Unended 13 limits.longest_line bytes.now searched.new }
 {
     let (line, rest) = head_of(bytes, searched, limits.longest_line, Fault::LongLength)?;
-    text_of(alloc, rest, length_in(line, limits.longest_argument)?)
+    let digits = match line {
+        [b'$', digits @ ..] => digits,
+        [byte, ..] => return Err(Stop::Fault(Fault::NoDollar(*byte))),
+        [] => return Err(Stop::Fault(Fault::NoDollar(b'\r'))),
+    };
+    let length = match number_of(digits) {
+        Some(length) if length <= limits.longest_argument as u64 => length as usize,
+        _ => return Err(Stop::Fault(Fault::BadLength)),
+    };
+    if rest.len() < 2 || rest.len() - 2 < length {
+        return Err(Stop::Short);
+    }
+    let text = Vec::from_slice(alloc, &rest[..length])?;
+    Ok((text, &rest[length + 2..]))
 }

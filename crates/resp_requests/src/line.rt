@@ -1,5 +1,5 @@
 //! Lines.
-ghost use Rattle.std.specs.Prelude.{◌≡◌, ◌<◌, ◌≤◌, ◌==◌, false, length, slice_index, IsErrOf};
+ghost use Rattle.std.specs.Prelude.{◌≡◌, length, IsErrOf};
 ghost use Rattle.resp_requests.specs.declared.stop.Stop.TheVariants.{Short};
 ghost use Rattle.resp_requests.specs.Lines.{line_at, head_at};
 ghost use Rattle.resp_requests.specs.Searches.{Unended};
@@ -7,22 +7,6 @@ ghost use Rattle.resp_requests.specs.Given.{Gives};
 
 use crate::fault::Fault;
 use crate::stop::Stop;
-
-/// Where a line ends or is at fault, behind the first `searched` bytes; the number of all bytes where it goes on.
-fn stop_place(bytes: &[u8], searched: usize, end: u8, longest: usize) -> usize
-    requires { Unended end longest bytes.now searched }
-    ensures searched { Unended end longest bytes.now result }
-    ensures stops { result < length bytes.now → (slice_index bytes.now result == end) ≡ false
-        → (slice_index bytes.now result == 0) ≡ false → longest ≤ result }
-{
-    'bytes: for i in searched..bytes.len() {
-        let byte = bytes[i];
-        if byte == end || byte == 0 || i >= longest {
-            return i;
-        }
-    }
-    bytes.len()
-}
 
 /// The bytes before the first byte `end`, and those behind it. More than `longest` are the fault `long`.
 ///
@@ -41,19 +25,21 @@ pub(crate) fn line_of<'a>(
     // Where the line goes on, all was searched.
     ensures all { IsErrOf result Short → searched.new ≡ length bytes.now }
 {
-    let place = stop_place(bytes, *searched, end, longest);
-    *searched = place;
-    if place == bytes.len() {
-        return Err(Stop::Short);
+    'bytes: for i in *searched..bytes.len() {
+        let byte = bytes[i];
+        if byte == end {
+            *searched = i;
+            return Ok((&bytes[..i], &bytes[i + 1..]));
+        }
+        if byte == 0 {
+            return Err(Stop::Fault(Fault::ZeroByte));
+        }
+        if i >= longest {
+            return Err(Stop::Fault(long));
+        }
     }
-    let byte = bytes[place];
-    if byte == end {
-        return Ok((&bytes[..place], &bytes[place + 1..]));
-    }
-    if byte == 0 {
-        return Err(Stop::Fault(Fault::ZeroByte));
-    }
-    Err(Stop::Fault(long))
+    *searched = bytes.len();
+    Err(Stop::Short)
 }
 
 /// The bytes before the first CR, and those behind the byte that follows it; searched as a line is.

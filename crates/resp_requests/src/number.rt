@@ -1,22 +1,15 @@
 //! Numbers as a Redis server reads them.
 ghost use Rattle.std.specs.Prelude.{◌≡◌};
-ghost use Rattle.resp_requests.specs.Numbers.{is_well_led, number_in, is_negative};
+ghost use Rattle.resp_requests.specs.Numbers.{number_in, is_negative};
 
-fn is_well_led(digits: &[u8]) -> bool
-    ensures { result ≡ is_well_led digits.now }
-{
-    match digits {
-        [] => false,
-        [_] => true,
-        [first, _, rest @ ..] => *first != b'0' && rest.len() <= 17,
-    }
-}
-
-/// The number that the digits write.
+/// The number that the digits write: no zero stands before others, and they are 19 at most.
 pub(crate) fn number_of(digits: &[u8]) -> Option<u64>
     ensures { result ≡ number_in digits.now }
 {
-    if !is_well_led(digits) {
+    if digits.is_empty() || digits.len() > 19 {
+        return None;
+    }
+    if digits.len() > 1 && digits[0] == b'0' {
         return None;
     }
     let mut value = 0u64;

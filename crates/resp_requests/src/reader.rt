@@ -43,7 +43,7 @@ impl RequestReader {
     ghost use Rattle.resp_requests.specs.Given.{texts};
     ghost use Rattle.resp_requests.specs.Requests.{Command};
     ghost use Rattle.resp_requests.specs.Standing.{Stands, IsNext, AreAll, AreBeforeFault, waiting, going, told, limits_of, kept, room};
-    ghost use Rattle.resp_requests.specs.Advancing.{Advances, SameStanding, Follows, StarWaits, OtherWaits};
+    ghost use Rattle.resp_requests.specs.Advancing.{Advances, FrontMoves, SameBytes, StarWaits, OtherWaits};
 
     /// A reader that was fed nothing, under the limits of Redis. It takes no memory.
     pub fn new(alloc: Global) -> RequestReader
@@ -151,30 +151,20 @@ impl RequestReader {
         if let Some(fault) = self.fault {
             return Err(RequestError::Protocol(fault));
         }
-        match self.next_command() {
-            Ok(command) => Ok(Some(command)),
-            Err(Stop::Short) => Ok(None),
-            Err(Stop::Fault(fault)) => {
-                self.fault = Some(fault);
-                Err(RequestError::Protocol(fault))
-            }
-            Err(Stop::Memory) => Err(RequestError::Memory),
-        }
-    }
-
-    fn next_command(&mut self) -> Result<Vec<Vec<u8>>, Stop>
-        requires { self.old.fault ≡ None }
-        ensures follows { Follows result self.old self.new }
-        ensures due { IsErrOf result stops.Memory → self.new.front < vec_len self.new.buffer }
-        ensures buffer { self.new.buffer ≡ self.old.buffer }
-        ensures told { self.new.fault ≡ self.old.fault }
-        ensures limits { self.new.limits ≡ self.old.limits }
-    {
         'requests: loop {
-            if let Some(command) = self.advance()? {
-                if !command.is_empty() {
-                    return Ok(command);
+            match self.advance() {
+                Ok(Some(command)) => {
+                    if !command.is_empty() {
+                        return Ok(Some(command));
+                    }
                 }
+                Ok(None) => {}
+                Err(Stop::Short) => return Ok(None),
+                Err(Stop::Fault(fault)) => {
+                    self.fault = Some(fault);
+                    return Err(RequestError::Protocol(fault));
+                }
+                Err(Stop::Memory) => return Err(RequestError::Memory),
             }
         }
     }
@@ -184,9 +174,7 @@ impl RequestReader {
         ensures advances { Advances result self.old self.new }
         ensures moves { IfOk result (λ _. self.old.front < self.new.front) }
         ensures due { IsErrOf result stops.Memory → self.new.front < vec_len self.new.buffer }
-        ensures buffer { self.new.buffer ≡ self.old.buffer }
-        ensures told { self.new.fault ≡ self.old.fault }
-        ensures limits { self.new.limits ≡ self.old.limits }
+        ensures same { SameBytes self.old self.new }
     {
         if self.front == self.buffer.len() {
             return Err(Stop::Short);
@@ -205,19 +193,14 @@ impl RequestReader {
         requires between { self.old.missing ≡ 0 }
         requires star { StarWaits self.old }
         ensures advances { Advances result self.old self.new }
-        ensures moves { IfOk result (λ _. self.old.front < self.new.front) }
-        ensures stays { OnErr result (self.new.front ≡ self.old.front) }
-        ensures buffer { self.new.buffer ≡ self.old.buffer }
-        ensures told { self.new.fault ≡ self.old.fault }
-        ensures limits { self.new.limits ≡ self.old.limits }
+        ensures front { FrontMoves result self.old self.new }
+        ensures same { SameBytes self.old self.new }
     {
-        let alloc = *self.buffer.allocator();
-        let mut searched = self.searched;
-        let read = count_of(&self.buffer[self.front..], &mut searched, self.limits);
-        self.searched = searched;
-        let (count, rest) = read?;
+        let waiting = &self.buffer[self.front..];
+        let (count, rest) = count_of(waiting, &mut self.searched, self.limits)?;
         self.front = self.buffer.len() - rest.len();
         self.searched = 0;
+        let alloc = *self.buffer.allocator();
         if count == 0 {
             return Ok(Some(Vec::new(alloc)));
         }
@@ -229,18 +212,12 @@ impl RequestReader {
     fn take_argument(&mut self) -> Result<Option<Vec<Vec<u8>>>, Stop>
         requires { 0 < self.old.missing }
         ensures advances { Advances result self.old self.new }
-        ensures moves { IfOk result (λ _. self.old.front < self.new.front) }
-        ensures stays { OnErr result (self.new.front ≡ self.old.front) }
-        ensures buffer { self.new.buffer ≡ self.old.buffer }
-        ensures told { self.new.fault ≡ self.old.fault }
-        ensures limits { self.new.limits ≡ self.old.limits }
+        ensures front { FrontMoves result self.old self.new }
+        ensures same { SameBytes self.old self.new }
     {
         let alloc = *self.buffer.allocator();
-        let mut searched = self.searched;
         let waiting = &self.buffer[self.front..];
-        let read = argument_of(alloc, waiting, &mut searched, self.limits);
-        self.searched = searched;
-        let (argument, rest) = read?;
+        let (argument, rest) = argument_of(alloc, waiting, &mut self.searched, self.limits)?;
         let left = rest.len();
         self.arguments.push(argument)?;
         self.front = self.buffer.len() - left;
@@ -255,21 +232,15 @@ impl RequestReader {
     fn take_line(&mut self) -> Result<Option<Vec<Vec<u8>>>, Stop>
         requires between { self.old.missing ≡ 0 }
         requires no_star { OtherWaits self.old }
-        ensures advances { Advances result self.old self.new }
-        ensures moves { IfOk result (λ _. self.old.front < self.new.front) }
-        ensures stays { OnErr result (self.new.front ≡ self.old.front) }
         // What waits of an unfinished line is not searched again.
         ensures searched { IsErrOf result Short → self.new.searched ≡ length (waiting self.new) }
-        ensures buffer { self.new.buffer ≡ self.old.buffer }
-        ensures told { self.new.fault ≡ self.old.fault }
-        ensures limits { self.new.limits ≡ self.old.limits }
+        ensures advances { Advances result self.old self.new }
+        ensures front { FrontMoves result self.old self.new }
+        ensures same { SameBytes self.old self.new }
     {
         let alloc = *self.buffer.allocator();
-        let mut searched = self.searched;
         let waiting = &self.buffer[self.front..];
-        let read = inline_of(alloc, waiting, &mut searched, self.limits);
-        self.searched = searched;
-        let (words, rest) = read?;
+        let (words, rest) = inline_of(alloc, waiting, &mut self.searched, self.limits)?;
         self.front = self.buffer.len() - rest.len();
         self.searched = 0;
         Ok(Some(words))

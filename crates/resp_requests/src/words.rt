@@ -1,10 +1,10 @@
 //! Inline requests: a line of words.
-ghost use Rattle.std.specs.Prelude.{◌≡◌, ◌≤◌, ◌<◌, [], ◌∷◌, zero, length, IfOk, IfSome, Some, IsErrOf};
+ghost use Rattle.std.specs.Prelude.{◌≡◌, ◌≤◌, ◌<◌, [], ◌∷◌, zero, false, length, IfOk, IfSome, Some, IsErrOf};
 ghost use Rattle.resp_requests.specs.declared.stop.Stop.TheVariants.{Short};
 ghost use Rattle.resp_requests.specs.Given.{Gives, Makes, texts};
 ghost use Rattle.resp_requests.specs.Words.{is_space, ends_word, hex_digit, hex_both, escaped, between, plain, double, single, split, does, more, words_in, is_escaped_quote};
 ghost use Rattle.resp_requests.specs.WordRuns.{put_before, worded};
-ghost use Rattle.resp_requests.specs.WordParts.{place_of, QuoteSteps, GoesOnAs, BeginsAs};
+ghost use Rattle.resp_requests.specs.WordParts.{place_of, QuoteSteps, GoesOnAs, EndsAs, ends_at};
 ghost use Rattle.resp_requests.specs.Requests.{closed_words, inline_at};
 ghost use Rattle.resp_requests.specs.Searches.{Unended};
 
@@ -177,7 +177,8 @@ enum Next<'a> {
 }
 
 fn in_plain(bytes: &[u8]) -> Next
-    ensures { GoesOnAs result bytes.now }
+    ensures goes { GoesOnAs result bytes.now }
+    ensures ends { EndsAs result bytes.now }
 {
     match bytes {
         [] => Next::End,
@@ -198,6 +199,7 @@ fn rest_of_word<'a>(word: &mut Vec<u8>, bytes: &'a [u8]) -> Result<&'a [u8], Sto
     ensures words { Makes (λ rest. worded word.new.items (split between zero rest.now)) result
         (put_before word.old.items (split plain zero bytes.now)) }
     ensures fewer { IfOk result (λ rest. length rest.now ≤ length bytes.now) }
+    ensures some { IfOk result (λ rest. ends_at bytes.now ≡ false → length rest.now < length bytes.now) }
 {
     let mut rest = bytes;
     'bytes: loop {
@@ -212,31 +214,6 @@ fn rest_of_word<'a>(word: &mut Vec<u8>, bytes: &'a [u8]) -> Result<&'a [u8], Sto
     }
 }
 
-// What a line begins with.
-enum First<'a> {
-    Blank(&'a [u8]),
-    Byte(u8, &'a [u8]),
-    Quote(Quote, &'a [u8]),
-    End,
-}
-
-fn first_of(bytes: &[u8]) -> First
-    ensures { BeginsAs result bytes.now }
-{
-    match bytes {
-        [] => First::End,
-        [b'"', behind @ ..] => First::Quote(Quote::Double, behind),
-        [b'\'', behind @ ..] => First::Quote(Quote::Single, behind),
-        [byte, behind @ ..] => {
-            if is_space(*byte) {
-                First::Blank(behind)
-            } else {
-                First::Byte(*byte, behind)
-            }
-        }
-    }
-}
-
 /// The words of a line.
 fn words_of(alloc: Global, line: &[u8]) -> Result<Vec<Vec<u8>>, Stop>
     ensures { Makes (λ words. Some (texts words.items)) result (words_in line.now) }
@@ -244,18 +221,12 @@ fn words_of(alloc: Global, line: &[u8]) -> Result<Vec<Vec<u8>>, Stop>
     let mut words = Vec::new(alloc);
     let mut rest = line;
     'words: loop {
-        match first_of(rest) {
-            First::End => return Ok(words),
-            First::Blank(behind) => rest = behind,
-            First::Byte(byte, behind) => {
+        match rest {
+            [] => return Ok(words),
+            [byte, behind @ ..] if is_space(*byte) => rest = behind,
+            _ => {
                 let mut word = Vec::new(alloc);
-                word.push(byte)?;
-                rest = rest_of_word(&mut word, behind)?;
-                words.push(word)?;
-            }
-            First::Quote(quote, behind) => {
-                let mut word = Vec::new(alloc);
-                rest = rest_of_quote(&mut word, quote, behind)?;
+                rest = rest_of_word(&mut word, rest)?;
                 words.push(word)?;
             }
         }

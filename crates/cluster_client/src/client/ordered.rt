@@ -8,7 +8,8 @@ ghost use Rattle.cluster_calls.specs.Links.Converted.{ValueMade};
 ghost use Rattle.cluster_calls.specs.Links.Happened.{Happened, LacksLate};
 ghost use Rattle.cluster_client.specs.Whole.{whole};
 
-use super::{ClusterClient, CommandCall};
+use super::ClusterClient;
+use crate::command_call::CommandCall;
 use cluster_routing::ReadRoutingStrategy;
 use resp_args::{Cmd, FromRedisValue};
 use resp_core::RedisError;
@@ -51,6 +52,7 @@ impl<L: ConnectionLike + Drop> ClusterClient<L> {
     {
         let call = CommandCall {
             command: cmd,
+            direction: None,
             order: Some(order),
             number,
         };

@@ -1,26 +1,27 @@
 //! A pipeline whose split commands may have several slots: each of these stands as its parts.
 ghost use Rattle.std.specs.List.{AllByRecursion};
-ghost use Rattle.std.specs.Prelude.{◌≡◌, ◌≢◌, ◌∷◌, ◌++◌, ℕ, suc, Bool, List, [], Ok, Err, None, Some, false, map, replicate, option_map, IfOk, IfErr, IfSome, OnOk};
+ghost use Rattle.std.specs.Prelude.{◌≡◌, ◌≢◌, ◌∷◌, ◌++◌, ℕ, suc, Bool, List, [], None, Some, false, map, replicate, option_map, IfOk, IfErr, IfSome, OnOk};
 ghost use Rattle.resp_core.specs.Errors.{at_position, by_cause};
 ghost use Rattle.resp_core.specs.declared.errors.redis_error.Cause.TheVariants.{Memory};
 ghost use Rattle.resp_args.specs.Packed.{sent};
+ghost use Rattle.cluster_routing.specs.Directions.{direction as direction_of, shown_direction};
 ghost use Rattle.cluster_routing.specs.Info.{shown_split};
-ghost use Rattle.cluster_routing.specs.Split.{IsOwnSplitting, parts_by_place};
+ghost use Rattle.cluster_routing.specs.Split.{IsOwnSplitting};
 ghost use Rattle.cluster_calls.specs.Calls.InParts.{first_unplaced, split_at};
 ghost use Rattle.cluster_calls.specs.Calls.Parts.{if_one_slot, parts_of, reads_several_slots, whole_part};
-ghost use Rattle.cluster_steps.specs.CodeParts.{part_targets, split_in, targets_by, targets_in};
+ghost use Rattle.cluster_steps.specs.CodeParts.{split_in, targets_in};
 ghost use Rattle.cluster_steps.specs.Joins.{HasRoom, shown_join};
 ghost use Rattle.cluster_steps.specs.WholeParts.{whole_at, whole_by};
 ghost use Rattle.cluster_client.specs.InParts.{AreInParts, AreReady, IsAdded, IsDirected, IsUnplaced, entry, entry_of, if_several_targets, joins_after, places_of, shown_joins};
 
 use crate::pipeline::parts::primary_route;
 use crate::pipeline::{Directed, PipelineCommand};
-use cluster_routing::{Route, SplitParts};
+use cluster_routing::{Direction, Route, SplitParts};
 use cluster_steps::join::Join;
 use cluster_steps::pipeline_reads::reads_several_slots;
-use cluster_steps::route::{Part, Target, Targets, push_split, targets_by, targets_of, whole_part};
+use cluster_steps::route::{Part, Target, Targets, push_split, targets_of, whole_part};
 use resp_args::Cmd;
-use resp_core::{Cause, RedisError};
+use resp_core::RedisError;
 use std::alloc::{AllocError, Global};
 
 /// The parts that go out for a pipeline's commands, and for each of these how the outcomes of its parts become
@@ -125,20 +126,23 @@ impl InParts {
         Ok(())
     }
 
-    /// Puts the command at this position behind what there is, by where it goes.
-    fn add_by_targets(
+    /// Puts the command at this position behind what there is, by the direction in which it goes.
+    fn add(
         &mut self,
         alloc: Global,
         position: usize,
         command: &Cmd,
-        targets: Targets,
+        direction: Direction,
     ) -> Result<(), RedisError>
-        requires targets { Ok (targets_in targets) ≡ part_targets (parts_of [] command.now 0) }
-        requires split { option_map shown_split (split_in targets) ≡ parts_by_place command.now.args [] }
+        requires { shown_direction direction ≡ direction_of command.now.args [] }
         ensures added { OnOk result
             ((ignored : Bool) → IsAdded position (entry command.now ignored) self.old self.new) }
         ensures refused { IfErr result (λ e. e ≢ by_cause Memory → IsUnplaced position command.now e) }
     {
+        let targets = match targets_of(command, direction, 0) {
+            Ok(targets) => targets,
+            Err(_) => return Err(RedisError::at_position(position)),
+        };
         let reads_several = reads_several_slots(alloc, command)?;
         if let Some(route) = one_route(&targets, reads_several) {
             self.add_whole(position, command, route)?;
@@ -150,49 +154,6 @@ impl InParts {
         self.add_parts(alloc, position, command, split)?;
         Ok(())
     }
-
-    /// Puts the command at this position behind what there is, by where it was found to go.
-    fn add(
-        &mut self,
-        alloc: Global,
-        position: usize,
-        command: &Cmd,
-        found: Result<Targets, RedisError>,
-    ) -> Result<(), RedisError>
-        requires targets { found ≢ Err (by_cause Memory)
-            → targets_by found ≡ part_targets (parts_of [] command.now 0) }
-        requires split { IfOk found
-            (λ t. option_map shown_split (split_in t) ≡ parts_by_place command.now.args []) }
-        ensures added { OnOk result
-            ((ignored : Bool) → IsAdded position (entry command.now ignored) self.old self.new) }
-        ensures refused { IfErr result (λ e. e ≢ by_cause Memory → IsUnplaced position command.now e) }
-    {
-        match found {
-            Ok(targets) => self.add_by_targets(alloc, position, command, targets),
-            Err(e) => {
-                if e.is_memory() {
-                    Err(e)
-                } else {
-                    Err(RedisError::at_position(position))
-                }
-            }
-        }
-    }
-}
-
-/// Where the parts of a command go whose direction is known.
-fn targets_of_directed(directed: &Directed<'_>) -> Result<Targets, RedisError>
-    requires { IsDirected directed.now }
-    ensures targets { result ≢ Err (by_cause Memory)
-        → targets_by result ≡ part_targets (parts_of [] directed.now.command.now 0) }
-    ensures split { IfOk result
-        (λ t. option_map shown_split (split_in t) ≡ parts_by_place directed.now.command.now.args []) }
-{
-    if directed.command.is_no_response() {
-        return Err(RedisError::from(Cause::NoResponse));
-    }
-    let targets = targets_by(directed.direction.clone()?, 0)?;
-    Ok(targets)
 }
 
 /// The parts that go out for a pipeline's commands. Where each goes is looked up once.
@@ -213,7 +174,8 @@ pub(crate) fn commands_in_parts(
     };
     'commands: for (position, command) in commands.iter().enumerate() {
         let command = &command.command;
-        all.add(alloc, position, command, targets_of(alloc, command, &[], 0))?;
+        let direction = Direction::for_routable(alloc, command, &[])?;
+        all.add(alloc, position, command, direction)?;
     }
     Ok(all)
 }
@@ -233,12 +195,8 @@ pub(crate) fn directed_in_parts(
         joins: Vec::new(alloc),
     };
     'commands: for (position, directed) in commands.iter().enumerate() {
-        all.add(
-            alloc,
-            position,
-            directed.command,
-            targets_of_directed(directed),
-        )?;
+        let direction = directed.direction.clone()?;
+        all.add(alloc, position, directed.command, direction)?;
     }
     Ok(all)
 }

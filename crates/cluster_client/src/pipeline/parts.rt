@@ -10,9 +10,9 @@ ghost use Rattle.cluster_steps.specs.FirstPlaces.{part_of, target_of};
 ghost use Rattle.cluster_steps.specs.WholeParts.{parts_found, whole_at, whole_by};
 
 use crate::pipeline::PipelineCommand;
-use cluster_routing::{Route, SlotAddr};
+use cluster_routing::{Direction, Route, SlotAddr};
 use cluster_steps::pipeline_reads::reads_several_slots;
-use cluster_steps::route::{self, Part, Target, Targets, targets_of};
+use cluster_steps::route::{Part, Target, Targets, targets_of, whole_part};
 use resp_args::Cmd;
 use resp_core::RedisError;
 use std::alloc::Global;
@@ -23,45 +23,15 @@ pub(crate) fn primary_route(targets: &Targets) -> Option<Route>
     ensures { (args : List (List ℕ))
         → option_map (whole_by args) result ≡ whole_at args (targets_in targets.now) }
 {
-    match targets {
-        Targets::Whole(target) => primary_of(target),
-        Targets::Split(split) => one_primary(&split.routes),
-    }
-}
-
-/// The route to the primary of a target's slot.
-fn primary_of(target: &Target) -> Option<Route>
-    ensures { (args : List (List ℕ))
-        → option_map (whole_by args) result ≡ if_at_slot args (target_of target.now) }
-{
-    match target {
-        Target::Slot(route) => Some(Route::new(route.slot(), SlotAddr::Master)),
-        Target::Number(_) => None,
-    }
-}
-
-/// The route to the primary of the one slot of these routes; none where there are several.
-fn one_primary(routes: &[(Route, Vec<usize>)]) -> Option<Route>
-    ensures { (args : List (List ℕ))
-        → option_map (whole_by args) result ≡ whole_at args (map route_target (shown_parts routes.now)) }
-{
-    match routes {
-        [route] => Some(Route::new(route.0.slot(), SlotAddr::Master)),
-        _ => None,
-    }
-}
-
-/// The route to the primary of the one slot that a command goes to whole; none for any other command.
-fn route_of_parts(alloc: Global, command: &Cmd) -> Result<Option<Route>, RedisError>
-    ensures route { IfOk result
-        (λ o. option_map (whole_by (sent command.now)) o
-        ≡ whole_part (sent command.now) (parts_of [] command.now 0)) }
-    ensures only { IfErr result (λ e. e ≡ by_cause Memory) }
-{
-    match targets_of(alloc, command, &[], 0) {
-        Ok(targets) => Ok(primary_route(&targets)),
-        Err(e) => { if e.is_memory() { Err(e) } else { Ok(None) } }
-    }
+    let route = match targets {
+        Targets::Whole(Target::Slot(route)) => *route,
+        Targets::Whole(Target::Number(_)) => return None,
+        Targets::Split(split) => match split.routes.as_slice() {
+            [route] => route.0,
+            _ => return None,
+        },
+    };
+    Some(Route::new(route.slot(), SlotAddr::Master))
 }
 
 /// The route to the primary of the one slot that a command goes to whole; none for one that does not, or reads
@@ -75,21 +45,11 @@ pub(crate) fn whole_route(alloc: Global, command: &Cmd) -> Result<Option<Route>,
     if reads_several_slots(alloc, command)? {
         return Ok(None);
     }
-    route_of_parts(alloc, command)
-}
-
-/// The part that a command is whole; none for one that does not go whole to one slot, or reads streams of
-/// several.
-fn whole_part(alloc: Global, command: &Cmd) -> Result<Option<Part>, RedisError>
-    ensures part { IfOk result (λ o. option_map part_of o
-        ≡ if_one_slot (reads_several_slots command.now.args)
-        (whole_part (sent command.now) (parts_of [] command.now 0))) }
-    ensures only { IfErr result (λ e. e ≡ by_cause Memory) }
-{
-    let Some(route) = whole_route(alloc, command)? else {
-        return Ok(None);
-    };
-    Ok(Some(route::whole_part(command, Target::Slot(route))?))
+    let direction = Direction::for_routable(alloc, command, &[])?;
+    match targets_of(command, direction, 0) {
+        Ok(targets) => Ok(primary_route(&targets)),
+        Err(_) => Ok(None),
+    }
 }
 
 /// The parts of a pipeline's commands, in order.
@@ -105,9 +65,10 @@ pub(crate) fn pipeline_parts(
 {
     let mut parts = Vec::new(alloc);
     'commands: for (position, command) in commands.iter().enumerate() {
-        let Some(part) = whole_part(alloc, &command.command)? else {
+        let Some(route) = whole_route(alloc, &command.command)? else {
             return Err(RedisError::at_position(position));
         };
+        let part = whole_part(&command.command, Target::Slot(route))?;
         parts.push(part)?;
     }
     Ok(parts)

@@ -23,7 +23,7 @@ use crate::pipeline::{ClusterPipeline, PipelineCommand};
 use cluster_steps::dispatch::{Dispatch, dispatches};
 use cluster_steps::drawn::{Answered, drawn};
 use cluster_steps::exchange::exchange;
-use cluster_steps::grouped::{grouped, places_of};
+use cluster_steps::grouped::{NumberedGroups, grouped};
 use cluster_steps::picker::Picker;
 use cluster_steps::ready::NodeRequests;
 use cluster_steps::route::Part;
@@ -31,6 +31,7 @@ use resp_args::{FromRedisValue, from_redis_value};
 use resp_core::{RedisError, Value};
 use resp_link::ConnectionLike;
 use std::alloc::Global;
+use std::collections::VecDeque;
 
 impl<L: ConnectionLike + Drop> ClusterClient<L> {
     /// Where each part of a pipeline goes, and room for all of them in the log.
@@ -57,28 +58,8 @@ impl<L: ConnectionLike + Drop> ClusterClient<L> {
         Ok(all)
     }
 
-    /// What is done for a pipeline before its first byte: where each command goes, and room for all of
-    /// them in the log.
-    pub(crate) fn pipeline_dispatches(
-        &mut self,
-        alloc: Global,
-        commands: &[PipelineCommand],
-    ) -> Result<Vec<Dispatch>, RedisError>
-        ensures stays { whole L.seen self.new ≡ with_log (whole L.seen self.old) [] [] }
-        ensures planned { result ≢ Err (by_cause Memory) → (strategy : Option Strategy)
-            → IsPlanned strategy (client_of (whole L.seen self.old)) (Pipeline commands.now) []
-            (dispatches_of result) }
-        ensures placed { IfOk result
-            (λ v. AllByRecursion (IsPlaced (nodes L.seen self.new.links.nodes.items)) v.items) }
-        ensures room { IfOk result (λ v. vec_len self.new.asked + vec_len v ≤ vec_capacity self.new.asked) }
-    {
-        begin(alloc, &mut self.asked, &mut self.picked);
-        let parts = pipeline_parts(alloc, commands)?;
-        self.dispatches_of_parts(alloc, parts)
-    }
-
     /// The replies to requests that go out over one link in one write. The log has room for them.
-    pub(crate) fn exchange_group(
+    fn exchange_group(
         &mut self,
         alloc: Global,
         group: NodeRequests,
@@ -112,7 +93,8 @@ impl<L: ConnectionLike + Drop> ClusterClient<L> {
         let mut answered = Vec::with_capacity(alloc, groups.len())?;
         'groups: for group in groups {
             let link = group.link;
-            let items = self.exchange_group(alloc, group)?;
+            let replies = self.exchange_group(alloc, group)?;
+            let items = VecDeque::from(replies);
             answered.push(Answered { link, items }).unwrap();
         }
         Ok(answered)
@@ -128,12 +110,12 @@ impl<L: ConnectionLike + Drop> ClusterClient<L> {
             → CallMade strategy (whole L.seen self.old) (whole L.seen self.new) (Pipeline commands.now)
             (value_answer (tree_result view result)) }
     {
-        let dispatches = self.pipeline_dispatches(alloc, commands)?;
-        let count = self.links.len();
-        let places = places_of(alloc, &dispatches)?;
-        let groups = grouped(alloc, count, dispatches)?.groups;
+        begin(alloc, &mut self.asked, &mut self.picked);
+        let parts = pipeline_parts(alloc, commands)?;
+        let dispatches = self.dispatches_of_parts(alloc, parts)?;
+        let NumberedGroups { groups, numbers } = grouped(alloc, self.links.len(), dispatches)?;
         let answered = self.exchange_all(alloc, groups)?;
-        let replies = drawn(alloc, count, &places, answered)?;
+        let replies = drawn(alloc, &numbers, answered)?;
         reply_of_pipeline(alloc, commands, replies)
     }
 }

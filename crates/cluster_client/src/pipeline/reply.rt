@@ -13,43 +13,19 @@ ghost use Rattle.cluster_calls.specs.Links.PipeReplies.{errors_in, pipeline_resu
 ghost use Rattle.cluster_calls.specs.Links.World.{tree_result};
 
 use crate::pipeline::PipelineCommand;
-use cluster_steps::reply::is_moved;
+use cluster_steps::reply::needs_refresh;
 use resp_core::{RedisError, ServerError, Value};
 use std::alloc::{AllocError, Global};
-
-/// Whether a reply is MOVED.
-fn some_moved(replies: &[Value]) -> bool
-    ensures { result ≡ list_any is_moved_tree (map view replies.now) }
-{
-    'replies: for reply in replies {
-        if is_moved(reply) {
-            return true;
-        }
-    }
-    false
-}
 
 /// Whether a refresh is needed after these replies.
 pub(crate) fn refresh_needed(flag: bool, replies: &[Value]) -> bool
     ensures { result ≡ (flag || list_any is_moved_tree (map view replies.now)) }
 {
-    flag || some_moved(replies)
-}
-
-/// Puts the first error in a reply behind these, where it holds one.
-fn add_error(
-    errors: &mut Vec<(usize, ServerError)>,
-    position: usize,
-    reply: &Value,
-) -> Result<(), AllocError>
-    ensures { OnOk result
-        (errors_at errors.new.items ≡ errors_at errors.old.items
-        ++ with_error position (first_error (view reply.now)) []) }
-{
-    if let Some(error) = reply.first_error() {
-        errors.push((position, error.clone()?))?;
+    let mut needed = flag;
+    'replies: for reply in replies {
+        needed = needs_refresh(needed, reply);
     }
-    Ok(())
+    needed
 }
 
 /// The first error in each reply that holds one, with the reply's position.
@@ -58,20 +34,11 @@ fn errors_in(alloc: Global, replies: &[Value]) -> Result<Vec<(usize, ServerError
 {
     let mut errors = Vec::new(alloc);
     'replies: for (position, reply) in replies.iter().enumerate() {
-        add_error(&mut errors, position, reply)?;
+        if let Some(error) = reply.first_error() {
+            errors.push((position, error.clone()?))?;
+        }
     }
     Ok(errors)
-}
-
-fn keep(replies: &mut Vec<Value>, reply: Value, ignored: bool) -> Result<(), AllocError>
-    ensures { OnOk result
-        (map view replies.new.items
-        ≡ (if ignored then map view replies.old.items else map view replies.old.items ++ view reply ∷ [])) }
-{
-    if !ignored {
-        replies.push(reply)?;
-    }
-    Ok(())
 }
 
 /// The replies to the commands that are not ignored.
@@ -88,7 +55,9 @@ fn not_ignored(
         let [command, others @ ..] = left else {
             return Ok(kept);
         };
-        keep(&mut kept, reply, command.ignored)?;
+        if !command.ignored {
+            kept.push(reply)?;
+        }
         left = others;
     }
     Ok(kept)

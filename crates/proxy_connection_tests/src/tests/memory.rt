@@ -1,8 +1,8 @@
 //! One request for memory is refused, whichever: `tools/refused-tests` plays each test once for each.
 use crate::tests::guests::{Core, Guest, LIMITS};
-use proxy_connection::{Connection, Progress};
+use proxy_connection::Connection;
 use proxy_core::{JoinRefusal, Proxy};
-use proxy_stubs::{Moving, Talk};
+use proxy_stubs::{Moving, Talk, goes_on};
 use resp_requests::Limits;
 use std::alloc::Global;
 use std::io::Print;
@@ -28,10 +28,8 @@ fn take_in<R: Print>(
     proxy: &mut Core,
 ) -> Result<(), Fail> {
     for _ in 0..9 {
-        match guest.advance(alloc, proxy) {
-            Ok(Progress::Taken) => {}
-            Ok(_) => break,
-            Err(_) => println!(rt; "refused advance")?,
+        if !goes_on(rt, guest.advance(alloc, proxy))? {
+            break;
         }
     }
     Ok(())

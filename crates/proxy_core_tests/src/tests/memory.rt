@@ -31,12 +31,7 @@ fn put<R: Print>(rt: &R, proxy: &mut Guests, guest: usize, key: u8) -> Result<()
 fn a_guest_takes_the_same_whichever_request_is_refused(rt: HostRuntime) -> Result<(), Fail> {
     let alloc = rt.alloc();
     let mut proxy: Guests = Proxy::new(alloc, LIMITS);
-    let mut servers = Moving {
-        key: 7,
-        fate: Fate::Redirected,
-        calls: 1,
-        first_only: true,
-    };
+    let mut servers = Moving::once_at_seven(Fate::Redirected, true);
     let guest = join(&rt, alloc, &mut proxy)?;
     for key in [7, 3, 7] {
         put(&rt, &mut proxy, guest, key)?;

@@ -29,6 +29,26 @@ pub(crate) struct Moving {
 }
 
 impl Moving {
+    /// Servers that answer every command.
+    pub(crate) fn answering() -> Moving {
+        Moving {
+            key: 0,
+            fate: Fate::Answered,
+            calls: 0,
+            first_only: false,
+        }
+    }
+
+    /// Servers that tell commands at key 7 this fate in their first call.
+    pub(crate) fn once_at_seven(fate: Fate, first_only: bool) -> Moving {
+        Moving {
+            key: 7,
+            fate,
+            calls: 1,
+            first_only,
+        }
+    }
+
     fn outcome(&self, command: &OnKey, met: bool) -> Outcome<Reply> {
         let is_moved = command.key == self.key && self.calls > 0 && !(met && self.first_only);
         if is_moved {

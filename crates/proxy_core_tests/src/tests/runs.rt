@@ -1,7 +1,7 @@
 //! A list of calls, and what each answers.
 use crate::tests::moving::{Moving, Reply};
 use crate::tests::turns::{Guests, LIMITS};
-use proxy_core::{Answer, Call, Entry, Fate, JoinRefusal, Proxy, Refusal};
+use proxy_core::{Answer, Call, Entry, JoinRefusal, Proxy, Refusal};
 use proxy_stubs::OnKey;
 use std::alloc::{AllocError, Global};
 use std::collections::VecDeque;
@@ -77,12 +77,7 @@ no guest; joined 0; nothing; put; turned; took 7; ";
 fn a_guest_that_does_not_read_costs_no_other(rt: HostRuntime) -> Result<(), Fail> {
     let alloc = rt.alloc();
     let mut proxy: Guests = Proxy::new(alloc, LIMITS);
-    let mut servers = Moving {
-        key: 0,
-        fate: Fate::Answered,
-        calls: 0,
-        first_only: false,
-    };
+    let mut servers = Moving::answering();
     let mut calls = calls(alloc)?;
     let mut answers = Vec::new(alloc);
     proxy.play(alloc, &mut servers, &mut calls, &mut answers)?;

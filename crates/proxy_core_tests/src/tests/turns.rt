@@ -33,12 +33,7 @@ fn take_all(proxy: &mut Guests, seen: &mut Vec<u8>) -> Result<(), Fail> {
 /// both take behind two turns.
 fn seen(alloc: Global, fate: Fate, first_only: bool) -> Result<Vec<u8>, Fail> {
     let mut proxy: Guests = Proxy::new(alloc, LIMITS);
-    let mut servers = Moving {
-        key: 7,
-        fate,
-        calls: 1,
-        first_only,
-    };
+    let mut servers = Moving::once_at_seven(fate, first_only);
     let mut refused: u8 = 0;
     for _ in 0..3 {
         refused = refused.saturating_add(u8::from(proxy.join(alloc).is_err()));

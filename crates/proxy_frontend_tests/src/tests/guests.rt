@@ -5,6 +5,7 @@ use proxy_frontend::{Answer, Call, Frontend, each_reads_its_own};
 use proxy_stubs::{Moving, OnKey, Talk};
 use std::alloc::{AllocError, Global};
 use std::collections::VecDeque;
+use std::process::Abort;
 use std::test::*;
 
 pub(crate) type Front = Frontend<Talk, OnKey, Vec<u8>>;
@@ -44,6 +45,18 @@ fn written(alloc: Global, front: &mut Front, guest: usize) -> Result<Vec<u8>, Al
     Ok(out)
 }
 
+/// What there is to write to a guest is this.
+fn reads<R: Abort>(
+    rt: &R,
+    alloc: Global,
+    front: &mut Front,
+    guest: usize,
+    wanted: &[u8],
+) -> Result<(), Fail> {
+    assert_eq!(rt; written(alloc, front, guest)?.as_slice(), wanted);
+    Ok(())
+}
+
 #[test]
 fn each_guest_reads_its_own(rt: HostRuntime) -> Result<(), Fail> {
     let alloc = rt.alloc();
@@ -64,20 +77,11 @@ fn each_guest_reads_its_own(rt: HostRuntime) -> Result<(), Fail> {
     }
     let mut servers = Moving::new();
     front.turn(alloc, &mut servers)?;
-    assert_eq!(rt;
-        written(alloc, &mut front, 1)?.as_slice(),
-        b"+PONG\r\n".as_slice()
-    );
-    assert_eq!(rt;
-        written(alloc, &mut front, 0)?.as_slice(),
-        b"+a\r\n+PONG\r\n".as_slice()
-    );
+    reads(&rt, alloc, &mut front, 1, b"+PONG\r\n")?;
+    reads(&rt, alloc, &mut front, 0, b"+a\r\n+PONG\r\n")?;
     assert_eq!(rt; front.held(1), 2);
     front.turn(alloc, &mut servers)?;
-    assert_eq!(rt;
-        written(alloc, &mut front, 1)?.as_slice(),
-        b"+m\r\n+OK\r\n".as_slice()
-    );
+    reads(&rt, alloc, &mut front, 1, b"+m\r\n+OK\r\n")?;
     assert!(rt; front.is_over(1));
     assert!(rt; !front.is_over(0));
     assert_eq!(rt; written(alloc, &mut front, 2)?.len(), 0);
@@ -106,14 +110,8 @@ fn who_takes_a_number_again_reads_nothing_of_the_one_before(rt: HostRuntime) -> 
     assert!(rt; front.translator(0).is_some());
     front.hear(0, b" d\r\nQUIT\r\n")?;
     assert_eq!(rt; take_in(alloc, &mut front, 0)?, Progress::Ended);
-    assert_eq!(rt;
-        written(alloc, &mut front, 0)?.as_slice(),
-        b"+PONG\r\n+OK\r\n".as_slice()
-    );
-    assert_eq!(rt;
-        written(alloc, &mut front, 1)?.as_slice(),
-        b"+c\r\n".as_slice()
-    );
+    reads(&rt, alloc, &mut front, 0, b"+PONG\r\n+OK\r\n")?;
+    reads(&rt, alloc, &mut front, 1, b"+c\r\n")?;
     Ok(())
 }
 

@@ -1,8 +1,7 @@
 //! One request for memory is refused, whichever: `tools/refused-tests` plays each test once for each.
 use crate::tests::guests::{Front, of_two};
-use proxy_connection::Progress;
 use proxy_core::JoinRefusal;
-use proxy_stubs::{Moving, Talk};
+use proxy_stubs::{Moving, Talk, goes_on};
 use std::alloc::Global;
 use std::io::Print;
 use std::process::Abort;
@@ -29,10 +28,8 @@ fn hear<R: Print>(rt: &R, front: &mut Front, guest: usize, piece: &[u8]) -> Resu
 
 fn take_in<R: Print>(rt: &R, alloc: Global, front: &mut Front, guest: usize) -> Result<(), Fail> {
     for _ in 0..9 {
-        match front.advance(alloc, guest) {
-            Ok(Progress::Taken) => {}
-            Ok(_) => break,
-            Err(_) => println!(rt; "refused advance")?,
+        if !goes_on(rt, front.advance(alloc, guest))? {
+            break;
         }
     }
     Ok(())

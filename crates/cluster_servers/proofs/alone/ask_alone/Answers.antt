@@ -10,9 +10,9 @@ pub returns : goal.returns
 returns g c =
     let seen = g.L.ConnectionLike.seen in
     record {
-      result = tree_result view c.query-told.result;
-      happened = c.query-told.ensures.happened;
-      made = made_alone (whole seen c.args.client.now) (whole seen c.query-told.new.self) c.args.command.now.command c.query-told.result c.query-told.ensures.answered;
-      fate = c.fate_alone-fate.ensures ∙ ap (λ log. fate_alone c.args.patient log (tree_result view c.query-told.result)) c.asked.ensures;
+      result = tree_result view c.query_directed-told.result;
+      happened = rw c.directed.ensures.command at c.query_directed-told.ensures.happened;
+      made = made_alone (whole seen c.args.client.now) (whole seen c.query_directed-told.new.self) c.args.command.now.command c.query_directed-told.result (rw c.directed.ensures.command at c.query_directed-told.ensures.answered);
+      fate = c.fate_alone-fate.ensures ∙ ap (λ log. fate_alone c.args.patient log (tree_result view c.query_directed-told.result)) c.asked.ensures;
       reply = c.new.ensures;
     }

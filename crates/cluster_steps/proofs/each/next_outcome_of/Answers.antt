@@ -1,6 +1,5 @@
-use Rattle.std.specs.Prelude.{slice_get}
 use Rattle.std.specs.VecDeque.{deque_items}
-use Rattle.std.proofs.Common.{◌≡◌, ◌∙◌, map, refl, sym, ap, subst, ◌<◌}
+use Rattle.std.proofs.Common.{◌∙◌, map, refl, ap, subst, ◌<◌}
 use Rattle.std.proofs.lemmas.List.{map-set}
 use Rattle.std.proofs.lemmas.Option.{slice_get_read}
 use Rattle.cluster_steps.specs.Each.{came_from, left_or_cause}

@@ -1,4 +1,4 @@
-use Rattle.std.proofs.Common.{◌∙◌, ◌∷◌, add-one, drop, drop-cons, get_or, map, arith, refl, sym, ap}
+use Rattle.std.proofs.Common.{◌∙◌, ◌∷◌, add-one, drop, drop-cons, get_or, arith, refl, sym, ap}
 use Rattle.std.proofs.lemmas.List.{map-append}
 use Rattle.std.proofs.lemmas.Grind.{common_steps}
 use Rattle.cluster_steps.proofs.Telling.{told_more}

@@ -1,4 +1,4 @@
-use Rattle.std.proofs.Common.{◌≡◌, ◌∙◌, Err, sym, ap}
+use Rattle.std.proofs.Common.{◌∙◌, Err, sym, ap}
 use Rattle.cluster_routing.specs.Directions.{parts_in, shown_direction}
 use Rattle.cluster_steps.specs.CodeParts.{targets_in_direction}
 use Rattle.cluster_steps.proofs.route.targets_by.Goals as goal

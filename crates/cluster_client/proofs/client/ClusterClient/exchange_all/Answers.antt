@@ -37,14 +37,14 @@ exchange_group-requires-clause-room g c =
     let room = rw steps at c.groups.invariant.log_room in
     first_room _ _ _ _ _ room c.in-Some.group.requests.ok.0
 
-pub returns-in_err-items : goal.returns-in_err-items
-returns-in_err-items g c =
-    let p = err_from_is_err_and c.from_residual-in_err-items.result c.from_residual-in_err-items.ensures.1 in
+pub returns-in_err-replies : goal.returns-in_err-replies
+returns-in_err-replies g c =
+    let p = err_from_is_err_and c.from_residual-in_err-replies.result c.from_residual-in_err-replies.ensures.1 in
     let steps : into_iter_items c.groups.group-iterator ≡ c.in-Some.group ∷ into_iter_items c.next.new.self = c.in-Some.ensures.steps.0 in
     let placed = rw steps at c.groups.invariant.placed in
     let loop = rw steps at c.groups.invariant.loop in
-    rw (p.1, p.2) (groups_failed _ _ _ _ (group_of c.in-Some.group) _ _ loop (still_grouped loop _ placed.0) _ c.in_err-items.ensures.exchanged
-    (grown_by _ _ _ _ _ c.groups.self.asked.ok.0 c.exchange_group.new.self.asked.ok.0 (c.in_err-items.ensures.log_len ∙ ap (λ n. c.groups.self.asked.len + n) c.in-Some.group.requests.ok.0)))
+    rw (p.1, p.2) (groups_failed _ _ _ _ (group_of c.in-Some.group) _ _ loop (still_grouped loop _ placed.0) _ c.in_err-replies.ensures.exchanged
+    (grown_by _ _ _ _ _ c.groups.self.asked.ok.0 c.exchange_group.new.self.asked.ok.0 (c.in_err-replies.ensures.log_len ∙ ap (λ n. c.groups.self.asked.len + n) c.in-Some.group.requests.ok.0)))
 
 pub returns : goal.returns
 returns g c =
@@ -58,8 +58,8 @@ groups-preserved g c =
     let loop = rw steps at c.groups.invariant.loop in
     let room = rw steps at c.groups.invariant.log_room in
     record {
-      loop = rw (c.push.ensures.items, c.unwrap.ensures, map-append) (groups_more _ _ _ _ (group_of c.in-Some.group) _ _ loop (still_grouped loop _ placed.0) _ c.in_ok-items.ensures.exchanged);
+      loop = rw (c.push.ensures.items, c.unwrap.ensures, map-append, c.from-items.ensures.0) (groups_more _ _ _ _ (group_of c.in-Some.group) _ _ loop (still_grouped loop _ placed.0) _ c.in_ok-replies.ensures.exchanged);
       placed = placed.1;
       room = grind (arith, common_steps);
-      log_room = room_behind _ _ _ _ _ _ _ room c.in-Some.group.requests.ok.0 c.in_ok-items.ensures.log_len c.in_ok-items.ensures.log_capacity;
+      log_room = room_behind _ _ _ _ _ _ _ room c.in-Some.group.requests.ok.0 c.in_ok-replies.ensures.log_len c.in_ok-replies.ensures.log_capacity;
     }

@@ -1,4 +1,4 @@
-use Rattle.std.proofs.Common.{◌≡◌, [], Err, refl, map}
+use Rattle.std.proofs.Common.{◌≡◌, [], refl, map}
 use Rattle.std.proofs.lemmas.Result.{err_from_is_err_and}
 use Rattle.cluster_calls.specs.Links.Run.{with_log}
 use Rattle.cluster_client.specs.InParts.{entry_of}

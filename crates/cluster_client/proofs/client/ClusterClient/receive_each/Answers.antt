@@ -1,10 +1,7 @@
-use Rattle.std.specs.List.{AllByRecursion}
 use Rattle.std.specs.Vec.Iter.{into_iter_items}
-use Rattle.std.specs.VecDeque.{deque_items}
-use Rattle.std.proofs.Common.{◌≡◌, ◌<◌, ◌≤◌, ◌+◌, ◌∙◌, [], ◌∷◌, ◌++◌, map, length, vec_len, refl, sym, ap, subst, arith}
+use Rattle.std.proofs.Common.{◌≡◌, ◌∙◌, [], ◌∷◌, sym, arith}
 use Rattle.std.proofs.lemmas.Grind.{common_steps}
 use Rattle.std.proofs.lemmas.List.{map-append, nil_from_length}
-use Rattle.cluster_steps.specs.Each.{left_or_cause}
 use Rattle.cluster_client.proofs.EachLoop.{each_done, each_more, each_start}
 use Rattle.cluster_client.proofs.client.ClusterClient.receive_each.Goals as goal
 

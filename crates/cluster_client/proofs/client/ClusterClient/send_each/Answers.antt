@@ -1,12 +1,12 @@
 use Rattle.std.specs.List.{AllByRecursion}
 use Rattle.std.specs.Vec.Iter.{into_iter_items}
-use Rattle.std.proofs.Common.{◌≡◌, ◌<◌, ◌≤◌, ◌+◌, ◌∙◌, [], ◌∷◌, ◌++◌, map, length, vec_len, refl, sym, ap, subst, arith}
+use Rattle.std.proofs.Common.{◌≡◌, ◌<◌, ◌∙◌, [], ◌∷◌, length, refl, sym, ap, subst, arith}
 use Rattle.std.proofs.lemmas.Grind.{common_steps}
 use Rattle.std.proofs.lemmas.List.{length-append, length-map, nil_from_length}
 use Rattle.cluster_steps.specs.Groups.{group_of}
 use Rattle.cluster_steps.proofs.PipeGroups.{all_mapped}
 use Rattle.cluster_client.proofs.EachLoop.{all_last, send_done, send_more, send_start, sums}
-use Rattle.cluster_client.proofs.Logged.{first_room, room_behind}
+use Rattle.cluster_client.proofs.Logged.{room_behind}
 use Rattle.cluster_client.proofs.client.ClusterClient.send_each.Goals as goal
 
 pub groups-init : goal.groups-init

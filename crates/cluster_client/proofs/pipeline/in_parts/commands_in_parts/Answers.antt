@@ -21,6 +21,6 @@ returns-in_err-add-clause-refused c =
     let at = c.commands.position in
     let x = c.index-commands-position.result in
     let next = next_entry all at x c.commands-test.true c.index-commands-position.is in
-    let p = err_from_is_err_and c.from_residual.result c.from_residual.ensures.1 in
+    let p = err_from_is_err_and c.from_residual-in_err-add.result c.from_residual-in_err-add.ensures.1 in
     rw (p.1, p.2) (λ m. let told = c.in_err-add.ensures.refused m in
     added_none all at x (drop (suc at) all) c.commands.all (subst (λ es. Added all at es c.commands.all) next c.commands.invariant) (subst (λ e. goes_to_slots e ≡ false) c.command.view_is told.0) ∙ ap Some (sym told.1))

@@ -1,4 +1,4 @@
-use Rattle.std.proofs.Common.{◌≡◌, ◌∙◌, ap}
+use Rattle.std.proofs.Common.{◌∙◌, ap}
 use Rattle.cluster_routing.specs.NodePlaces.{node_at}
 use Rattle.cluster_routing.specs.SlotMap.{SlotEntries}
 use Rattle.cluster_steps.proofs.NumberedPlaces.{numbered}

@@ -6,7 +6,7 @@ use Rattle.resp_requests.proofs.ReaderSteps.{ReadOf, read_of}
 use Rattle.resp_requests.specs.declared.reader.RequestReader.{RequestReader}
 use Rattle.resp_requests.specs.Arrays.{count_at}
 use Rattle.resp_requests.proofs.Parts.{count_took}
-use Rattle.resp_requests.proofs.Standings.{stops_as, fails_there, begun_empty, begun, array_stops, handed}
+use Rattle.resp_requests.proofs.Standings.{stops_there, begun_empty, begun, array_stops, handed}
 use Rattle.resp_requests.proofs.Searchings.{none_searched, ends_as, ends_back, star_end}
 use Rattle.resp_requests.proofs.reader.RequestReader.begin_array.Goals.{After-len}
 use Rattle.resp_requests.proofs.reader.RequestReader.begin_array.Goals as goal
@@ -22,8 +22,7 @@ returns-in_err-count-clause-advances c =
     let r = c.args.self.now in
     let stop = c.in_err-count.field-0.0 in
     let e = err_from_is_err_and c.from_residual.result c.from_residual.ensures.1 in
-    let fails = fails_there stop (count_at r.limits) _ (waiting r) (handed r _ c.deref.ensures.value) c.in_err-count.ensures.gives in
-    rw (e.1, e.2) (stops_as stop r _ (λ more. refl) (array_stops stop r c.requires.between c.requires.star fails))
+    rw (e.1, e.2) (stops_there stop r _ (count_at r.limits) _ (handed r _ c.deref.ensures.value) (λ more. refl) (array_stops stop r c.requires.between c.requires.star) c.in_err-count.ensures.gives)
 
 pub overflow_sub-self : goal.overflow_sub-self
 overflow_sub-self c = (taken (goal.at.overflow_sub-self c).After-len).enough
@@ -33,8 +32,8 @@ returns-then-count-eq0-clause-advances c =
     let t = taken (goal.at.returns-then-count-eq0-clause-advances c).After-len in
     begun_empty c.args.self.now _ c.in_ok-count.rest.now c.in_ok-count.count (texts c.new.result.items) c.requires.between c.requires.star t.is c.if-count-eq0.true (ap texts c.new.ensures.items) c.requires.between t.waits
 
-pub returns-then-count-eq0-clause-moves : goal.returns-then-count-eq0-clause-moves
-returns-then-count-eq0-clause-moves c = (taken (goal.at.returns-then-count-eq0-clause-moves c).After-len).moves
+pub returns-then-count-eq0-clause-front : goal.returns-then-count-eq0-clause-front
+returns-then-count-eq0-clause-front c = (taken (goal.at.returns-then-count-eq0-clause-front c).After-len).moves
 
 pub returns-clause-advances : goal.returns-clause-advances
 returns-clause-advances c =
@@ -44,17 +43,17 @@ returns-clause-advances c =
     let s : RequestReader = record { buffer = r.buffer; front = c.len.result - length rest; arguments = c.new-2.result; missing = c.in_ok-count.count; limits = r.limits; fault = r.fault; front_within = t.within; searched = 0; searches = none_searched _ _ _ } in
     begun r s rest c.in_ok-count.count c.requires.between c.requires.star t.is (omega arith) refl c.new-2.ensures.items refl t.waits
 
-pub returns-clause-moves : goal.returns-clause-moves
-returns-clause-moves c = (taken (goal.at.returns-clause-moves c).After-len).moves
+pub returns-clause-front : goal.returns-clause-front
+returns-clause-front c = (taken (goal.at.returns-clause-front c).After-len).moves
 
 pub invariant_of-self-2-clause-searches : goal.invariant_of-self-2-clause-searches
 invariant_of-self-2-clause-searches c = none_searched _ _ _
 
-pub count_of-read-requires : goal.count_of-read-requires
-count_of-read-requires c = ends_as c.args.self.now 13 (star_end c.args.self.now c.requires.between c.requires.star) _ (handed c.args.self.now _ c.deref.ensures.value)
+pub count_of-requires : goal.count_of-requires
+count_of-requires c = ends_as c.args.self.now 13 (star_end c.args.self.now c.requires.between c.requires.star) _ (handed c.args.self.now _ c.deref.ensures.value)
 
 pub invariant_of-self-clause-searches : goal.invariant_of-self-clause-searches
-invariant_of-self-clause-searches c = ends_back c.args.self.now 13 (star_end c.args.self.now c.requires.between c.requires.star) _ (handed c.args.self.now _ c.deref.ensures.value) _ c.count_of-read.ensures.searched
+invariant_of-self-clause-searches c = ends_back c.args.self.now 13 (star_end c.args.self.now c.requires.between c.requires.star) _ (handed c.args.self.now _ c.deref.ensures.value) _ c.count_of.ensures.searched
 
 pub invariant_of-self-then-count-eq0-clause-searches : goal.invariant_of-self-then-count-eq0-clause-searches
 invariant_of-self-then-count-eq0-clause-searches c = none_searched _ _ _

@@ -5,7 +5,7 @@ use Rattle.resp_requests.specs.Standing.{waiting}
 use Rattle.resp_requests.proofs.ReaderSteps.{ReadOf, read_of}
 use Rattle.resp_requests.specs.Requests.{inline_at}
 use Rattle.resp_requests.proofs.Parts.{inline_took}
-use Rattle.resp_requests.proofs.Standings.{stops_as, fails_there, line_taken, line_stops, handed}
+use Rattle.resp_requests.proofs.Standings.{stops_there, line_taken, line_stops, handed}
 use Rattle.resp_requests.proofs.Searchings.{none_searched, ends_as, ends_back, inline_end}
 use Rattle.resp_requests.proofs.reader.RequestReader.take_line.Goals.{After-len}
 use Rattle.resp_requests.proofs.reader.RequestReader.take_line.Goals as goal
@@ -21,8 +21,7 @@ returns-in_err-words-clause-advances c =
     let r = c.args.self.now in
     let stop = c.in_err-words.field-0.0 in
     let e = err_from_is_err_and c.from_residual.result c.from_residual.ensures.1 in
-    let fails = fails_there stop (inline_at r.limits) _ (waiting r) (handed r _ c.deref.ensures.value) c.in_err-words.ensures.gives in
-    rw (e.1, e.2) (stops_as stop r _ (λ more. refl) (line_stops stop r c.requires.between c.requires.no_star fails))
+    rw (e.1, e.2) (stops_there stop r _ (inline_at r.limits) _ (handed r _ c.deref.ensures.value) (λ more. refl) (line_stops stop r c.requires.between c.requires.no_star) c.in_err-words.ensures.gives)
 
 pub overflow_sub-self : goal.overflow_sub-self
 overflow_sub-self c = (taken (goal.at.overflow_sub-self c).After-len).enough
@@ -32,14 +31,14 @@ returns-clause-advances c =
     let t = taken (goal.at.returns-clause-advances c).After-len in
     line_taken c.args.self.now _ c.in_ok-words.rest.now (texts c.in_ok-words.words.items) c.requires.between c.requires.no_star t.is c.requires.between t.waits
 
-pub returns-clause-moves : goal.returns-clause-moves
-returns-clause-moves c = (taken (goal.at.returns-clause-moves c).After-len).moves
+pub returns-clause-front : goal.returns-clause-front
+returns-clause-front c = (taken (goal.at.returns-clause-front c).After-len).moves
 
-pub inline_of-read-requires : goal.inline_of-read-requires
-inline_of-read-requires c = ends_as c.args.self.now 10 (inline_end c.args.self.now c.requires.between c.requires.no_star) _ (handed c.args.self.now _ c.deref.ensures.value)
+pub inline_of-requires : goal.inline_of-requires
+inline_of-requires c = ends_as c.args.self.now 10 (inline_end c.args.self.now c.requires.between c.requires.no_star) _ (handed c.args.self.now _ c.deref.ensures.value)
 
 pub invariant_of-self-clause-searches : goal.invariant_of-self-clause-searches
-invariant_of-self-clause-searches c = ends_back c.args.self.now 10 (inline_end c.args.self.now c.requires.between c.requires.no_star) _ (handed c.args.self.now _ c.deref.ensures.value) _ c.inline_of-read.ensures.searched
+invariant_of-self-clause-searches c = ends_back c.args.self.now 10 (inline_end c.args.self.now c.requires.between c.requires.no_star) _ (handed c.args.self.now _ c.deref.ensures.value) _ c.inline_of.ensures.searched
 
 pub invariant_of-self-2-clause-searches : goal.invariant_of-self-2-clause-searches
 invariant_of-self-2-clause-searches c = none_searched _ _ _

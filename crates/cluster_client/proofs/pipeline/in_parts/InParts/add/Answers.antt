@@ -1,25 +1,50 @@
-use Rattle.std.proofs.Common.{◌≡◌, [], None, false, refl}
-use Rattle.resp_core.specs.Errors.{by_cause}
-use Rattle.resp_core.specs.declared.errors.redis_error.Cause.TheVariants.{Memory}
+use Rattle.std.specs.Prelude.{option_map}
+use Rattle.std.proofs.Common.{◌∙◌, ◌≡◌, [], None, false, refl, ap, sym}
 use Rattle.resp_args.specs.Packed.{sent}
-use Rattle.cluster_calls.specs.Calls.Parts.{parts_of, reads_several_slots}
-use Rattle.cluster_steps.proofs.PartTargets.{refused_targets}
-use Rattle.cluster_client.specs.InParts.{entry}
-use Rattle.cluster_client.proofs.InParts.{goes_as, none_split, unparted}
+use Rattle.cluster_routing.specs.Info.{shown_split}
+use Rattle.cluster_routing.proofs.DirectionViews.{own_splitting}
+use Rattle.cluster_calls.specs.Calls.InParts.{split_at}
+use Rattle.cluster_calls.specs.Calls.Parts.{if_one_slot, parts_of, reads_several_slots, whole_part}
+use Rattle.cluster_steps.specs.CodeParts.{split_in, targets_in}
+use Rattle.cluster_steps.specs.WholeParts.{whole_by}
+use Rattle.cluster_steps.proofs.PartTargets.{refused_targets, whole_by_targets}
+use Rattle.cluster_client.specs.InParts.{entry, places_of}
+use Rattle.cluster_client.proofs.InParts.{goes_as, none_split, several_is, split_by_targets, unparted}
 use Rattle.cluster_client.proofs.pipeline.in_parts.InParts.add.Goals as goal
 
-pub add_by_targets-requires-clause-targets : goal.add_by_targets-requires-clause-targets
-add_by_targets-requires-clause-targets c = rw c.in-Ok.is at (c.requires.targets (λ k. cc k))
-
-pub add_by_targets-requires-clause-split : goal.add_by_targets-requires-clause-split
-add_by_targets-requires-clause-split c = rw c.in-Ok.is at c.requires.split
-
-pub returns-else-is_memory : goal.returns-else-is_memory
-returns-else-is_memory c =
+pub returns-in-Err-clause-refused : goal.returns-in-Err-clause-refused
+returns-in-Err-clause-refused c m =
     let e = entry c.args.command.now false in
-    let told = refused_targets (parts_of [] e.command 0) c.in-Err.e (rw c.in-Err.is at (c.requires.targets (λ k. let same : c.in-Err.e ≡ by_cause Memory = cc in let yes = c.is_memory.ensures.1 same in absurd (cc (yes, c.if-is_memory.false))))) in
-    let nowhere = goes_as e None false (none_split e c.in-Err.e told) (unparted (reads_several_slots e.command.args) (sent e.command) (parts_of [] e.command 0) c.in-Err.e told) refl in
-    record {
-      added = tt;
-      refused = λ m. (nowhere, c.at_position.ensures);
-    }
+    let told = refused_targets (parts_of [] e.command 0) c.in-Err.field-0 (c.in-Err.ensures.targets [] c.requires) in
+    (goes_as e None false (none_split e c.in-Err.field-0 told) (unparted (reads_several_slots e.command.args) (sent e.command) (parts_of [] e.command 0) c.in-Err.field-0 told) refl, c.at_position.ensures)
+
+pub add_whole-requires : goal.add_whole-requires
+add_whole-requires c =
+    let command = c.args.command.now in
+    let several = c.in_ok-reads_several.reads_several in
+    sym (ap (option_map (whole_by (sent command))) c.in-Some.is) ∙ c.one_route.ensures (sent command)
+    ∙ ap (if_one_slot several) (whole_by_targets (sent command) (targets_in c.in-Ok.targets) (parts_of [] command 0) (c.in-Ok.ensures.targets [] c.requires))
+    ∙ ap (λ b. if_one_slot b (whole_part (sent command) (parts_of [] command 0))) c.in_ok-reads_several.ensures
+
+pub returns-in_default-several_slots-clause-refused : goal.returns-in_default-several_slots-clause-refused
+returns-in_default-several_slots-clause-refused c m =
+    let e = entry c.args.command.now false in
+    let several = c.in_ok-reads_several.reads_several in
+    let targets = c.in-Ok.ensures.targets [] c.requires in
+    let none : None ≡ places_of (split_at e) = sym (ap (option_map shown_split) c.in_default-several_slots.is) ∙ c.several_slots.ensures
+    ∙ split_by_targets e (targets_in c.in-Ok.targets) (option_map shown_split (split_in c.in-Ok.targets)) targets (c.in-Ok.ensures.split [] c.requires) in
+    let part = sym (ap (option_map (whole_by (sent e.command))) c.in_default.is) ∙ c.one_route.ensures (sent e.command)
+    ∙ ap (if_one_slot several) (whole_by_targets (sent e.command) (targets_in c.in-Ok.targets) (parts_of [] e.command 0) targets)
+    ∙ ap (λ b. if_one_slot b (whole_part (sent e.command) (parts_of [] e.command 0))) c.in_ok-reads_several.ensures in
+    (goes_as e None false none part refl, c.at_position-in_default-several_slots.ensures)
+
+pub add_parts-requires-clause-own : goal.add_parts-requires-clause-own
+add_parts-requires-clause-own c =
+    let some = several_is (targets_in c.in-Ok.targets) (option_map shown_split (split_in c.in-Ok.targets)) (shown_split c.in-Some-several_slots.split)
+    (sym (ap (option_map shown_split) c.in-Some-several_slots.is) ∙ c.several_slots.ensures) in
+    own_splitting [] c.args.command.now.args (shown_split c.in-Some-several_slots.split) (some ∙ c.in-Ok.ensures.split [] c.requires)
+
+pub add_parts-requires-clause-split : goal.add_parts-requires-clause-split
+add_parts-requires-clause-split c =
+    sym (ap (option_map shown_split) c.in-Some-several_slots.is) ∙ c.several_slots.ensures
+    ∙ split_by_targets (entry c.args.command.now false) (targets_in c.in-Ok.targets) (option_map shown_split (split_in c.in-Ok.targets)) (c.in-Ok.ensures.targets [] c.requires) (c.in-Ok.ensures.split [] c.requires)

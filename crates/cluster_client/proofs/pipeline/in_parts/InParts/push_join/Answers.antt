@@ -1,9 +1,7 @@
-use Rattle.std.specs.Prelude.{is_some, not, option_map}
-use Rattle.std.proofs.Common.{◌≡◌, ◌≢◌, ◌∙◌, false, List, [], map, Option, None, Some, length, refl, sym, ap, eqb-true}
+use Rattle.std.specs.Prelude.{is_some, not}
+use Rattle.std.proofs.Common.{◌≡◌, ◌∙◌, false, [], Option, None, Some, refl, sym, ap, eqb-true}
 use Rattle.std.proofs.lemmas.List.{nil_from_length}
-use Rattle.cluster_steps.specs.Joins.{shown_join}
-use Rattle.cluster_client.specs.InParts.{joined_by, shown_joins}
-use Rattle.cluster_client.proofs.InParts.{all_joined, one_more, pushed_join}
+use Rattle.cluster_client.proofs.InParts.{one_more}
 use Rattle.cluster_client.proofs.pipeline.in_parts.InParts.push_join.Goals as goal
 
 none_is : {A : Type 0} (o : Option A) → is_some o ≡ false → o ≡ None

@@ -1,0 +1,120 @@
+//! Commands whose direction is known: they are answered as by `query`.
+use clients_for_tests::*;
+use cluster_client::*;
+use std::alloc::Global;
+use std::process::Abort;
+use std::test::Fail;
+
+/// A command as words, and what the nodes of two halves reply behind the map.
+struct Row {
+    words: &'static str,
+    n1: &'static [u8],
+    n2: &'static [u8],
+}
+
+const ROWS: [Row; 4] = [
+    Row {
+        words: "GET a",
+        n1: b"",
+        n2: b"$1\r\nx\r\n",
+    },
+    Row {
+        words: "MGET b a b",
+        n1: b"*2\r\n$1\r\n1\r\n$1\r\n2\r\n",
+        n2: b"*1\r\n$1\r\n3\r\n",
+    },
+    Row {
+        words: "GET a",
+        n1: b"$1\r\ny\r\n",
+        n2: b"-MOVED 15495 n1:7001\r\n",
+    },
+    Row {
+        words: "KEYS *",
+        n1: b"",
+        n2: b"",
+    },
+];
+
+/// A client of two nodes, each of half the slots.
+fn client(alloc: Global, row: &Row) -> Result<Client, RedisError> {
+    let mut first = Vec::from_slice(
+        alloc,
+        b"*2\r\n*3\r\n:0\r\n:8191\r\n*2\r\n$2\r\nn1\r\n:7001\r\n*3\r\n:8192\r\n:16383\r\n*2\r\n$2\r\nn2\r\n:7002\r\n",
+    )?;
+    first.extend_from_slice(row.n1)?;
+    let mut links = Vec::new(alloc);
+    add_link(alloc, &mut links, "n1:7001", &first)?;
+    add_link(alloc, &mut links, "n2:7002", row.n2)?;
+    let mut client = ClusterClient::new(alloc, links, Vec::new(alloc), 3)?;
+    client.refresh(alloc, &node(alloc, "n1:7001")?)?;
+    Ok(client)
+}
+
+/// What a call answered, or the number of its refusal, and which nodes it asked.
+fn told(
+    alloc: Global,
+    client: &Client,
+    outcome: Result<Value, RedisError>,
+) -> Result<String, RedisError> {
+    let mut text = match outcome {
+        Ok(value) => format!(in alloc; "{value:?}")?,
+        Err(error) => format!(in alloc; "{:?}", error.kind())?,
+    };
+    for request in client.asked() {
+        text.push_str(" ")?;
+        text.push_str(request.node.host())?;
+    }
+    Ok(text)
+}
+
+fn by_query(alloc: Global, row: &Row) -> Result<String, RedisError> {
+    let mut client = client(alloc, row)?;
+    let outcome = client.query(alloc, &command_of(alloc, row.words)?, 0, None);
+    told(alloc, &client, outcome)
+}
+
+fn by_direction(alloc: Global, row: &Row) -> Result<String, RedisError> {
+    let mut client = client(alloc, row)?;
+    let command = command_of(alloc, row.words)?;
+    let direction = Direction::for_routable(alloc, &command, &[])?;
+    let directed = Directed {
+        command: &command,
+        direction: &direction,
+    };
+    let outcome = client.query_directed(alloc, &directed, 0, None);
+    told(alloc, &client, outcome)
+}
+
+#[test]
+fn a_known_direction_is_that_of_a_query(rt: HostRuntime) -> Result<(), Fail> {
+    let alloc = rt.alloc();
+    for row in &ROWS {
+        assert_eq!(rt;
+            by_direction(alloc, row)?.as_str(),
+            by_query(alloc, row)?.as_str()
+        );
+    }
+    assert_eq!(rt;
+        by_direction(alloc, &ROWS[2])?.as_str(),
+        "BulkString([121]) n2 n1"
+    );
+    Ok(())
+}
+
+/// A read goes to the replica that the strategy picks, though its direction is by no names that only read.
+#[test]
+fn a_read_with_a_known_direction_goes_to_a_replica(rt: HostRuntime) -> Result<(), Fail> {
+    let alloc = rt.alloc();
+    let mut client = client_of_replicas(alloc, WITH_REPLICAS, b"", b":4\r\n")?;
+    assert!(rt; is_refreshed(alloc, &mut client)?);
+    let command = get_a(alloc)?;
+    let direction = Direction::for_routable(alloc, &command, &[])?;
+    let directed = Directed {
+        command: &command,
+        direction: &direction,
+    };
+    let number: i64 = client.query_directed(alloc, &directed, 0, Some(&Nth::new(1)))?;
+    assert_eq!(rt; number, 4);
+    assert!(rt; is_last_asked(alloc, &client, "n4:7004")?);
+    Ok(())
+}
