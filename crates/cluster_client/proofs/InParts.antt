@@ -7,15 +7,14 @@ use Rattle.resp_core.specs.Trees.{Tree, nil}
 use Rattle.resp_core.specs.Trees as trees
 use Rattle.resp_core.specs.Errors.{Refusal, by_cause, at_position}
 use Rattle.resp_core.specs.declared.errors.redis_error.Cause.TheVariants.{Memory, NoResponse, CursorInSplit}
-use Rattle.resp_args.specs.Command.{Command, new_command}
+use Rattle.resp_args.specs.Command.{Command}
 use Rattle.resp_args.specs.Packed.{sent}
 use Rattle.cluster_routing.specs.Address.{Address, same_address}
 use Rattle.cluster_routing.specs.Choice.{Strategy}
 use Rattle.cluster_routing.specs.Command.{all_bytes}
-use Rattle.cluster_routing.specs.Routing.{Destination, to_any_node, to_any_primary, to_route, to_address, to_all_nodes, to_all_primaries, to_parts, route_to, role_of, name_of, destination}
-use Rattle.cluster_routing.specs.Split.{Split, PartsByPlace, split_of, split_by_place, parts_by_place, has_split_word, part_places, part_slots, sub, sub_at, with_texts}
+use Rattle.cluster_routing.specs.Routing.{Destination, to_any_node, to_any_primary, to_route, to_address, to_all_nodes, to_all_primaries, to_parts, route_to, name_of, destination}
+use Rattle.cluster_routing.specs.Split.{Split, PartsByPlace, split_of, split_by_place, parts_by_place, has_split_word, part_places, part_slots, sub}
 use Rattle.cluster_routing.specs.declared.route.Route.{Route}
-use Rattle.cluster_routing.specs.declared.route.SlotAddr.{SlotAddr}
 use Rattle.cluster_routing.specs.declared.route.SlotAddr.TheVariants.{Master}
 use Rattle.cluster_routing.proofs.PartPlaces.{subs_are_at_their_places}
 use Rattle.cluster_routing.specs.Lists.{concat}
@@ -24,8 +23,8 @@ use Rattle.cluster_calls.specs.Calls.Each.{each_of, outcome_of, position_exchang
 use Rattle.cluster_calls.specs.Calls.EachInParts.{AreOutcomesOf, IsMadeOf, each_plan, refusal_of_parts, reply_in_parts}
 use Rattle.cluster_calls.specs.Calls.InParts.{if_several, entries_by, first_unplaced, goes_to_slots, in_parts, part_entry, split_at, splits_in}
 use Rattle.cluster_calls.specs.Calls.Legal.{direct, node_groups}
-use Rattle.cluster_calls.specs.Calls.Parts.{Part, Target, at_slot, if_one_slot, is_gap, only_part, part_to, parts_of, pipeline_parts, result_then, role_by, split_parts, whole_part, with_whole, unless}
-use Rattle.cluster_calls.specs.Calls.Plan.{Client, Dispatch, dispatches, plan}
+use Rattle.cluster_calls.specs.Calls.Parts.{Part, Target, at_slot, if_one_slot, is_gap, only_part, part_to, parts_of, pipeline_parts, role_by, split_parts, whole_part, with_whole, unless}
+use Rattle.cluster_calls.specs.Calls.Plan.{Client, Dispatch, plan}
 use Rattle.cluster_calls.specs.Calls.Replies.{reply_or_nil}
 use Rattle.cluster_calls.specs.Links.EachMade.{EachHappened, EachMade, WholesMade, refusal_by, refusals_of}
 use Rattle.cluster_calls.specs.Links.Events.{Event, Ending, answers, fails, exchanges_of}
@@ -37,14 +36,13 @@ use Rattle.cluster_calls.specs.Links.World.{World}
 use Rattle.cluster_steps.specs.Joins.{AreOutcomesBy, HasRoom, IsJoinedBy, IsTold, shown_join, width_by, width_of_all}
 use Rattle.cluster_steps.specs.FirstPlaces.{part_of}
 use Rattle.cluster_steps.specs.declared.join.Join.{Join}
-use Rattle.cluster_steps.specs.Requests.{CodePart}
 use Rattle.cluster_steps.specs.CodeParts.{part_targets, routed_at, routed_part}
 use Rattle.cluster_steps.specs.WholeParts.{whole_by}
 use Rattle.cluster_client.specs.InParts.{AreInParts, AreReady, IsAdded, if_several_targets, joined_by, joins_after, places_of, shown_joins}
 use Rattle.cluster_client.specs.declared.pipeline.in_parts.InParts.{InParts}
 use Rattle.cluster_client.proofs.PipeParts.{before, before_none}
 use Rattle.cluster_calls.proofs.LinkLaws.EventLists.{exchanged}
-use Rattle.cluster_calls.proofs.LogLaws.EachInParts.{entry_part, is_whole, part_to_slot, split_is, split_parts_go, wholes_stay_whole, whole_told_so}
+use Rattle.cluster_calls.proofs.LogLaws.EachInParts.{entry_part, is_whole, part_to_slot, split_is, split_parts_go}
 use Rattle.cluster_calls.proofs.LogLaws.EachPosition.{IsItsOwn, positions_drawn}
 use Rattle.cluster_calls.proofs.LogLaws.Fates.{pairwise_length, pipe_dispatches}
 use Rattle.cluster_calls.proofs.ServerLaws.Pipes.{IsEntryDispatch}

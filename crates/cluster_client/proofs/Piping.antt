@@ -49,8 +49,7 @@ use Rattle.cluster_steps.specs.Groups.{NodeRequests, group_at, place_in, request
 use Rattle.cluster_steps.specs.GroupRuns.{GroupByGroup, AreGroupResults, GroupsMade, request_lists}
 use Rattle.cluster_steps.specs.Queues.{queued, no_queues}
 use Rattle.cluster_steps.proofs.GroupCalls.{all_replied}
-use Rattle.cluster_steps.proofs.PipeGroups.{all_both, all_mapped, all_unmapped, by_node, groups_are, groups_distinct, map_twice, node_of}
-use Rattle.cluster_steps.proofs.PipeGrouping.{order_within}
+use Rattle.cluster_steps.proofs.PipeGroups.{all_both, all_unmapped, by_node, groups_are, groups_distinct, map_twice, node_of}
 use Rattle.cluster_steps.proofs.PipeOrder.{replies_drawn}
 use Rattle.cluster_client.proofs.PipeParts.{gaps_stay_so}
 

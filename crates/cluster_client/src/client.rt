@@ -1,6 +1,6 @@
 //! The client: it refreshes its slot map, and sends commands to the nodes that serve them.
 ghost use Rattle.std.specs.List.{AllByRecursion};
-ghost use Rattle.std.specs.Prelude.{ℕ, ◌≡◌, ◌≢◌, ◌↔◌, ◌<◌, ◌≤◌, ◌+◌, ◌||◌, Err, None, Some, [], ◌∷◌, true, false, vec_capacity, vec_len, map, IfOk, IfErr, OnErr, OnOk, if◌then◌else◌, not, option_map};
+ghost use Rattle.std.specs.Prelude.{ℕ, ◌≡◌, ◌≢◌, ◌↔◌, ◌<◌, ◌≤◌, ◌+◌, Err, None, Some, [], true, false, vec_capacity, vec_len, map, IfOk, IfErr, OnOk, not, option_map};
 ghost use Rattle.resp_core.specs.Errors.{by_cause};
 ghost use Rattle.resp_core.specs.View.{push_view, view};
 ghost use Rattle.resp_core.specs.declared.errors.redis_error.Cause.TheVariants.{Memory, RepeatedAddress};
@@ -9,14 +9,12 @@ ghost use Rattle.cluster_routing.specs.Choice.{strategy_of};
 ghost use Rattle.cluster_routing.specs.Directions.{direction as direction_of, shown_direction};
 ghost use Rattle.cluster_routing.specs.Info.{shown_split, texts};
 ghost use Rattle.cluster_routing.specs.Seen.{address, addresses};
-ghost use Rattle.cluster_routing.specs.SlotMap.{put_all};
-ghost use Rattle.cluster_routing.specs.SlotsReply.{ranges};
 ghost use Rattle.cluster_routing.specs.Split.{has_split_word, parts_by_place};
 ghost use Rattle.cluster_routing.specs.Topology.{shards_of};
 ghost use Rattle.cluster_calls.specs.Calls.Answer.{Value};
 ghost use Rattle.cluster_calls.specs.Calls.Call.{Query, Refresh};
 ghost use Rattle.cluster_calls.specs.Links.Chains.{ChainMade};
-ghost use Rattle.cluster_calls.specs.Links.Converted.{ReplyMade, ValueMade, refresh_answer, value_answer};
+ghost use Rattle.cluster_calls.specs.Links.Converted.{ReplyMade, ValueMade, refresh_answer};
 ghost use Rattle.cluster_calls.specs.Links.Happened.{CallMade, Happened, LacksLate, client_of};
 ghost use Rattle.cluster_steps.specs.Dispatches.{IsPlaced, IsPlanned, dispatch_of, dispatches_in, is_whole, prepared_by, set_out_by, split_in};
 ghost use Rattle.cluster_calls.specs.Links.Orders.{routes_in_order};
@@ -24,10 +22,9 @@ ghost use Rattle.cluster_calls.specs.Links.PartRuns.{PartsMade};
 ghost use Rattle.cluster_calls.specs.Links.Places.{IsOpenAt};
 ghost use Rattle.cluster_steps.specs.Turns.{hop_to};
 ghost use Rattle.cluster_client.specs.CommandCalls.{call_by, call_of, given_order};
-ghost use Rattle.cluster_client.specs.Ended.{CommandEnded};
 ghost use Rattle.cluster_client.specs.Whole.{whole};
 ghost use Rattle.cluster_calls.specs.Links.Run.{with_log};
-ghost use Rattle.cluster_calls.specs.Links.World.{addresses_of, has_repeats, link_at, new_world, nodes, one_reply, tree_result, tree_results};
+ghost use Rattle.cluster_calls.specs.Links.World.{addresses_of, has_repeats, link_at, new_world, nodes, tree_result, tree_results};
 
 mod at;
 mod directed;

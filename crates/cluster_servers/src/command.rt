@@ -1,6 +1,6 @@
 //! What a guest asks of the cluster.
 ghost use Rattle.std.proofs.Props.{props};
-ghost use Rattle.std.specs.Prelude.{◌≡◌, ◌∷◌, [], filter_map, length, map, nat_lt, IfOk};
+ghost use Rattle.std.specs.Prelude.{◌≡◌, [], filter_map, length, map, nat_lt, IfOk};
 ghost use Rattle.resp_args.specs.Packed.{packed, sent};
 ghost use Rattle.cluster_routing.specs.Directions.{shown_direction};
 ghost use Rattle.cluster_routing.specs.Directions as directions;

@@ -8,14 +8,14 @@ ghost use Rattle.cluster_client.specs.InParts.{IsDirected, entry_of};
 ghost use Rattle.proxy_core.specs.Batch.{batch_of};
 ghost use Rattle.cluster_servers.specs.Asked.{is_redirect, some_redirected};
 ghost use Rattle.cluster_servers.specs.Fates.{fate_by};
-ghost use Rattle.cluster_servers.specs.Together.{AreTold, IsTold, entries_of};
+ghost use Rattle.cluster_servers.specs.Together.{AreTold, entries_of};
 
 use crate::command::GuestCommand;
 use crate::reply::Reply;
 use cluster_client::Directed;
 use cluster_steps::join;
 use proxy_core::{Fate, Outcome, Waiting};
-use resp_core::{Protocol, RedisError, Value};
+use resp_core::{RedisError, Value};
 use std::alloc::{AllocError, Global};
 use std::collections::VecDeque;
 
@@ -45,17 +45,6 @@ fn fate_by(fate: join::Fate) -> Fate
     }
 }
 
-/// What a position of a pipeline was told, as the proxy is told.
-fn outcome_of(alloc: Global, told: Result<Value, RedisError>, protocol: Protocol) -> Outcome<Reply>
-    requires { joins.IsTold (tree_result view told) }
-    ensures { IsTold protocol (tree_result view told) result }
-{
-    Outcome {
-        fate: fate_by(join::fate_of(&told)),
-        reply: Reply::new(alloc, told, protocol),
-    }
-}
-
 /// Puts the outcome of each position of a pipeline behind these, of which there are none yet. There is room
 /// for all.
 pub(crate) fn tell_all(
@@ -75,8 +64,9 @@ pub(crate) fn tell_all(
         let Some(told) = queue.pop_front() else {
             break;
         };
-        let outcome = outcome_of(alloc, told, asked.command.protocol);
-        outcomes.push(outcome).unwrap();
+        let fate = fate_by(join::fate_of(&told));
+        let reply = Reply::new(alloc, told, asked.command.protocol);
+        outcomes.push(Outcome { fate, reply }).unwrap();
     }
 }
 

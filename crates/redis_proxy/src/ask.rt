@@ -31,8 +31,6 @@ pub(crate) struct Ask {
     pub(crate) command: GuestCommand,
     pub(crate) how: How,
     pub(crate) protocol: Protocol,
-    /// Whether a server tells nil as a list that is none, where the protocol has both.
-    pub(crate) has_no_list: bool,
     bytes: usize,
 }
 
@@ -43,14 +41,12 @@ impl Ask {
         command: Cmd,
         protocol: Protocol,
     ) -> Result<Ask, AllocError> {
-        let has_no_list = tells_no_list(&command);
         let command = GuestCommand::new(alloc, command, protocol)?;
         let bytes = command.bytes();
         Ok(Ask {
             command,
             how: How::Together,
             protocol,
-            has_no_list,
             bytes,
         })
     }
@@ -73,7 +69,6 @@ impl Ask {
             command: self.command,
             how,
             protocol: self.protocol,
-            has_no_list: false,
             bytes,
         })
     }
@@ -92,7 +87,6 @@ impl Ask {
             command,
             how: How::Wait(block, id),
             protocol,
-            has_no_list: true,
             bytes,
         })
     }
@@ -103,8 +97,16 @@ impl Ask {
             command: self.command,
             how: How::Exec(queued),
             protocol: self.protocol,
-            has_no_list: false,
             bytes: self.bytes.saturating_add(bytes),
+        }
+    }
+
+    /// Whether a server tells nil as a list that is none, where the protocol has both.
+    pub(crate) fn has_no_list(&self) -> bool {
+        match self.how {
+            How::Together => tells_no_list(self.command.command()),
+            How::Wait(..) => true,
+            How::Alone(..) | How::Exec(_) => false,
         }
     }
 }

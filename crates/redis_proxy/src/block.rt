@@ -224,12 +224,15 @@ fn block_of_read(
 
 /// Whether a command waits for what is not there.
 pub(crate) fn waits(command: &Cmd) -> bool {
+    let Some(name) = command.arg_idx(0) else {
+        return false;
+    };
     for (word, ..) in &WORDS {
-        if is_word(command, 0, word.as_bytes()) {
+        if name.eq_ignore_ascii_case(word.as_bytes()) {
             return true;
         }
     }
-    if !is_word(command, 0, b"XREAD") && !is_word(command, 0, b"XREADGROUP") {
+    if !name.eq_ignore_ascii_case(b"XREAD") && !name.eq_ignore_ascii_case(b"XREADGROUP") {
         return false;
     }
     match (command.position(b"BLOCK"), command.position(b"STREAMS")) {

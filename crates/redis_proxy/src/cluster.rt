@@ -226,8 +226,8 @@ fn in_form(ask: &Ask, outcome: Outcome<Reply>) -> Outcome<Reply> {
     let Outcome { fate, reply } = outcome;
     let reply = match reply {
         Reply::Written(mut bytes) => {
-            if ask.has_no_list
-                && bytes.as_slice() == b"$-1\r\n".as_slice()
+            if bytes.as_slice() == b"$-1\r\n".as_slice()
+                && ask.has_no_list()
                 && let Some(first) = bytes.first_mut()
             {
                 *first = b'*';

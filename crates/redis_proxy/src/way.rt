@@ -133,7 +133,7 @@ pub(crate) fn way_of(command: &Cmd) -> Way {
     let Some(word) = command.arg_idx(0) else {
         return Way::Refused;
     };
-    if is_word(command, 0, b"CLIENT") && is_word(command, 1, b"UNBLOCK") {
+    if word.eq_ignore_ascii_case(b"CLIENT") && is_word(command, 1, b"UNBLOCK") {
         return Way::Unblock;
     }
     if let Some(words) = WORDS.get(word.len()) {
@@ -146,10 +146,10 @@ pub(crate) fn way_of(command: &Cmd) -> Way {
     if waits(command) {
         return Way::Wait;
     }
-    if is_word(command, 0, b"DEBUG") {
+    if word.eq_ignore_ascii_case(b"DEBUG") {
         return way_of_debug(command);
     }
-    if is_word(command, 0, b"FUNCTION") {
+    if word.eq_ignore_ascii_case(b"FUNCTION") {
         return way_of_function(command);
     }
     Way::ByTable

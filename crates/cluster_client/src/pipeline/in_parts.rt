@@ -1,6 +1,6 @@
 //! A pipeline whose split commands may have several slots: each of these stands as its parts.
 ghost use Rattle.std.specs.List.{AllByRecursion};
-ghost use Rattle.std.specs.Prelude.{◌≡◌, ◌≢◌, ◌∷◌, ◌++◌, ℕ, suc, Bool, List, [], None, Some, false, map, replicate, option_map, IfOk, IfErr, IfSome, OnOk};
+ghost use Rattle.std.specs.Prelude.{◌≡◌, ◌≢◌, ◌∷◌, ◌++◌, suc, Bool, [], None, Some, false, map, replicate, option_map, IfOk, IfErr, IfSome, OnOk};
 ghost use Rattle.resp_core.specs.Errors.{at_position, by_cause};
 ghost use Rattle.resp_core.specs.declared.errors.redis_error.Cause.TheVariants.{Memory};
 ghost use Rattle.resp_args.specs.Packed.{sent};
@@ -11,7 +11,7 @@ ghost use Rattle.cluster_calls.specs.Calls.InParts.{first_unplaced, split_at};
 ghost use Rattle.cluster_calls.specs.Calls.Parts.{if_one_slot, parts_of, reads_several_slots, whole_part};
 ghost use Rattle.cluster_steps.specs.CodeParts.{split_in, targets_in};
 ghost use Rattle.cluster_steps.specs.Joins.{HasRoom, shown_join};
-ghost use Rattle.cluster_steps.specs.WholeParts.{whole_at, whole_by};
+ghost use Rattle.cluster_steps.specs.WholeParts.{whole_by};
 ghost use Rattle.cluster_client.specs.InParts.{AreInParts, AreReady, IsAdded, IsDirected, IsUnplaced, entry, entry_of, if_several_targets, joins_after, places_of, shown_joins};
 
 use crate::pipeline::parts::primary_route;
@@ -46,19 +46,6 @@ fn several_slots(targets: Targets) -> Option<SplitParts>
                 Some(split)
             }
         }
-    }
-}
-
-/// The route to the primary of the one slot that all parts of a command go to; none where it reads streams of
-/// several.
-fn one_route(targets: &Targets, reads_several: bool) -> Option<Route>
-    ensures { (args : List (List ℕ)) → option_map (whole_by args) result
-        ≡ if_one_slot reads_several (whole_at args (targets_in targets.now)) }
-{
-    if reads_several {
-        None
-    } else {
-        primary_route(targets)
     }
 }
 
@@ -143,10 +130,11 @@ impl InParts {
             Ok(targets) => targets,
             Err(_) => return Err(RedisError::at_position(position)),
         };
-        let reads_several = reads_several_slots(alloc, command)?;
-        if let Some(route) = one_route(&targets, reads_several) {
-            self.add_whole(position, command, route)?;
-            return Ok(());
+        if !reads_several_slots(alloc, command)? {
+            if let Some(route) = primary_route(&targets) {
+                self.add_whole(position, command, route)?;
+                return Ok(());
+            }
         }
         let Some(split) = several_slots(targets) else {
             return Err(RedisError::at_position(position));

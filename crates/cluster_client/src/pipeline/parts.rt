@@ -1,12 +1,10 @@
 //! The parts of a pipeline: each command whole, to the primary of its one slot.
-ghost use Rattle.std.specs.Prelude.{ℕ, List, [], ◌≡◌, ◌≢◌, Err, Ok, map, option_map, IfOk, IfErr};
+ghost use Rattle.std.specs.Prelude.{ℕ, List, [], ◌≡◌, ◌≢◌, Err, Ok, option_map, IfOk, IfErr};
 ghost use Rattle.resp_core.specs.Errors.{by_cause};
 ghost use Rattle.resp_core.specs.declared.errors.redis_error.Cause.TheVariants.{Memory};
 ghost use Rattle.resp_args.specs.Packed.{sent};
-ghost use Rattle.cluster_routing.specs.Info.{shown_parts};
-ghost use Rattle.cluster_calls.specs.Calls.Parts.{if_at_slot, if_one_slot, parts_of, pipeline_parts, reads_several_slots, whole_part};
-ghost use Rattle.cluster_steps.specs.CodeParts.{route_target, targets_in};
-ghost use Rattle.cluster_steps.specs.FirstPlaces.{part_of, target_of};
+ghost use Rattle.cluster_calls.specs.Calls.Parts.{if_one_slot, parts_of, pipeline_parts, reads_several_slots, whole_part};
+ghost use Rattle.cluster_steps.specs.CodeParts.{targets_in};
 ghost use Rattle.cluster_steps.specs.WholeParts.{parts_found, whole_at, whole_by};
 
 use crate::pipeline::PipelineCommand;

@@ -1,12 +1,11 @@
 //! The one reply to a pipeline, from those to its commands in order.
-ghost use Rattle.std.specs.Prelude.{◌≡◌, ◌≢◌, ◌||◌, ◌∷◌, ◌++◌, [], Err, map, IfOk, OnOk, if◌then◌else◌};
+ghost use Rattle.std.specs.Prelude.{◌≡◌, ◌≢◌, ◌||◌, Err, map, IfOk};
 ghost use Rattle.std.specs.List.{list_any};
 ghost use Rattle.resp_core.specs.Errors.{by_cause};
 ghost use Rattle.resp_core.specs.Parts.{first_error};
 ghost use Rattle.resp_core.specs.Refused.{errors_at};
 ghost use Rattle.resp_core.specs.View.{view};
 ghost use Rattle.resp_core.specs.declared.errors.redis_error.Cause.TheVariants.{Memory};
-ghost use Rattle.cluster_calls.specs.Calls.Refusals.{with_error};
 ghost use Rattle.cluster_calls.specs.Calls.Replies.{not_ignored};
 ghost use Rattle.cluster_steps.specs.GroupRuns.{is_moved_tree};
 ghost use Rattle.cluster_calls.specs.Links.PipeReplies.{errors_in, pipeline_result};
