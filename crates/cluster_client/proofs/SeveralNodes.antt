@@ -95,17 +95,100 @@ pub some_nodes : (args : List (List ℕ)) (nodes : List Address) → nodes ≢ [
 some_nodes args [] some = absurd (some refl)
 some_nodes args (a ∷ nodes) some = refl
 
+-- ---- several nodes
+
+-- where a command goes to several nodes; none for any other
+abbrev several_in : Option Destination → Option Destination
+several_in (Some (to_all_nodes policy)) = Some (to_all_nodes policy)
+several_in (Some (to_all_primaries policy)) = Some (to_all_primaries policy)
+several_in _ = None
+
+-- a command to one node has none
+key_not_several : (role : SlotAddr) (key : Option (Arg (List ℕ))) → several_in (to_key role key) ≡ None
+key_not_several role key = by (bytes_of key)
+  where
+    by : (o : Option (List ℕ)) → several_in (option_map (λ bytes. to_route (route_to role (hash_slot bytes))) o) ≡ None
+    by None = refl
+    by (Some bytes) = refl
+
+behind_not_several : (role : SlotAddr) (args : Args) (place : Option ℕ) → several_in (to_key_behind role args place) ≡ None
+behind_not_several role args None = refl
+behind_not_several role args (Some place) = key_not_several role (slice_get args (place + 1))
+
+counted_not_several : (role : SlotAddr) (elsewhere : Option Destination) (key : Option (Arg (List ℕ))) (count : Option ℕ) → several_in elsewhere ≡ None → several_in (to_key_by_count role elsewhere key count) ≡ None
+counted_not_several role elsewhere key None e = refl
+counted_not_several role elsewhere key (Some zero) e = e
+counted_not_several role elsewhere key (Some (suc n)) e = key_not_several role key
+
+some_not_several : (pattern : MultiSlotArgPattern) (policy : ResponsePolicy) (parts : List (Route × List ℕ)) → several_in (to_some_parts pattern policy parts) ≡ None
+some_not_several pattern policy [] = refl
+some_not_several pattern policy (p ∷ []) = refl
+some_not_several pattern policy (p ∷ q ∷ ps) = refl
+
+tuples_not_several : (role : SlotAddr) (pattern : MultiSlotArgPattern) (policy : ResponsePolicy) (tuples : Option (List Tuple)) → several_in (to_tuples role pattern policy tuples) ≡ None
+tuples_not_several role pattern policy None = refl
+tuples_not_several role pattern policy (Some tuples) = some_not_several pattern policy (map (route_part role) (groups (argument_slots tuples)))
+
+split_not_several : (role : SlotAddr) (pattern : MultiSlotArgPattern) (policy : ResponsePolicy) (args : Option (List (List ℕ))) → several_in (option_and_then (to_split role pattern policy) args) ≡ None
+split_not_several role pattern policy None = refl
+split_not_several role pattern policy (Some args) = tuples_not_several role pattern policy (tuples_of (width_of pattern) (in_tuples pattern (drop 1 args)))
+
+-- where a rule for several nodes leads
+abbrev several_by : Rule → Option Destination
+several_by (all_masters policy) = Some (to_all_primaries (Some policy))
+several_by (table_nodes policy) = Some (to_all_nodes (Some policy))
+several_by _ = None
+
+rule_several : (role : SlotAddr) (args : Args) (rule : Rule) → several_in (destination_by role args rule) ≡ several_by rule
+rule_several role args (split pattern policy) = split_not_several role pattern policy (all_bytes args)
+rule_several role args key_after_streams = behind_not_several role args (place_of (codes "STREAMS") args)
+rule_several role args (counted_key_or_random i) = counted_not_several role (Some to_any_node) (slice_get args (i + 1)) (option_and_then (number_below (2 ^ 64)) (bytes_of (slice_get args i))) refl
+rule_several role args (counted_key i) = counted_not_several role None (slice_get args (i + 1)) (option_and_then (number_below (2 ^ 64)) (bytes_of (slice_get args i))) refl
+rule_several role args (key_at i) = key_not_several role (slice_get args i)
+rule_several role args random = refl
+rule_several role args (all_masters policy) = refl
+rule_several role args (table_nodes policy) = refl
+rule_several role args nowhere = refl
+
+-- they do not depend on which commands only read
+same_several : (args : Args) (one other : List (List ℕ)) → several_in (destination args one) ≡ several_in (destination args other)
+unfolding destination
+same_several args one other = by (bytes_of (slice_get args 0))
+  where
+    by : (o : Option (List ℕ)) → several_in (destination_of_word o args one) ≡ several_in (destination_of_word o args other)
+    by None = refl
+    by (Some word) =
+        rule_several (role_of (name_of_word word args) one) args (rule_of (name_of_word word args) (is_family word))
+        ∙ sym (rule_several (role_of (name_of_word word args) other) args (rule_of (name_of_word word args) (is_family word)))
+
+parts_of_several : (entries : SlotEntries) (args : List (List ℕ)) (o : Option Destination) → node_parts entries args o ≡ node_parts entries args (several_in o)
+parts_of_several entries args None = refl
+parts_of_several entries args (Some to_any_node) = refl
+parts_of_several entries args (Some to_any_primary) = refl
+parts_of_several entries args (Some (to_route route)) = refl
+parts_of_several entries args (Some (to_address a)) = refl
+parts_of_several entries args (Some (to_all_nodes policy)) = refl
+parts_of_several entries args (Some (to_all_primaries policy)) = refl
+parts_of_several entries args (Some (to_parts parts pattern policy)) = refl
+
+-- so neither do the parts
+same_parts : (entries : SlotEntries) (sentence : List (List ℕ)) (args : Args) (one other : List (List ℕ)) → node_parts entries sentence (destination args one) ≡ node_parts entries sentence (destination args other)
+same_parts entries sentence args one other =
+    parts_of_several entries sentence (destination args one) ∙ ap (node_parts entries sentence) (same_several args one other) ∙ sym (parts_of_several entries sentence (destination args other))
+
+-- ---- the parts of a call
+
 -- a call that waits for a response has the parts of its command
 pub fan_parts : (client : Client) (command : Command) (r : Result (List Part) Refusal) → command.no_response ≡ false → node_parts client.entries (sent command) (destination command.args client.settings.read_only) ≡ r
     → call_parts client (FanOut command) ≡ r
 fan_parts client command r n e = rw n e
 
--- the same, from what the code has of its slot map and of its names that only read
-pub fan_parts_by : (client : Client) (command : Command) (entries : SlotEntries) (read_only : List (List ℕ)) (o : Option Destination) (r : Result (List Part) Refusal) → command.no_response ≡ false
-    → client.entries ≡ entries → client.settings.read_only ≡ read_only → o ≡ destination command.args read_only → node_parts entries (sent command) o ≡ r → call_parts client (FanOut command) ≡ r
-fan_parts_by client command entries read_only o r n same names is e =
+-- the same, from what the code has of its slot map
+pub fan_parts_by : (client : Client) (command : Command) (entries : SlotEntries) (o : Option Destination) (r : Result (List Part) Refusal) → command.no_response ≡ false
+    → client.entries ≡ entries → o ≡ destination command.args [] → node_parts entries (sent command) o ≡ r → call_parts client (FanOut command) ≡ r
+fan_parts_by client command entries o r n same is e =
     fan_parts client command r n
-    (ap (λ es. node_parts es (sent command) (destination command.args client.settings.read_only)) same ∙ ap (λ ro. node_parts entries (sent command) (destination command.args ro)) names
+    (ap (λ es. node_parts es (sent command) (destination command.args client.settings.read_only)) same ∙ same_parts entries (sent command) command.args client.settings.read_only []
     ∙ ap (node_parts entries (sent command)) (sym is) ∙ e)
 
 pub not_empty : {A B : Type 0} (f : A → B) (xs : List A) (n : ℕ) → n ≡ length xs → (n == 0) ≡ false → map f xs ≢ []
@@ -117,66 +200,6 @@ no_nodes args nodes none = ap (to_nodes args) none
 
 pub fan_silent : (client : Client) (command : Command) → command.no_response ≡ true → call_parts client (FanOut command) ≡ Err (by_cause NoResponse)
 fan_silent client command n = rw n refl
-
--- ---- the policy
-
--- a command to one node has none
-key_unpolicied : (role : SlotAddr) (key : Option (Arg (List ℕ))) → policy_in (to_key role key) ≡ None
-key_unpolicied role key = by (bytes_of key)
-  where
-    by : (o : Option (List ℕ)) → policy_in (option_map (λ bytes. to_route (route_to role (hash_slot bytes))) o) ≡ None
-    by None = refl
-    by (Some bytes) = refl
-
-behind_unpolicied : (role : SlotAddr) (args : Args) (place : Option ℕ) → policy_in (to_key_behind role args place) ≡ None
-behind_unpolicied role args None = refl
-behind_unpolicied role args (Some place) = key_unpolicied role (slice_get args (place + 1))
-
-counted_unpolicied : (role : SlotAddr) (elsewhere : Option Destination) (key : Option (Arg (List ℕ))) (count : Option ℕ) → policy_in elsewhere ≡ None → policy_in (to_key_by_count role elsewhere key count) ≡ None
-counted_unpolicied role elsewhere key None e = refl
-counted_unpolicied role elsewhere key (Some zero) e = e
-counted_unpolicied role elsewhere key (Some (suc n)) e = key_unpolicied role key
-
-some_unpolicied : (pattern : MultiSlotArgPattern) (policy : ResponsePolicy) (parts : List (Route × List ℕ)) → policy_in (to_some_parts pattern policy parts) ≡ None
-some_unpolicied pattern policy [] = refl
-some_unpolicied pattern policy (p ∷ []) = refl
-some_unpolicied pattern policy (p ∷ q ∷ ps) = refl
-
-tuples_unpolicied : (role : SlotAddr) (pattern : MultiSlotArgPattern) (policy : ResponsePolicy) (tuples : Option (List Tuple)) → policy_in (to_tuples role pattern policy tuples) ≡ None
-tuples_unpolicied role pattern policy None = refl
-tuples_unpolicied role pattern policy (Some tuples) = some_unpolicied pattern policy (map (route_part role) (groups (argument_slots tuples)))
-
-split_unpolicied : (role : SlotAddr) (pattern : MultiSlotArgPattern) (policy : ResponsePolicy) (args : Option (List (List ℕ))) → policy_in (option_and_then (to_split role pattern policy) args) ≡ None
-split_unpolicied role pattern policy None = refl
-split_unpolicied role pattern policy (Some args) = tuples_unpolicied role pattern policy (tuples_of (width_of pattern) (in_tuples pattern (drop 1 args)))
-
--- the policy of a rule for several nodes
-abbrev several_policy : Rule → Option ResponsePolicy
-several_policy (all_masters policy) = Some policy
-several_policy (table_nodes policy) = Some policy
-several_policy _ = None
-
-rule_policy : (role : SlotAddr) (args : Args) (rule : Rule) → policy_in (destination_by role args rule) ≡ several_policy rule
-rule_policy role args (split pattern policy) = split_unpolicied role pattern policy (all_bytes args)
-rule_policy role args key_after_streams = behind_unpolicied role args (place_of (codes "STREAMS") args)
-rule_policy role args (counted_key_or_random i) = counted_unpolicied role (Some to_any_node) (slice_get args (i + 1)) (option_and_then (number_below (2 ^ 64)) (bytes_of (slice_get args i))) refl
-rule_policy role args (counted_key i) = counted_unpolicied role None (slice_get args (i + 1)) (option_and_then (number_below (2 ^ 64)) (bytes_of (slice_get args i))) refl
-rule_policy role args (key_at i) = key_unpolicied role (slice_get args i)
-rule_policy role args random = refl
-rule_policy role args (all_masters policy) = refl
-rule_policy role args (table_nodes policy) = refl
-rule_policy role args nowhere = refl
-
--- the policy does not depend on which commands only read
-pub same_policy : (args : Args) (one other : List (List ℕ)) → policy_in (destination args one) ≡ policy_in (destination args other)
-unfolding destination
-same_policy args one other = by (bytes_of (slice_get args 0))
-  where
-    by : (o : Option (List ℕ)) → policy_in (destination_of_word o args one) ≡ policy_in (destination_of_word o args other)
-    by None = refl
-    by (Some word) =
-        rule_policy (role_of (name_of_word word args) one) args (rule_of (name_of_word word args) (is_family word))
-        ∙ sym (rule_policy (role_of (name_of_word word args) other) args (rule_of (name_of_word word args) (is_family word)))
 
 -- ---- the plan
 

@@ -1,13 +1,13 @@
 //! A command to several nodes: each of them is asked once, ascending, and their replies become one.
 ghost use Rattle.std.specs.List.{AllByRecursion};
-ghost use Rattle.std.specs.Prelude.{◌≡◌, ◌≢◌, ◌<◌, ◌≤◌, ◌+◌, ◌||◌, Err, IfErr, IfOk, Option, [], ◌∷◌, false, map, option_map, vec_capacity, vec_len};
+ghost use Rattle.std.specs.Prelude.{◌≡◌, ◌≢◌, ◌<◌, ◌≤◌, ◌+◌, ◌||◌, Err, IfErr, IfOk, IfSome, Option, [], ◌∷◌, false, map, option_map, vec_capacity, vec_len};
 ghost use Rattle.resp_core.specs.Errors.{by_cause};
 ghost use Rattle.resp_core.specs.View.{view};
 ghost use Rattle.resp_core.specs.declared.errors.redis_error.Cause.TheVariants.{Memory};
 ghost use Rattle.resp_args.specs.Packed.{sent};
 ghost use Rattle.cluster_routing.specs.Address.{same_address};
 ghost use Rattle.cluster_routing.specs.Choice.{Strategy};
-ghost use Rattle.cluster_routing.specs.Directions.{destination_in, shown_direction};
+ghost use Rattle.cluster_routing.specs.Directions.{destination_in, direction as direction_of, shown_direction};
 ghost use Rattle.cluster_routing.specs.Info.{texts};
 ghost use Rattle.cluster_routing.specs.Lists.{IsDistinct};
 ghost use Rattle.cluster_routing.specs.Outcomes.{outcomes_of};
@@ -24,11 +24,13 @@ ghost use Rattle.cluster_steps.specs.Dispatches.{AreDispatched, IsPlaced, IsPlan
 ghost use Rattle.cluster_steps.specs.FirstPlaces.{node_by, node_with_link};
 ghost use Rattle.cluster_calls.specs.Links.Happened.{CallMade};
 ghost use Rattle.cluster_calls.specs.Links.Log.{is_data_reply, is_moved_reply};
+ghost use Rattle.cluster_client.specs.InParts.{IsDirected};
 ghost use Rattle.cluster_client.specs.NodeRuns.{NodesAsked, all_outcomes, listed_by, nodes_named, one_outcome, outcome_in, outcome_of_reply, parts_to_nodes};
 ghost use Rattle.cluster_client.specs.Whole.{whole};
 ghost use Rattle.cluster_calls.specs.Links.World.{nodes, open_links, tree_result};
 
 use crate::client::{ClusterClient, begin};
+use crate::pipeline::Directed;
 use cluster_routing::{Direction, NodeAddress, ResponsePolicy, SlotMap, combine_nodes};
 use cluster_steps::dispatch::Dispatch;
 use cluster_steps::exchange::exchange_one;
@@ -143,13 +145,13 @@ fn node_dispatches<L: ConnectionLike>(
     alloc: Global,
     links: &KnownLinks<L>,
     slots: &SlotMap,
-    read_only: &[Vec<u8>],
     cmd: &Cmd,
+    direction: &Direction,
 ) -> Result<NodeDispatches, RedisError>
+    requires { shown_direction direction.now ≡ direction_of cmd.now.args [] }
     ensures planned { result ≢ Err (by_cause Memory) → (strategy : Option Strategy) (client : Client)
         → client.links ≡ open_links (nodes L.seen links.now.nodes.items)
-        → client.entries ≡ slots.now → client.settings.read_only ≡ texts read_only.now
-        → IsPlanned strategy client (FanOut cmd.now) [] (listed_by result) }
+        → client.entries ≡ slots.now → IsPlanned strategy client (FanOut cmd.now) [] (listed_by result) }
     ensures placed { IfOk result
         (λ n. AllByRecursion (IsPlaced (nodes L.seen links.now.nodes.items)) n.list.items) }
     ensures policy { IfOk result (λ n. n.policy ≡ policy_in (destination cmd.now.args [])) }
@@ -157,8 +159,7 @@ fn node_dispatches<L: ConnectionLike>(
     if cmd.is_no_response() {
         return Err(RedisError::from(Cause::NoResponse));
     }
-    let direction = Direction::for_routable(alloc, cmd, read_only)?;
-    let Some(addresses) = nodes_named(alloc, slots, &direction)? else {
+    let Some(addresses) = nodes_named(alloc, slots, direction)? else {
         return Err(RedisError::from(Cause::NoRoute));
     };
     if addresses.is_empty() {
@@ -167,7 +168,7 @@ fn node_dispatches<L: ConnectionLike>(
     let list = dispatches_to(alloc, links, addresses, cmd)?;
     Ok(NodeDispatches {
         list,
-        policy: policy_in(&direction),
+        policy: policy_in(direction),
     })
 }
 
@@ -293,13 +294,49 @@ impl<L: ConnectionLike + Drop> ClusterClient<L> {
             → CallMade strategy (whole L.seen self.old) (whole L.seen self.new) (FanOut cmd.now)
             (value_answer (tree_result view result)) }
     {
+        self.fan_out_by(alloc, cmd, None)
+    }
+
+    /// What `fan_out` does and answers, of a command that is lent with its direction: it is not looked up.
+    ///
+    /// # Errors
+    /// Those of `fan_out`.
+    pub fn fan_out_directed(
+        &mut self,
+        alloc: Global,
+        directed: &Directed<'_>,
+    ) -> Result<Value, RedisError>
+        requires { IsDirected directed.now }
+        ensures { (strategy : Option Strategy)
+            → CallMade strategy (whole L.seen self.old) (whole L.seen self.new) (FanOut directed.now.command.now)
+            (value_answer (tree_result view result)) }
+    {
+        self.fan_out_by(alloc, directed.command, Some(directed.direction))
+    }
+
+    /// The same of a command whose direction may be known.
+    fn fan_out_by(
+        &mut self,
+        alloc: Global,
+        cmd: &Cmd,
+        known: Option<&Direction>,
+    ) -> Result<Value, RedisError>
+        requires { IfSome known (λ d. shown_direction d.now ≡ direction_of cmd.now.args []) }
+        ensures { (strategy : Option Strategy)
+            → CallMade strategy (whole L.seen self.old) (whole L.seen self.new) (FanOut cmd.now)
+            (value_answer (tree_result view result)) }
+    {
         begin(alloc, &mut self.asked, &mut self.picked);
+        let direction = match known {
+            Some(direction) => direction.clone()?,
+            None => Direction::for_routable(alloc, cmd, &[])?,
+        };
         let NodeDispatches { list, policy } = node_dispatches(
             alloc,
             &self.links,
             self.slots.map(),
-            &self.read_only,
             cmd,
+            &direction,
         )?;
         let replies = self.ask_each(alloc, list)?;
         let outcomes = outcomes(alloc, replies)?;

@@ -63,7 +63,7 @@ impl GuestCommand {
     }
 
     /// The command, lent with where it goes.
-    pub(crate) fn directed(&self) -> Directed<'_>
+    pub fn directed(&self) -> Directed<'_>
         ensures command { result.command.now ≡ self.now.command }
         ensures directed { IsDirected result }
     {

@@ -168,7 +168,7 @@ fn answer<L: ConnectionLike + Drop>(
     let told: Result<Value, RedisError> = match &ask.how {
         How::Exec(queued) if !any_waits(queued) => client.transaction(alloc, queued),
         How::Exec(queued) => ask_without_waiting(alloc, client, queued),
-        How::Alone(Way::Several, command) => client.fan_out(alloc, command),
+        How::Alone(Way::Several, _) => client.fan_out_directed(alloc, &ask.command.directed()),
         How::Alone(Way::InTurn, command) => ask_in_turn(alloc, client, around.number, command),
         How::Alone(Way::Primaries, command) => ask_primaries(alloc, client, command),
         How::Alone(Way::FirstNode, command) if is_word(command, 0, b"INFO") => {

@@ -6,6 +6,7 @@ use std::process::Abort;
 use std::test::Fail;
 
 /// A command as words, and what the nodes of two halves reply behind the map.
+#[derive(Drop)]
 struct Row {
     words: &'static str,
     n1: &'static [u8],
@@ -116,5 +117,33 @@ fn a_read_with_a_known_direction_goes_to_a_replica(rt: HostRuntime) -> Result<()
     let number: i64 = client.query_directed(alloc, &directed, 0, Some(&Nth::new(1)))?;
     assert_eq!(rt; number, 4);
     assert!(rt; is_last_asked(alloc, &client, "n4:7004")?);
+    Ok(())
+}
+
+const SIZES: Row = Row {
+    words: "DBSIZE",
+    n1: b":2\r\n",
+    n2: b":3\r\n",
+};
+
+/// What a command to all primaries is answered by `fan_out`, and where its direction is known.
+#[test]
+fn a_known_direction_is_that_of_a_fan_out(rt: HostRuntime) -> Result<(), Fail> {
+    let alloc = rt.alloc();
+    let command = command_of(alloc, SIZES.words)?;
+    let direction = Direction::for_routable(alloc, &command, &[])?;
+    let directed = Directed {
+        command: &command,
+        direction: &direction,
+    };
+    let mut by_command = client(alloc, &SIZES)?;
+    let sum = by_command.fan_out(alloc, &command);
+    let mut by_direction = client(alloc, &SIZES)?;
+    let told_sum = by_direction.fan_out_directed(alloc, &directed);
+    assert_eq!(rt; told(alloc, &by_command, sum)?.as_str(), "Int(5) n1 n2");
+    assert_eq!(rt;
+        told(alloc, &by_direction, told_sum)?.as_str(),
+        "Int(5) n1 n2"
+    );
     Ok(())
 }
