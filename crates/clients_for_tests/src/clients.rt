@@ -50,13 +50,23 @@ pub fn client_of_two(
     ClusterClient::new(alloc, links, Vec::new(alloc), budget)
 }
 
+/// The client, once it has learned the slot map of n1:7001.
+pub fn refreshed(alloc: Global, mut client: Client) -> Result<Client, RedisError> {
+    client.refresh(alloc, &node(alloc, "n1:7001")?)?;
+    Ok(client)
+}
+
+/// A client as that of two, with a budget of 1, which has learned the slot map of n1:7001.
+pub fn refreshed_of_two(alloc: Global, n1: &[u8], n2: &[u8]) -> Result<Client, RedisError> {
+    refreshed(alloc, client_of_two(alloc, n1, n2, 1)?)
+}
+
 /// A client with a link to n1:7001 alone, and room for no other, which knows of both nodes.
 pub fn client_of_halves(alloc: Global) -> Result<Client, RedisError> {
     let mut links = Vec::with_capacity(alloc, 1)?;
     add_link(alloc, &mut links, "n1:7001", HALVES)?;
-    let mut client = ClusterClient::new(alloc, links, Vec::new(alloc), 1)?;
-    client.refresh(alloc, &node(alloc, "n1:7001")?)?;
-    Ok(client)
+    let client = ClusterClient::new(alloc, links, Vec::new(alloc), 1)?;
+    refreshed(alloc, client)
 }
 
 /// Whether the slot map of n1:7001 is learned.

@@ -8,6 +8,6 @@ mod replicas;
 pub use calls::{command_of, get_a, number_at_a, shown, xadd, xread};
 pub use clients::{
     ALL_AT_N1, Client, HALVES, Link, Links, add_link, client_of_halves, client_of_two, has_sent,
-    is_last_asked, is_refreshed, kind_of, link, node,
+    is_last_asked, is_refreshed, kind_of, link, node, refreshed, refreshed_of_two,
 };
-pub use replicas::{Nth, WITH_REPLICAS, client_of_replicas};
+pub use replicas::{Nth, WITH_REPLICAS, client_of_replicas, refreshed_of_replicas};

@@ -2,7 +2,7 @@
 ghost use Rattle.std.specs.Prelude.{Contains};
 ghost use Rattle.cluster_routing.specs.Seen.{address};
 
-use crate::clients::{Client, Links, add_link};
+use crate::clients::{Client, Links, add_link, refreshed};
 use cluster_client::*;
 use std::alloc::{AllocError, Global};
 use std::cell::Cell;
@@ -81,4 +81,14 @@ pub fn client_of_replicas(
     let links = links(alloc, n1, n3, n4)?;
     let names = read_only_names(alloc)?;
     ClusterClient::new(alloc, links, names, 1)
+}
+
+/// The same, which has learned the slot map of n1:7001.
+pub fn refreshed_of_replicas(
+    alloc: Global,
+    n1: &[u8],
+    n3: &[u8],
+    n4: &[u8],
+) -> Result<Client, RedisError> {
+    refreshed(alloc, client_of_replicas(alloc, n1, n3, n4)?)
 }

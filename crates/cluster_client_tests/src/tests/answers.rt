@@ -2,6 +2,7 @@
 use clients_for_tests::*;
 use cluster_client::*;
 use std::alloc::{AllocError, Global};
+use std::process::Abort;
 use std::test::Fail;
 
 /// All slots at n1:7001; GET a moved to n2:7002; a refresh moved there too; all slots again.
@@ -19,8 +20,7 @@ const PUSH_AND_NUMBER: &[u8] =
 #[test]
 fn a_reply_of_another_type_leaves_the_link_in_step(rt: HostRuntime) -> Result<(), Fail> {
     let alloc = rt.alloc();
-    let mut client = client_of_two(alloc, TEXT_AND_NUMBER, b"", 1)?;
-    assert!(rt; is_refreshed(alloc, &mut client)?);
+    let mut client = refreshed_of_two(alloc, TEXT_AND_NUMBER, b"")?;
     let refused = kind_of(number_at_a(alloc, &mut client, None));
     assert_eq!(rt; refused, Some(ErrorKind::UnexpectedReturnType));
     assert_eq!(rt; number_at_a(alloc, &mut client, None)?, 7);
@@ -30,8 +30,7 @@ fn a_reply_of_another_type_leaves_the_link_in_step(rt: HostRuntime) -> Result<()
 #[test]
 fn moved_tells_that_a_refresh_is_needed(rt: HostRuntime) -> Result<(), Fail> {
     let alloc = rt.alloc();
-    let mut client = client_of_two(alloc, MOVED_TWICE, b":1\r\n", 1)?;
-    assert!(rt; is_refreshed(alloc, &mut client)?);
+    let mut client = refreshed_of_two(alloc, MOVED_TWICE, b":1\r\n")?;
     assert!(rt; !client.needs_refresh());
     assert_eq!(rt; number_at_a(alloc, &mut client, None)?, 1);
     assert!(rt; is_last_asked(alloc, &client, "n2:7002")?);
@@ -101,24 +100,24 @@ fn gapped_mget(alloc: Global) -> Result<Cmd, AllocError> {
     Ok(cmd)
 }
 
-#[test]
-fn a_command_without_a_response_is_not_sent(rt: HostRuntime) -> Result<(), Fail> {
-    let alloc = rt.alloc();
-    let mut client = client_of_two(alloc, TEXT_AND_NUMBER, b"", 1)?;
-    assert!(rt; is_refreshed(alloc, &mut client)?);
-    assert_eq!(rt; refusal(alloc, &mut client, &silent_get(alloc)?), 2);
+/// The command is refused with this number, and nothing is sent.
+fn is_not_sent<R: Abort>(rt: &R, alloc: Global, cmd: &Cmd, number: u8) -> Result<(), Fail> {
+    let mut client = refreshed_of_two(alloc, TEXT_AND_NUMBER, b"")?;
+    assert_eq!(rt; refusal(alloc, &mut client, cmd), number);
     assert_eq!(rt; client.asked().len(), 0);
     Ok(())
 }
 
 #[test]
+fn a_command_without_a_response_is_not_sent(rt: HostRuntime) -> Result<(), Fail> {
+    let alloc = rt.alloc();
+    is_not_sent(&rt, alloc, &silent_get(alloc)?, 2)
+}
+
+#[test]
 fn a_split_command_with_a_gap_is_not_sent(rt: HostRuntime) -> Result<(), Fail> {
     let alloc = rt.alloc();
-    let mut client = client_of_two(alloc, TEXT_AND_NUMBER, b"", 1)?;
-    assert!(rt; is_refreshed(alloc, &mut client)?);
-    assert_eq!(rt; refusal(alloc, &mut client, &gapped_mget(alloc)?), 4);
-    assert_eq!(rt; client.asked().len(), 0);
-    Ok(())
+    is_not_sent(&rt, alloc, &gapped_mget(alloc)?, 4)
 }
 
 /// How many pushes were set aside at the node.
@@ -136,8 +135,7 @@ fn link_state(alloc: Global, client: &Client, address: &str) -> Result<Option<bo
 #[test]
 fn a_node_keeps_its_pushes(rt: HostRuntime) -> Result<(), Fail> {
     let alloc = rt.alloc();
-    let mut client = client_of_two(alloc, PUSH_AND_NUMBER, b"", 1)?;
-    assert!(rt; is_refreshed(alloc, &mut client)?);
+    let mut client = refreshed_of_two(alloc, PUSH_AND_NUMBER, b"")?;
     assert_eq!(rt; push_count(alloc, &client, "n1:7001")?, Some(0));
     assert_eq!(rt; number_at_a(alloc, &mut client, None)?, 1);
     assert_eq!(rt; push_count(alloc, &client, "n1:7001")?, Some(1));
@@ -149,8 +147,7 @@ fn a_node_keeps_its_pushes(rt: HostRuntime) -> Result<(), Fail> {
 #[test]
 fn an_early_end_closes_the_link_of_its_node(rt: HostRuntime) -> Result<(), Fail> {
     let alloc = rt.alloc();
-    let mut client = client_of_two(alloc, PUSH_AND_NUMBER, b"", 1)?;
-    assert!(rt; is_refreshed(alloc, &mut client)?);
+    let mut client = refreshed_of_two(alloc, PUSH_AND_NUMBER, b"")?;
     assert_eq!(rt; number_at_a(alloc, &mut client, None)?, 1);
     assert_eq!(rt; link_state(alloc, &client, "n1:7001")?, Some(true));
     let ended = kind_of(number_at_a(alloc, &mut client, None));
@@ -181,8 +178,7 @@ fn fan_out_kind(
 #[test]
 fn a_servers_refusal_is_told_as_the_servers(rt: HostRuntime) -> Result<(), Fail> {
     let alloc = rt.alloc();
-    let mut client = client_of_two(alloc, DOWN, b"", 1)?;
-    assert!(rt; is_refreshed(alloc, &mut client)?);
+    let mut client = refreshed_of_two(alloc, DOWN, b"")?;
     let down = Some(ErrorKind::Server(ServerErrorKind::ClusterDown));
     assert_eq!(rt; kind_of(number_at_a(alloc, &mut client, None)), down);
     assert_eq!(rt; fan_out_kind(alloc, &mut client, "DBSIZE")?, down);

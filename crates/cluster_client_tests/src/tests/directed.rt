@@ -38,17 +38,9 @@ const ROWS: [Row; 4] = [
 
 /// A client of two nodes, each of half the slots.
 fn client(alloc: Global, row: &Row) -> Result<Client, RedisError> {
-    let mut first = Vec::from_slice(
-        alloc,
-        b"*2\r\n*3\r\n:0\r\n:8191\r\n*2\r\n$2\r\nn1\r\n:7001\r\n*3\r\n:8192\r\n:16383\r\n*2\r\n$2\r\nn2\r\n:7002\r\n",
-    )?;
-    first.extend_from_slice(row.n1)?;
-    let mut links = Vec::new(alloc);
-    add_link(alloc, &mut links, "n1:7001", &first)?;
-    add_link(alloc, &mut links, "n2:7002", row.n2)?;
-    let mut client = ClusterClient::new(alloc, links, Vec::new(alloc), 3)?;
-    client.refresh(alloc, &node(alloc, "n1:7001")?)?;
-    Ok(client)
+    let mut n1 = Vec::from_slice(alloc, HALVES)?;
+    n1.extend_from_slice(row.n1)?;
+    refreshed(alloc, client_of_two(alloc, &n1, row.n2, 3)?)
 }
 
 /// What a call answered, or the number of its refusal, and which nodes it asked.
@@ -106,8 +98,7 @@ fn a_known_direction_is_that_of_a_query(rt: HostRuntime) -> Result<(), Fail> {
 #[test]
 fn a_read_with_a_known_direction_goes_to_a_replica(rt: HostRuntime) -> Result<(), Fail> {
     let alloc = rt.alloc();
-    let mut client = client_of_replicas(alloc, WITH_REPLICAS, b"", b":4\r\n")?;
-    assert!(rt; is_refreshed(alloc, &mut client)?);
+    let mut client = refreshed_of_replicas(alloc, WITH_REPLICAS, b"", b":4\r\n")?;
     let command = get_a(alloc)?;
     let direction = Direction::for_routable(alloc, &command, &[])?;
     let directed = Directed {

@@ -27,7 +27,7 @@ fn client(alloc: Global, n2: &[u8]) -> Result<Client, RedisError> {
     let mut links = Vec::new(alloc);
     links.push((node(alloc, "n1:7001")?, limited(alloc, FOUR_THEN_FIVE, 4)?))?;
     links.push((node(alloc, "n2:7002")?, limited(alloc, n2, 512)?))?;
-    ClusterClient::new(alloc, links, Vec::new(alloc), 1)
+    refreshed(alloc, ClusterClient::new(alloc, links, Vec::new(alloc), 1)?)
 }
 
 /// How many items the answer to `GET a` has.
@@ -53,7 +53,6 @@ fn each_link_has_its_own_limit(rt: HostRuntime) -> Result<(), Fail> {
     let alloc = rt.alloc();
     let bytes = deep(alloc, 511)?;
     let mut client = client(alloc, &bytes)?;
-    assert!(rt; is_refreshed(alloc, &mut client)?);
     assert_eq!(rt; items_at_a(alloc, &mut client)?, 1);
     let refused = number_of(items_at_a(alloc, &mut client));
     assert_eq!(rt; refused, 15);
@@ -68,7 +67,6 @@ fn a_limit_is_kept_to(rt: HostRuntime) -> Result<(), Fail> {
     let alloc = rt.alloc();
     let bytes = deep(alloc, 512)?;
     let mut client = client(alloc, &bytes)?;
-    assert!(rt; is_refreshed(alloc, &mut client)?);
     let refused = number_of(items_at_a(alloc, &mut client));
     assert_eq!(rt; refused, 15);
     Ok(())

@@ -29,8 +29,7 @@ fn pipeline(alloc: Global) -> Result<ClusterPipeline, AllocError> {
 #[test]
 fn a_pipeline_answers_in_its_order(rt: HostRuntime) -> Result<(), Fail> {
     let alloc = rt.alloc();
-    let mut client = client_of_two(alloc, HALVES_AND_REPLIES, b"$1\r\n5\r\n", 1)?;
-    assert!(rt; is_refreshed(alloc, &mut client)?);
+    let mut client = refreshed_of_two(alloc, HALVES_AND_REPLIES, b"$1\r\n5\r\n")?;
     let pipeline = pipeline(alloc)?;
     assert_eq!(rt; pipeline.commands().len(), 3);
     let answer: Vec<i64> = pipeline.query(alloc, &mut client)?;
@@ -66,8 +65,7 @@ fn refused_position(
 #[test]
 fn a_refused_pipeline_tells_the_position(rt: HostRuntime) -> Result<(), Fail> {
     let alloc = rt.alloc();
-    let mut client = client_of_two(alloc, HALVES_AND_REPLIES, b"$1\r\n5\r\n", 1)?;
-    assert!(rt; is_refreshed(alloc, &mut client)?);
+    let mut client = refreshed_of_two(alloc, HALVES_AND_REPLIES, b"$1\r\n5\r\n")?;
     let pipeline = refused_pipeline(alloc, "TIME")?;
     assert_eq!(rt; refused_position(alloc, &mut client, &pipeline), Some(1));
     assert_eq!(rt; client.asked().len(), 0);
@@ -107,8 +105,7 @@ fn positions_of_errors(
 fn all_errors_of_a_pipeline_tell_their_positions(rt: HostRuntime) -> Result<(), Fail> {
     let alloc = rt.alloc();
     let replies = b"+OK\r\n-MOVED 15495 n1:7001\r\n";
-    let mut client = client_of_two(alloc, HALVES_AND_AN_ERROR, replies, 1)?;
-    assert!(rt; is_refreshed(alloc, &mut client)?);
+    let mut client = refreshed_of_two(alloc, HALVES_AND_AN_ERROR, replies)?;
     let positions = positions_of_errors(alloc, &mut client, &three_commands(alloc)?)?;
     assert_eq!(rt; positions.as_slice(), [1, 2].as_slice());
     assert!(rt; client.needs_refresh());
@@ -118,8 +115,7 @@ fn all_errors_of_a_pipeline_tell_their_positions(rt: HostRuntime) -> Result<(), 
 #[test]
 fn a_moved_before_an_early_end_raises_no_flag(rt: HostRuntime) -> Result<(), Fail> {
     let alloc = rt.alloc();
-    let mut client = client_of_two(alloc, HALVES_AND_REPLIES, b"-MOVED 15495 n1:7001\r\n", 1)?;
-    assert!(rt; is_refreshed(alloc, &mut client)?);
+    let mut client = refreshed_of_two(alloc, HALVES_AND_REPLIES, b"-MOVED 15495 n1:7001\r\n")?;
     let mut pipeline = cluster_pipe(alloc);
     pipeline.add_command(get_a(alloc)?)?;
     pipeline.add_command(get_a(alloc)?)?;

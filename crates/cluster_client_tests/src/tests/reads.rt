@@ -26,8 +26,7 @@ fn is_picked(alloc: Global, client: &Client, address: &str) -> Result<bool, Redi
 fn a_strategy_picks_the_node_of_a_read(rt: HostRuntime) -> Result<(), Fail> {
     let alloc = rt.alloc();
     let moved = b"-MOVED 15495 n1:7001\r\n";
-    let mut client = client_of_replicas(alloc, WITH_REPLICAS, b":3\r\n", moved)?;
-    assert!(rt; is_refreshed(alloc, &mut client)?);
+    let mut client = refreshed_of_replicas(alloc, WITH_REPLICAS, b":3\r\n", moved)?;
     assert_eq!(rt; client.picked().len(), 0);
     let second = Nth::new(1);
     assert_eq!(rt; number_at_a(alloc, &mut client, Some(&second))?, 1);
@@ -43,8 +42,7 @@ fn a_strategy_picks_the_node_of_a_read(rt: HostRuntime) -> Result<(), Fail> {
 #[test]
 fn without_a_strategy_a_read_goes_to_the_primary(rt: HostRuntime) -> Result<(), Fail> {
     let alloc = rt.alloc();
-    let mut client = client_of_replicas(alloc, WITH_REPLICAS, b"", b"")?;
-    assert!(rt; is_refreshed(alloc, &mut client)?);
+    let mut client = refreshed_of_replicas(alloc, WITH_REPLICAS, b"", b"")?;
     assert_eq!(rt; number_at_a(alloc, &mut client, None)?, 1);
     assert_eq!(rt; client.picked().len(), 0);
     assert!(rt; is_last_asked(alloc, &client, "n1:7001")?);
@@ -63,8 +61,7 @@ fn is_set(alloc: Global, client: &mut Client, strategy: &Nth) -> Result<bool, Re
 #[test]
 fn no_strategy_is_asked_for_a_write(rt: HostRuntime) -> Result<(), Fail> {
     let alloc = rt.alloc();
-    let mut client = client_of_replicas(alloc, ALL_AND_OKAY, b"", b"")?;
-    assert!(rt; is_refreshed(alloc, &mut client)?);
+    let mut client = refreshed_of_replicas(alloc, ALL_AND_OKAY, b"", b"")?;
     let strategy = Nth::new(0);
     assert!(rt; is_set(alloc, &mut client, &strategy)?);
     assert_eq!(rt; strategy.asked.get(), 0);
@@ -76,8 +73,7 @@ fn no_strategy_is_asked_for_a_write(rt: HostRuntime) -> Result<(), Fail> {
 #[test]
 fn a_pick_without_a_link_is_told(rt: HostRuntime) -> Result<(), Fail> {
     let alloc = rt.alloc();
-    let mut client = client_of_replicas(alloc, WITH_REPLICAS, b"$3\r\nab", b"")?;
-    assert!(rt; is_refreshed(alloc, &mut client)?);
+    let mut client = refreshed_of_replicas(alloc, WITH_REPLICAS, b"$3\r\nab", b"")?;
     let ended = kind_of(number_at_a(alloc, &mut client, Some(&Nth::new(0))));
     assert_eq!(rt; ended, Some(ErrorKind::Io));
     let closed = kind_of(number_at_a(alloc, &mut client, Some(&Nth::new(0))));
@@ -127,8 +123,7 @@ fn a_strategy_picks_for_each_part_with_replicas(rt: HostRuntime) -> Result<(), F
     let alloc = rt.alloc();
     let b = b"*1\r\n$1\r\n2\r\n";
     let a = b"*1\r\n$1\r\n1\r\n";
-    let mut client = client_of_replicas(alloc, THREE_SHARDS, b, a)?;
-    assert!(rt; is_refreshed(alloc, &mut client)?);
+    let mut client = refreshed_of_replicas(alloc, THREE_SHARDS, b, a)?;
     let strategy = Nth::new(0);
     assert!(rt; are_read_backwards(alloc, &mut client, &strategy)?);
     assert_eq!(rt; strategy.asked.get(), 2);

@@ -103,14 +103,13 @@ fn asked(alloc: Global, client: &Client) -> Result<Vec<u8>, RedisError> {
 fn client(alloc: Global) -> Result<Client, RedisError> {
     let mut links = Vec::new(alloc);
     add_link(alloc, &mut links, "n1:7001", REPLIES)?;
-    ClusterClient::new(alloc, links, Vec::new(alloc), 1)
+    refreshed(alloc, ClusterClient::new(alloc, links, Vec::new(alloc), 1)?)
 }
 
 #[test]
 fn each_call_sends_its_command_and_answers_its_record(rt: HostRuntime) -> Result<(), Fail> {
     let alloc = rt.alloc();
     let mut client = client(alloc)?;
-    assert!(rt; is_refreshed(alloc, &mut client)?);
     for which in 0..11 {
         let text = answer(alloc, &mut client, which)?;
         assert_eq!(rt; text.as_str(), ANSWERS[which]);
@@ -181,7 +180,6 @@ fn claim_of_ids(alloc: Global, client: &mut Client) -> Result<String, RedisError
 fn calls_that_are_refused_send_nothing(rt: HostRuntime) -> Result<(), Fail> {
     let alloc = rt.alloc();
     let mut client = client(alloc)?;
-    assert!(rt; is_refreshed(alloc, &mut client)?);
     for which in 0..5 {
         assert_eq!(rt; refusal(alloc, &mut client, which), Some(CAUSES[which]));
         assert!(rt; client.asked().is_empty());

@@ -193,7 +193,7 @@ fn commands_of(alloc: Global, texts: &[&str]) -> Result<Vec<Cmd>, AllocError> {
 fn client_of(alloc: Global, row: &Row) -> Result<Client, RedisError> {
     let mut n1 = Vec::from_slice(alloc, ALL_AT_N1)?;
     n1.extend_from_slice(row.n1)?;
-    client_of_two(alloc, &n1, row.n2, row.budget)
+    refreshed(alloc, client_of_two(alloc, &n1, row.n2, row.budget)?)
 }
 
 /// An answer, or why there is none: a server's error, a position, or the number of the refusal.
@@ -239,7 +239,6 @@ fn told(alloc: Global, client: &mut Client, row: &Row) -> Result<String, RedisEr
 
 fn plays<R: Abort>(rt: &R, alloc: Global, row: &Row) -> Result<(), Fail> {
     let mut client = client_of(alloc, row)?;
-    assert!(rt; is_refreshed(alloc, &mut client)?);
     assert_eq!(rt; told(alloc, &mut client, row)?.as_str(), row.told);
     Ok(())
 }
@@ -264,7 +263,6 @@ fn is_no_value(answer: Result<i64, RedisError>) -> bool {
 fn a_transactions_reply_is_read_as_a_type(rt: HostRuntime) -> Result<(), Fail> {
     let alloc = rt.alloc();
     let mut client = client_of(alloc, &ROWS[0])?;
-    assert!(rt; is_refreshed(alloc, &mut client)?);
     let commands = commands_of(alloc, TWO)?;
     assert!(rt; is_no_value(client.transaction(alloc, &commands)));
     assert_eq!(rt; client.asked().len(), 4);

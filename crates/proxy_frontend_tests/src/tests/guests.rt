@@ -23,6 +23,14 @@ pub(crate) fn of_two(alloc: Global) -> Front {
     )
 }
 
+/// A frontend of two guests, who have both joined.
+fn joined_by_two<R: Abort>(rt: &R, alloc: Global) -> Front {
+    let mut front = of_two(alloc);
+    assert_eq!(rt; front.join(alloc, Talk::new()), Ok(0));
+    assert_eq!(rt; front.join(alloc, Talk::new()), Ok(1));
+    front
+}
+
 /// Takes what a guest asked, as far as there is room.
 fn take_in(alloc: Global, front: &mut Front, guest: usize) -> Result<Progress, AllocError> {
     for _ in 0..1000 {
@@ -60,9 +68,7 @@ fn reads<R: Abort>(
 #[test]
 fn each_guest_reads_its_own(rt: HostRuntime) -> Result<(), Fail> {
     let alloc = rt.alloc();
-    let mut front = of_two(alloc);
-    assert_eq!(rt; front.join(alloc, Talk::new()), Ok(0));
-    assert_eq!(rt; front.join(alloc, Talk::new()), Ok(1));
+    let mut front = joined_by_two(&rt, alloc);
     assert_eq!(rt; front.join(alloc, Talk::new()), Err(JoinRefusal::Full));
     for (guest, piece) in [
         (0, b"*2\r\n$3\r\nGE".as_slice()),
@@ -92,9 +98,7 @@ fn each_guest_reads_its_own(rt: HostRuntime) -> Result<(), Fail> {
 #[test]
 fn who_takes_a_number_again_reads_nothing_of_the_one_before(rt: HostRuntime) -> Result<(), Fail> {
     let alloc = rt.alloc();
-    let mut front = of_two(alloc);
-    assert_eq!(rt; front.join(alloc, Talk::new()), Ok(0));
-    assert_eq!(rt; front.join(alloc, Talk::new()), Ok(1));
+    let mut front = joined_by_two(&rt, alloc);
     front.hear(0, b"GET a\r\nPING\r\nGET b\r\nGET")?;
     front.hear(1, b"GET c\r\n")?;
     assert_eq!(rt; take_in(alloc, &mut front, 0)?, Progress::Short);

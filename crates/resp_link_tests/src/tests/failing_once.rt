@@ -6,44 +6,41 @@ use std::alloc::Global;
 use std::io::{Error, ErrorKind, Read, Write};
 use std::test::*;
 
-const REPLY: &[u8] = b":7\r\n";
+pub(crate) const REPLY: &[u8] = b":7\r\n";
 
-// It fails at the call with one number, and counts its calls and the flushes among them. A read gives the next
-// byte of the reply, and a write takes one byte.
+// It fails at the call with one number, and counts its calls and the flushes among them. A read gives one byte of the
+// reply, the one with the number of the call, and a write takes one byte.
 #[derive(Drop)]
-struct FailsOnce {
+pub(crate) struct FailsOnce {
     fails_at: usize,
     calls: usize,
     flushes: usize,
-    given: usize,
 }
 
 impl FailsOnce {
-    fn new(fails_at: usize) -> FailsOnce {
+    pub(crate) fn new(fails_at: usize) -> FailsOnce {
         FailsOnce {
             fails_at,
             calls: 0,
             flushes: 0,
-            given: 0,
         }
     }
 
-    fn call(&mut self) -> std::io::Result<()> {
+    fn call(&mut self) -> std::io::Result<usize> {
         self.calls = self.calls.saturating_add(1);
         if self.calls == self.fails_at {
             return Err(Error::from(ErrorKind::Interrupted));
         }
-        Ok(())
+        Ok(self.calls)
     }
 }
 
 impl Read for FailsOnce {
     fn read(&mut self, buf: &mut [u8]) -> std::io::Result<usize> {
-        self.call()?;
-        match (buf.first_mut(), REPLY.get(self.given)) {
+        let call = self.call()?;
+        match (buf.first_mut(), REPLY.get(call.saturating_sub(1))) {
             (Some(room), Some(byte)) => {
                 *room = *byte;
-                self.given = self.given.saturating_add(1);
                 Ok(1)
             }
             _ => Ok(0),
@@ -59,7 +56,8 @@ impl Write for FailsOnce {
 
     fn flush(&mut self) -> std::io::Result<()> {
         self.flushes = self.flushes.saturating_add(1);
-        self.call()
+        self.call()?;
+        Ok(())
     }
 }
 

@@ -1,68 +1,17 @@
 //! Devices and links over readers and writers of std.
+use crate::tests::failing_once::{FailsOnce, REPLY};
 use crate::tests::links::int_of;
 use resp_core::{LinkRead, Refused};
 use resp_link::*;
 use std::alloc::Global;
-use std::io::{Error, Read, Write};
+use std::io::Write;
 use std::test::*;
-
-// A device of std that refuses one of its calls. A read gives one byte of the text, the one with the
-// number of the call; a write takes one byte.
-#[derive(Drop)]
-struct Slow {
-    calls: usize,
-    refused_at: usize,
-}
-
-const TEXT: &[u8] = b":7\r\n";
-
-impl Slow {
-    fn new(refused_at: usize) -> Slow {
-        Slow {
-            calls: 0,
-            refused_at,
-        }
-    }
-
-    fn turn(&mut self) -> std::io::Result<usize> {
-        self.calls = self.calls.saturating_add(1);
-        if self.calls == self.refused_at {
-            return Err(Error::from(std::io::ErrorKind::Interrupted));
-        }
-        Ok(self.calls)
-    }
-}
-
-impl Read for Slow {
-    fn read(&mut self, buf: &mut [u8]) -> std::io::Result<usize> {
-        let call = self.turn()?;
-        match (buf.first_mut(), TEXT.get(call.saturating_sub(1))) {
-            (Some(room), Some(byte)) => {
-                *room = *byte;
-                Ok(1)
-            }
-            _ => Ok(0),
-        }
-    }
-}
-
-impl Write for Slow {
-    fn write(&mut self, buf: &[u8]) -> std::io::Result<usize> {
-        self.turn()?;
-        Ok(buf.len().min(1))
-    }
-
-    fn flush(&mut self) -> std::io::Result<()> {
-        self.turn()?;
-        Ok(())
-    }
-}
 
 /// No clause ties the wrappers to what their readers and writers refuse: each call is one call there,
 /// and a refused one is not made again.
 #[test]
 fn a_reader_of_std_refuses(rt: HostRuntime) {
-    let mut device = FromRead::new(Slow::new(2));
+    let mut device = FromRead::new(FailsOnce::new(2));
     let mut room = [0u8; 2];
     assert_eq!(rt; device.read_some(&mut room), Ok(1));
     assert_eq!(rt; room[0], b':');
@@ -73,19 +22,19 @@ fn a_reader_of_std_refuses(rt: HostRuntime) {
 
 #[test]
 fn a_writer_of_std_refuses(rt: HostRuntime) {
-    let mut device = FromWrite::new(Slow::new(2));
+    let mut device = FromWrite::new(FailsOnce::new(2));
     assert_eq!(rt; device.write_some(b"abc"), Ok(1));
     assert_eq!(rt; device.write_some(b"bc"), Err(Refused));
     assert_eq!(rt; device.write_some(b"bc"), Ok(1));
     assert_eq!(rt; device.flush(), Ok(()));
-    let mut device = FromWrite::new(Slow::new(1));
+    let mut device = FromWrite::new(FailsOnce::new(1));
     assert_eq!(rt; device.flush(), Err(Refused));
     assert_eq!(rt; device.flush(), Ok(()));
 }
 
 fn answered(alloc: Global, refused_read: usize, refused_write: usize) -> Option<i64> {
-    let reader = FromRead::new(Slow::new(refused_read));
-    let writer = FromWrite::new(Slow::new(refused_write));
+    let reader = FromRead::new(FailsOnce::new(refused_read));
+    let writer = FromWrite::new(FailsOnce::new(refused_write));
     let mut link = ByteLink::new(alloc, reader, writer);
     int_of(link.req_packed_command(alloc, b"ab"))
 }
@@ -105,14 +54,14 @@ fn a_link_over_std(rt: HostRuntime) {
 #[test]
 fn a_link_hands_its_devices_back(rt: HostRuntime) {
     let alloc = rt.alloc();
-    let reader = FromRead::new(TEXT);
+    let reader = FromRead::new(REPLY);
     let writer = FromWrite::new(Vec::new(alloc));
     let mut link = ByteLink::new(alloc, reader, writer);
     assert!(rt; link.req_packed_commands(alloc, b"ab", 0, 0).is_ok());
     let (reader, writer) = link.into_parts();
     let left = reader.into_inner();
     let written = writer.into_inner();
-    assert_eq!(rt; left, TEXT);
+    assert_eq!(rt; left, REPLY);
     assert_eq!(rt; written.as_slice(), b"ab".as_slice());
 }
 
@@ -139,7 +88,7 @@ impl Write for Flushed {
 fn each_call_flushes_the_writer_of_std(rt: HostRuntime) {
     let alloc = rt.alloc();
     let writer = FromWrite::new(Flushed { times: 0 });
-    let mut link = ByteLink::new(alloc, FromRead::new(TEXT), writer);
+    let mut link = ByteLink::new(alloc, FromRead::new(REPLY), writer);
     assert!(rt; link.req_packed_commands(alloc, b"ab", 0, 0).is_ok());
     assert!(rt; link.req_packed_commands(alloc, b"c", 0, 0).is_ok());
     let (_reader, writer) = link.into_parts();

@@ -1,5 +1,5 @@
 //! Links that send by one call and take the replies by another.
-use crate::tests::links::{int_of, link_over};
+use crate::tests::links::{int_of, is_refused, link_over};
 use resp_core::{ErrorKind, RedisError, Value};
 use resp_link::*;
 use std::test::*;
@@ -18,16 +18,9 @@ fn only(replies: Result<Vec<Value>, RedisError>) -> Option<i64> {
     }
 }
 
-fn has_failed<T: Drop>(answer: Result<T, RedisError>, kind: ErrorKind) -> bool {
-    match answer {
-        Ok(_) => false,
-        Err(e) => e.kind() == kind,
-    }
-}
-
 /// Whether the call was refused, since the link owes replies, owes none or is closed.
 fn is_out_of_turn<T: Drop>(answer: Result<T, RedisError>) -> bool {
-    has_failed(answer, ErrorKind::ClusterConnectionNotFound)
+    is_refused(answer, ErrorKind::ClusterConnectionNotFound)
 }
 
 #[test]
@@ -67,7 +60,7 @@ fn a_link_that_owes_none_gives_none(rt: HostRuntime) -> Result<(), Fail> {
     assert_eq!(rt; int_of(link.req_packed_command(alloc, b"a")), Some(1));
     assert!(rt; link.send_packed_commands(b"b").is_ok());
     // The bytes end: the link is closed, and owes nothing.
-    assert!(rt; has_failed(link.recv_responses(alloc, 1), ErrorKind::Io));
+    assert!(rt; is_refused(link.recv_responses(alloc, 1), ErrorKind::Io));
     assert!(rt; !link.is_open());
     assert!(rt; is_out_of_turn(link.recv_responses(alloc, 1)));
     assert!(rt; is_out_of_turn(link.send_packed_commands(b"c")));
@@ -79,7 +72,7 @@ fn a_link_that_owes_none_gives_none(rt: HostRuntime) -> Result<(), Fail> {
 fn a_refused_sending_closes(rt: HostRuntime) -> Result<(), Fail> {
     let alloc = rt.alloc();
     let mut link = link_over(alloc, b":1\r\n", 1)?;
-    assert!(rt; has_failed(link.send_packed_commands(b"a"), ErrorKind::Io));
+    assert!(rt; is_refused(link.send_packed_commands(b"a"), ErrorKind::Io));
     assert!(rt; !link.is_open());
     assert!(rt; is_out_of_turn(link.recv_responses(alloc, 1)));
     assert_eq!(rt; link.writer().written(), b"".as_slice());

@@ -8,11 +8,16 @@ use std::process::Abort;
 use std::test::*;
 
 // Refusals that many rows have.
-const BAD_COUNT: &[u8] = b"-ERR Protocol error: invalid multibulk length\r\n";
+pub(crate) const BAD_COUNT: &[u8] = b"-ERR Protocol error: invalid multibulk length\r\n";
 
-const BAD_LENGTH: &[u8] = b"-ERR Protocol error: invalid bulk length\r\n";
+pub(crate) const BAD_LENGTH: &[u8] = b"-ERR Protocol error: invalid bulk length\r\n";
 
 const OPEN_QUOTE: &[u8] = b"-ERR Protocol error: unbalanced quotes in request\r\n";
+
+// Beginnings of refusals.
+const NO_DOLLAR: &[u8] = b"-ERR Protocol error: expected '$', got '";
+
+const UNKNOWN: &[u8] = b"-ERR unknown command 'X', with args beginning with: ";
 
 // Arrays of bulks, and what stands between them.
 const ARRAYS: [(&[u8], &[u8]); 19] = [
@@ -44,7 +49,7 @@ const ARRAYS: [(&[u8], &[u8]); 19] = [
 ];
 
 // Counts and lengths that are none.
-const COUNTS: [(&[u8], &[u8]); 30] = [
+const COUNTS: [(&[u8], &[u8]); 23] = [
     (b"*\r\n", BAD_COUNT),
     (b"*x\r\n", BAD_COUNT),
     (b"* 1\r\n", BAD_COUNT),
@@ -59,34 +64,6 @@ const COUNTS: [(&[u8], &[u8]); 30] = [
     (b"*-9223372036854775809\r\n", BAD_COUNT),
     (b"*99999999999999999999\r\n", BAD_COUNT),
     (b"*-99999999999999999999\r\n", BAD_COUNT),
-    (
-        b"*1\r\nPING\r\n",
-        b"-ERR Protocol error: expected '$', got 'P'\r\n",
-    ),
-    (
-        b"*1\r\n:1\r\n",
-        b"-ERR Protocol error: expected '$', got ':'\r\n",
-    ),
-    (
-        b"*1\r\n\r\n",
-        b"-ERR Protocol error: expected '$', got ' '\r\n",
-    ),
-    (
-        b"*1\r\n*1\r\n",
-        b"-ERR Protocol error: expected '$', got '*'\r\n",
-    ),
-    (
-        b"*1\r\n\xff\r\n",
-        b"-ERR Protocol error: expected '$', got '\xff'\r\n",
-    ),
-    (
-        b"*1\r\n\n\r\n",
-        b"-ERR Protocol error: expected '$', got ' '\r\n",
-    ),
-    (
-        b"*2\r\n$4\r\nECHO\r\na\r\n",
-        b"-ERR Protocol error: expected '$', got 'a'\r\n",
-    ),
     (b"*1\r\n$\r\n", BAD_LENGTH),
     (b"*1\r\n$-1\r\n", BAD_LENGTH),
     (b"*1\r\n$x\r\n", BAD_LENGTH),
@@ -98,113 +75,55 @@ const COUNTS: [(&[u8], &[u8]); 30] = [
     (b"*1\r\n$99999999999999999999\r\n", BAD_LENGTH),
 ];
 
+// What stands in the place of an argument, and the byte of it that is told.
+const NO_ARGUMENTS: [(&[u8], &[u8]); 7] = [
+    (b"*1\r\nPING\r\n", b"P"),
+    (b"*1\r\n:1\r\n", b":"),
+    (b"*1\r\n\r\n", b" "),
+    (b"*1\r\n*1\r\n", b"*"),
+    (b"*1\r\n\xff\r\n", b"\xff"),
+    (b"*1\r\n\n\r\n", b" "),
+    (b"*2\r\n$4\r\nECHO\r\na\r\n", b"a"),
+];
+
 // Inline requests.
-const WORDS: [(&[u8], &[u8]); 17] = [
+const WORDS: [(&[u8], &[u8]); 6] = [
     (b"PING\r\n", b"+PONG\r\n"),
     (b"PING\n", b"+PONG\r\n"),
     (b"\r\n\n  \r\n\tPING \r\n", b"+PONG\r\n"),
     (b"PING", b""),
     (b"PING\r", b""),
     (
-        b"X a  b\tc\r\n",
-        b"-ERR unknown command 'X', with args beginning with: 'a' 'b' 'c' \r\n",
-    ),
-    (
-        b"X a\rb\r\n",
-        b"-ERR unknown command 'X', with args beginning with: 'a' 'b' \r\n",
-    ),
-    (
-        b"X a\r\r\n",
-        b"-ERR unknown command 'X', with args beginning with: 'a' \r\n",
-    ),
-    (
-        b"X\x0ba\r\n",
-        b"-ERR unknown command 'X\x0ba', with args beginning with: \r\n",
-    ),
-    (
-        b"X \x0b\x0ca\r\n",
-        b"-ERR unknown command 'X', with args beginning with: 'a' \r\n",
-    ),
-    (
-        b"X a\x0cb\r\n",
-        b"-ERR unknown command 'X', with args beginning with: 'a\x0cb' \r\n",
-    ),
-    (
-        b"X \xff\r\n",
-        b"-ERR unknown command 'X', with args beginning with: '\xff' \r\n",
-    ),
-    (
-        b"+PING\r\n",
-        b"-ERR unknown command '+PING', with args beginning with: \r\n",
-    ),
-    (
         b"$4\r\nPING\r\n",
         b"-ERR unknown command '$4', with args beginning with: \r\n+PONG\r\n",
     ),
-    (
-        b" *1\r\n",
-        b"-ERR unknown command '*1', with args beginning with: \r\n",
-    ),
-    (
-        b"X a\\nb\r\n",
-        b"-ERR unknown command 'X', with args beginning with: 'a\\nb' \r\n",
-    ),
-    (
-        b"X \\\" b\"\r\n",
-        b"-ERR unknown command 'X', with args beginning with: '\\ b' \r\n",
-    ),
+];
+
+// Commands that are not known, without arguments, and the names that are told.
+const NAMES: [(&[u8], &[u8]); 3] = [
+    (b"X\x0ba\r\n", b"X\x0ba"),
+    (b"+PING\r\n", b"+PING"),
+    (b" *1\r\n", b"*1"),
+];
+
+// Arguments of a command that is not known, and how they are told.
+const ARGUMENTS: [(&[u8], &[u8]); 8] = [
+    (b"X a  b\tc\r\n", b"'a' 'b' 'c' "),
+    (b"X a\rb\r\n", b"'a' 'b' "),
+    (b"X a\r\r\n", b"'a' "),
+    (b"X \x0b\x0ca\r\n", b"'a' "),
+    (b"X a\x0cb\r\n", b"'a\x0cb' "),
+    (b"X \xff\r\n", b"'\xff' "),
+    (b"X a\\nb\r\n", b"'a\\nb' "),
+    (b"X \\\" b\"\r\n", b"'\\ b' "),
 ];
 
 // Quotes in inline requests.
-const QUOTES: [(&[u8], &[u8]); 26] = [
-    (
-        b"X \"a b\" c\r\n",
-        b"-ERR unknown command 'X', with args beginning with: 'a b' 'c' \r\n",
-    ),
-    (
-        b"X 'a b' c\r\n",
-        b"-ERR unknown command 'X', with args beginning with: 'a b' 'c' \r\n",
-    ),
+const QUOTES: [(&[u8], &[u8]); 15] = [
     (b"\"ECHO\" \"a\"\n", b"$1\r\na\r\n"),
-    (
-        b"X \"\"\r\n",
-        b"-ERR unknown command 'X', with args beginning with: '' \r\n",
-    ),
-    (
-        b"X '' a\r\n",
-        b"-ERR unknown command 'X', with args beginning with: '' 'a' \r\n",
-    ),
     (
         b"ECHO \"\\x41\\xaF\\n\\r\\t\\b\\a\\q\\\\\\\"\"\r\n",
         b"$10\r\nA\xaf\n\r\t\x08\x07q\\\"\r\n",
-    ),
-    (
-        b"X \"\\xg1\" \"\\x1\" \"\\x1g\" \"\\x\" \"\\X41\"\r\n",
-        b"-ERR unknown command 'X', with args beginning with: 'xg1' 'x1' 'x1g' 'x' 'X41' \r\n",
-    ),
-    (
-        b"X 'a\\'b' '\\n' '\\\\a'\r\n",
-        b"-ERR unknown command 'X', with args beginning with: 'a'b' '\\n' '\\\\a' \r\n",
-    ),
-    (
-        b"X \"'\" '\"'\r\n",
-        b"-ERR unknown command 'X', with args beginning with: ''' '\"' \r\n",
-    ),
-    (
-        b"X a\"b c\"\r\n",
-        b"-ERR unknown command 'X', with args beginning with: 'ab c' \r\n",
-    ),
-    (
-        b"X a'b c'\r\n",
-        b"-ERR unknown command 'X', with args beginning with: 'ab c' \r\n",
-    ),
-    (
-        b"X \"a\"\x0bb\r\n",
-        b"-ERR unknown command 'X', with args beginning with: 'a' 'b' \r\n",
-    ),
-    (
-        b"X \"a\"\r\r\n",
-        b"-ERR unknown command 'X', with args beginning with: 'a' \r\n",
     ),
     (b"X \"a", b""),
     (b"X \"a\r\n", OPEN_QUOTE),
@@ -224,15 +143,57 @@ const QUOTES: [(&[u8], &[u8]); 26] = [
     ),
 ];
 
-fn all_answered(rt: &impl Abort, alloc: Global, rows: &[(&[u8], &[u8])]) -> Result<(), Fail> {
+// The same in quotes.
+const QUOTED_ARGUMENTS: [(&[u8], &[u8]); 11] = [
+    (b"X \"a b\" c\r\n", b"'a b' 'c' "),
+    (b"X 'a b' c\r\n", b"'a b' 'c' "),
+    (b"X \"\"\r\n", b"'' "),
+    (b"X '' a\r\n", b"'' 'a' "),
+    (
+        b"X \"\\xg1\" \"\\x1\" \"\\x1g\" \"\\x\" \"\\X41\"\r\n",
+        b"'xg1' 'x1' 'x1g' 'x' 'X41' ",
+    ),
+    (b"X 'a\\'b' '\\n' '\\\\a'\r\n", b"'a'b' '\\n' '\\\\a' "),
+    (b"X \"'\" '\"'\r\n", b"''' '\"' "),
+    (b"X a\"b c\"\r\n", b"'ab c' "),
+    (b"X a'b c'\r\n", b"'ab c' "),
+    (b"X \"a\"\x0bb\r\n", b"'a' 'b' "),
+    (b"X \"a\"\r\r\n", b"'a' "),
+];
+
+/// What was sent is answered so, in pieces of any size.
+fn is_answered(rt: &impl Abort, alloc: Global, sent: &[u8], wanted: &[u8]) -> Result<(), Fail> {
     for size in [1, 2, 3, 7, 1000] {
-        for (sent, seen) in rows {
-            let answers = answers_to(alloc, Limits::of_redis(), sent, size)?;
-            let same = answers.as_slice() == *seen;
-            let shown = String::from_utf8_lossy(alloc, sent)?;
-            let told = String::from_utf8_lossy(alloc, &answers)?;
-            assert!(rt; same, "{shown} in pieces of {size}: {told}");
-        }
+        let answers = answers_to(alloc, Limits::of_redis(), sent, size)?;
+        let same = answers.as_slice() == wanted;
+        let shown = String::from_utf8_lossy(alloc, sent)?;
+        let told = String::from_utf8_lossy(alloc, &answers)?;
+        assert!(rt; same, "{shown} in pieces of {size}: {told}");
+    }
+    Ok(())
+}
+
+/// Each row is answered by what was seen.
+fn all_answered(rt: &impl Abort, alloc: Global, rows: &[(&[u8], &[u8])]) -> Result<(), Fail> {
+    for (sent, seen) in rows {
+        is_answered(rt, alloc, sent, seen)?;
+    }
+    Ok(())
+}
+
+/// Each row is answered by what it tells, with the same before it and the same behind it.
+fn all_told(
+    rt: &impl Abort,
+    alloc: Global,
+    before: &[u8],
+    rows: &[(&[u8], &[u8])],
+    behind: &[u8],
+) -> Result<(), Fail> {
+    for (sent, told) in rows {
+        let mut wanted = Vec::from_slice(alloc, before)?;
+        wanted.extend_from_slice(told)?;
+        wanted.extend_from_slice(behind)?;
+        is_answered(rt, alloc, sent, &wanted)?;
     }
     Ok(())
 }
@@ -244,15 +205,21 @@ fn arrays_are_answered(rt: HostRuntime) -> Result<(), Fail> {
 
 #[test]
 fn counts_are_answered(rt: HostRuntime) -> Result<(), Fail> {
-    all_answered(&rt, rt.alloc(), &COUNTS)
+    all_answered(&rt, rt.alloc(), &COUNTS)?;
+    all_told(&rt, rt.alloc(), NO_DOLLAR, &NO_ARGUMENTS, b"'\r\n")
 }
 
 #[test]
 fn words_are_answered(rt: HostRuntime) -> Result<(), Fail> {
-    all_answered(&rt, rt.alloc(), &WORDS)
+    let alloc = rt.alloc();
+    all_answered(&rt, alloc, &WORDS)?;
+    let no_arguments = b"', with args beginning with: \r\n";
+    all_told(&rt, alloc, b"-ERR unknown command '", &NAMES, no_arguments)?;
+    all_told(&rt, alloc, UNKNOWN, &ARGUMENTS, b"\r\n")
 }
 
 #[test]
 fn quotes_are_answered(rt: HostRuntime) -> Result<(), Fail> {
-    all_answered(&rt, rt.alloc(), &QUOTES)
+    all_answered(&rt, rt.alloc(), &QUOTES)?;
+    all_told(&rt, rt.alloc(), UNKNOWN, &QUOTED_ARGUMENTS, b"\r\n")
 }

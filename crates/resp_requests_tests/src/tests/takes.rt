@@ -1,5 +1,6 @@
 //! Limits, faults that stay, and what is kept.
 use crate::tests::answers::answers_to;
+use crate::tests::seen::{BAD_COUNT, BAD_LENGTH};
 use resp_requests::{
     Fault, Limits, RequestError, RequestReader, any_pieces, examples, one_after_another,
 };
@@ -16,14 +17,8 @@ const SMALL: Limits = Limits {
 // Bytes at the limits, and one beyond each.
 const AT_LIMITS: [(&[u8], &[u8]); 9] = [
     (b"*2\r\n$4\r\nECHO\r\n$4\r\nabcd\r\n", b"$4\r\nabcd\r\n"),
-    (
-        b"*3\r\n",
-        b"-ERR Protocol error: invalid multibulk length\r\n",
-    ),
-    (
-        b"*1\r\n$5\r\n",
-        b"-ERR Protocol error: invalid bulk length\r\n",
-    ),
+    (b"*3\r\n", BAD_COUNT),
+    (b"*1\r\n$5\r\n", BAD_LENGTH),
     (b"ECHO a\n", b"$1\r\na\r\n"),
     (
         b"ECHO a\r",
