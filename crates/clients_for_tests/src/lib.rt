@@ -10,4 +10,5 @@ pub use clients::{
     ALL_AT_N1, Client, HALVES, Link, Links, add_link, client_of_halves, client_of_two, has_sent,
     is_last_asked, is_refreshed, kind_of, link, node, refreshed, refreshed_of_two,
 };
-pub use replicas::{Nth, WITH_REPLICAS, client_of_replicas, refreshed_of_replicas};
+pub use replicas::{WITH_REPLICAS, client_of_replicas, refreshed_of_replicas};
+pub use strategies_for_tests::Nth;

@@ -1,57 +1,15 @@
 //! Which routes ask a strategy, and how often.
-ghost use Rattle.std.specs.Prelude.{Contains};
-ghost use Rattle.cluster_routing.specs.Seen.{address};
-
 use crate::tests::texts::is_text;
 use crate::tests::topology::sample_map;
-use cluster_routing::{
-    NodeAddress, ReadCandidates, ReadRoutingStrategy, Replicas, Route, SlotAddr, SlotMap,
-};
+use cluster_routing::{Route, SlotAddr, SlotMap};
 use resp_core::RedisError;
 use std::alloc::{AllocError, Global};
-use std::cell::Cell;
 use std::test::Fail;
-
-// The last replica, each time that it is asked, which it counts.
-#[derive(Drop)]
-struct LastReplica {
-    asked: Cell<u64>,
-}
-
-impl LastReplica {
-    fn new() -> LastReplica {
-        LastReplica {
-            asked: Cell::new(0),
-        }
-    }
-}
-
-impl ReadRoutingStrategy for LastReplica {
-    ghost use Rattle.std.specs.Prelude.{true};
-
-    ghost admits = { λ _ _ _. true };
-
-    fn route_read<'a>(&self, candidates: &ReadCandidates<'a>) -> &'a NodeAddress {
-        self.asked.set(self.asked.get().wrapping_add(1));
-        match candidates {
-            ReadCandidates::AnyNode(any) => second_or_first(any.replicas()),
-            ReadCandidates::ReplicasOnly(only) => second_or_first(only.replicas()),
-        }
-    }
-}
-
-fn second_or_first<'a>(replicas: &Replicas<'a>) -> &'a NodeAddress
-    ensures { Contains replicas.now (address result.now) }
-{
-    match replicas.get(1) {
-        Some(replica) => replica,
-        None => replicas.first(),
-    }
-}
+use strategies_for_tests::Nth;
 
 /// Where a route leads, and how often the strategy was asked.
 fn led(alloc: Global, map: &SlotMap, slot: u16, role: SlotAddr) -> Result<String, AllocError> {
-    let strategy = LastReplica::new();
+    let strategy = Nth::new(1);
     let node = map.slot_addr_for_route(Route::new(slot, role), 0, Some(&strategy));
     match node {
         Some(node) => format!(in alloc; "{node} {}", strategy.asked.get()),
@@ -90,7 +48,7 @@ fn asked_for_four(alloc: Global, map: &SlotMap) -> Result<u64, RedisError> {
     ] {
         routes.push((Route::new(slot, role), Vec::new(alloc)))?;
     }
-    let strategy = LastReplica::new();
+    let strategy = Nth::new(1);
     let led = map.addresses_for_multi_slot(alloc, &routes, 0, Some(&strategy))?;
     drop(led);
     Ok(strategy.asked.get())

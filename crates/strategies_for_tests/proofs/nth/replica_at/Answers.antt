@@ -1,6 +1,6 @@
 use Rattle.std.proofs.Common.{sym}
 use Rattle.cluster_routing.proofs.Lends.{contained}
-use Rattle.clients_for_tests.proofs.replicas.replica_at.Goals as goal
+use Rattle.strategies_for_tests.proofs.nth.replica_at.Goals as goal
 
 pub returns-in-Some : goal.returns-in-Some
 returns-in-Some c = contained c.args.replicas.now c.args.place _ (sym c.in-Some.ensures)
