@@ -56,7 +56,7 @@ pub fn refreshed(alloc: Global, mut client: Client) -> Result<Client, RedisError
     Ok(client)
 }
 
-/// A client as that of two, with a budget of 1, which has learned the slot map of n1:7001.
+/// A client of n1:7001 and n2:7002, with a budget of 1, which has learned the slot map of n1:7001.
 pub fn refreshed_of_two(alloc: Global, n1: &[u8], n2: &[u8]) -> Result<Client, RedisError> {
     refreshed(alloc, client_of_two(alloc, n1, n2, 1)?)
 }

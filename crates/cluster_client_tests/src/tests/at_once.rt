@@ -85,16 +85,21 @@ fn device_of(
     })
 }
 
-fn link(
+/// A node: its number and its address, the bytes that come from it, and how it fails.
+type Row<'a> = (u64, &'a str, &'a [u8], Failing);
+
+fn add_link(
     alloc: Global,
-    number: u64,
+    links: &mut Vec<(NodeAddress, Link)>,
     notes: &Rc<Cell<u64>>,
-    bytes: &[u8],
-    failing: Failing,
-) -> Result<Link, AllocError> {
+    row: Row<'_>,
+) -> Result<(), RedisError> {
+    let (number, address, bytes, failing) = row;
     let reader = device_of(alloc, number, notes, bytes, failing)?;
     let writer = device_of(alloc, number, notes, b"", failing)?;
-    Ok(ByteLink::new(alloc, FromRead::new(reader), FromWrite::new(writer)))
+    let link = ByteLink::new(alloc, FromRead::new(reader), FromWrite::new(writer));
+    links.push((node(alloc, address)?, link))?;
+    Ok(())
 }
 
 /// A client of three nodes, of which the one in the middle sends these bytes and fails so. It learned their slots from
@@ -105,15 +110,16 @@ fn client(
     bytes: &[u8],
     failing: Failing,
 ) -> Result<ClusterClient<Link>, RedisError> {
+    let rows: [Row<'_>; 4] = [
+        (1, "n1:7001", b":1\r\n", Failing::Never),
+        (2, "n2:7002", bytes, failing),
+        (3, "n3:7003", b":3\r\n", Failing::Never),
+        (4, "n4:7004", THIRDS, Failing::Never),
+    ];
     let mut links = Vec::new(alloc);
-    let first = link(alloc, 1, notes, b":1\r\n", Failing::Never)?;
-    links.push((node(alloc, "n1:7001")?, first))?;
-    let second = link(alloc, 2, notes, bytes, failing)?;
-    links.push((node(alloc, "n2:7002")?, second))?;
-    let third = link(alloc, 3, notes, b":3\r\n", Failing::Never)?;
-    links.push((node(alloc, "n3:7003")?, third))?;
-    let fourth = link(alloc, 4, notes, THIRDS, Failing::Never)?;
-    links.push((node(alloc, "n4:7004")?, fourth))?;
+    for row in rows {
+        add_link(alloc, &mut links, notes, row)?;
+    }
     let mut client = ClusterClient::new(alloc, links, Vec::new(alloc), 3)?;
     client.refresh(alloc, &node(alloc, "n4:7004")?)?;
     notes.set(0);

@@ -26,25 +26,31 @@ const ONE: ResponsePolicy = ResponsePolicy::OneSucceeded;
 const ALL: ResponsePolicy = ResponsePolicy::AllSucceeded;
 
 /// A policy, what two nodes answer, and the reply.
-const ROWS: &[(ResponsePolicy, &str, &str, &str)] = &[
+type Row = (ResponsePolicy, &'static str, &'static str, &'static str);
+
+const TRUTHS: Row = (
+    AND,
+    "*2\r\n:1\r\n:0\r\n",
+    "*2\r\n:1\r\n:1\r\n",
+    "*2\r\n:1\r\n:0\r\n",
+);
+
+const LISTS: Row = (
+    ARRAYS,
+    "*1\r\n+a\r\n",
+    "*2\r\n+b\r\n+c\r\n",
+    "*3\r\n+a\r\n+b\r\n+c\r\n",
+);
+
+const ROWS: &[Row] = &[
     (FIRST, "_\r\n", "$1\r\nk\r\n", "$1\r\nk\r\n"),
     (SUM, ":3\r\n", ":4\r\n", ":7\r\n"),
     (SUM, ":9223372036854775807\r\n", ":1\r\n", ""),
     (SUM, ":3\r\n", "$1\r\n4\r\n", ""),
     (MIN, ":2\r\n", ":1\r\n", ":1\r\n"),
-    (
-        AND,
-        "*2\r\n:1\r\n:0\r\n",
-        "*2\r\n:1\r\n:1\r\n",
-        "*2\r\n:1\r\n:0\r\n",
-    ),
+    TRUTHS,
     (AND, "*1\r\n:1\r\n", "*2\r\n:1\r\n:1\r\n", ""),
-    (
-        ARRAYS,
-        "*1\r\n+a\r\n",
-        "*2\r\n+b\r\n+c\r\n",
-        "*3\r\n+a\r\n+b\r\n+c\r\n",
-    ),
+    LISTS,
     (ARRAYS, "*1\r\n+a\r\n", ":1\r\n", ""),
     (
         MAPS,
@@ -72,19 +78,9 @@ const ROWS: &[(ResponsePolicy, &str, &str, &str)] = &[
 ];
 
 /// The same of the calls that take the replies alone.
-const CALLS: &[(ResponsePolicy, &str, &str, &str)] = &[
-    (
-        AND,
-        "*2\r\n:1\r\n:0\r\n",
-        "*2\r\n:1\r\n:1\r\n",
-        "*2\r\n:1\r\n:0\r\n",
-    ),
-    (
-        ARRAYS,
-        "*1\r\n+a\r\n",
-        "*2\r\n+b\r\n+c\r\n",
-        "*3\r\n+a\r\n+b\r\n+c\r\n",
-    ),
+const CALLS: &[Row] = &[
+    TRUTHS,
+    LISTS,
     (
         MAPS,
         "*4\r\n+x\r\n:1\r\n+y\r\n:2\r\n",
