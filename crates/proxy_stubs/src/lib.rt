@@ -7,4 +7,4 @@ mod talk;
 
 pub use moving::Moving;
 pub use on_key::OnKey;
-pub use talk::{Talk, goes_on};
+pub use talk::{Talk, take_in};

@@ -60,13 +60,19 @@ impl Translator<OnKey, Vec<u8>> for Talk {
     }
 }
 
-/// Whether a guest may have said more, by what came of looking for it; tells where memory was refused.
-pub fn goes_on<R: Print>(rt: &R, advanced: Result<Progress, AllocError>) -> io::Result<bool> {
-    match advanced {
-        Ok(progress) => Ok(progress == Progress::Taken),
-        Err(AllocError) => {
-            println!(rt; "refused advance")?;
-            Ok(true)
+/// Takes what a guest said while there may be more, nine times at most; tells where memory was refused.
+pub fn take_in<R: Print, F: FnMut() -> Result<Progress, AllocError>>(
+    rt: &R,
+    mut advance: F,
+) -> io::Result<()>
+    requires { F.IsAlwaysCallable advance }
+{
+    for _ in 0..9 {
+        match advance() {
+            Ok(Progress::Taken) => {}
+            Ok(_) => break,
+            Err(AllocError) => println!(rt; "refused advance")?,
         }
     }
+    Ok(())
 }

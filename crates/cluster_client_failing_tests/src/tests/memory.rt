@@ -8,6 +8,7 @@ use crate::tests::failing::{bytes_from, number_in, push_asked, pushes_at, refres
 use crate::tests::rows::{COUNTED, Row, TRANSACTION, row_at};
 use clients_for_tests::*;
 use cluster_client::*;
+use refusals_for_tests::again;
 use std::alloc::{AllocError, Global};
 use std::io::Print;
 use std::process::Abort;
@@ -31,14 +32,61 @@ fn make_words(alloc: Global) -> Result<Words, RedisError> {
     })
 }
 
-fn make_words_again<R: Print>(rt: &R, alloc: Global) -> Result<Words, Fail> {
-    match make_words(alloc) {
-        Ok(words) => Ok(words),
-        Err(_) => {
-            println!(rt; "refused words")?;
-            Ok(make_words(alloc)?)
-        }
-    }
+/// States of a client, each with what later calls answer.
+type States = &'static [(&'static str, &'static str)];
+
+/// A call behind a refresh: its name, the state that is wanted, and those of which one stands where it was refused.
+#[derive(Drop)]
+struct Told {
+    call: &'static str,
+    wanted: &'static str,
+    refused: States,
+}
+
+/// Where the refresh was refused.
+const NOT_REFRESHED: States = &[
+    ("-17, -7, false 0 0 0 0 0", "-7, -7, 0, 0"),
+    ("-17, -7, false 0 0 0 28! 0", "-7, -7, 8, 0"),
+    ("-17, -7, false 0 0 0 28 0", "-7, -7, 0, 0"),
+    ("-14, -7, false 0 0 0 0! 0", "-7, -7, 8, 0"),
+];
+
+/// The same of a client with replicas.
+const REPLICAS_NOT_REFRESHED: States = &[
+    ("-17, -7, false 0 0 0 0 0 0", "-7, -7, 0"),
+    ("-17, -7, false 0 0 0 28! 0 0", "-7, -7, 8"),
+    ("-17, -7, false 0 0 0 28 0 0", "-7, -7, 0"),
+    ("-14, -7, false 0 0 0 0! 0 0", "-7, -7, 8"),
+];
+
+/// A client that was refreshed, and the answer to that.
+#[derive(Drop)]
+struct Begun {
+    client: Client,
+    has_replicas: bool,
+    words: Words,
+    first: i64,
+}
+
+fn begin<R: Print>(
+    rt: &R,
+    alloc: Global,
+    mut client: Client,
+    has_replicas: bool,
+) -> Result<Begun, Fail> {
+    let words = again(rt, "words", || make_words(alloc))?;
+    let first = refresh(alloc, &mut client, &words);
+    Ok(Begun {
+        client,
+        has_replicas,
+        words,
+        first,
+    })
+}
+
+fn begin_row<R: Print>(rt: &R, alloc: Global, row: &Row) -> Result<Begun, Fail> {
+    let client = again(rt, "client", || client_of(alloc, row))?;
+    begin(rt, alloc, client, false)
 }
 
 /// A client over links from which a row's bytes come.
@@ -46,16 +94,6 @@ fn client_of(alloc: Global, row: &Row) -> Result<Client, RedisError> {
     let n1 = bytes_from(alloc, row, true)?;
     let n2 = bytes_from(alloc, row, false)?;
     client_of_two(alloc, &n1, &n2, row.budget)
-}
-
-fn client_again<R: Print>(rt: &R, alloc: Global, row: &Row) -> Result<Client, Fail> {
-    match client_of(alloc, row) {
-        Ok(client) => Ok(client),
-        Err(_) => {
-            println!(rt; "refused client")?;
-            Ok(client_of(alloc, row)?)
-        }
-    }
 }
 
 /// The number of a refusal below zero; 1 where there is an answer, and it is the one that is wanted.
@@ -76,7 +114,8 @@ fn refresh(alloc: Global, client: &mut Client, words: &Words) -> i64 {
 /// What the client tells of itself behind two calls: whether a refresh is needed, the numbers of picks and
 /// of pushes at n1:7001 and n2:7002, how many bytes went out over each link, with `!` behind that of a
 /// closed one, and the log.
-fn state(alloc: Global, client: &Client, first: i64, second: i64) -> Result<String, RedisError> {
+fn state(alloc: Global, begun: &Begun, second: i64) -> Result<String, RedisError> {
+    let (client, first) = (&begun.client, begun.first);
     let flag = client.needs_refresh();
     let picks = client.picked().len();
     let n1 = pushes_at(alloc, client, "n1:7001")?;
@@ -93,22 +132,6 @@ fn state(alloc: Global, client: &Client, first: i64, second: i64) -> Result<Stri
     Ok(text)
 }
 
-fn state_again<R: Print>(
-    rt: &R,
-    alloc: Global,
-    client: &Client,
-    first: i64,
-    second: i64,
-) -> Result<String, Fail> {
-    match state(alloc, client, first, second) {
-        Ok(text) => Ok(text),
-        Err(_) => {
-            println!(rt; "refused format")?;
-            Ok(state(alloc, client, first, second)?)
-        }
-    }
-}
-
 /// Tells which call was refused, where one was.
 fn tells_refused<R: Print>(rt: &R, first: i64, second: i64, call: &str) -> Result<bool, Fail> {
     if first < 0 {
@@ -120,7 +143,7 @@ fn tells_refused<R: Print>(rt: &R, first: i64, second: i64, call: &str) -> Resul
 }
 
 /// Whether the state and the later answers are one of these pairs; else the first of them is wanted.
-fn is_among<R: Abort>(rt: &R, texts: &[(&str, &str)], state: &str, later: &str) {
+fn is_among<R: Abort>(rt: &R, texts: States, state: &str, later: &str) {
     let mut is_there = false;
     for text in texts {
         is_there = is_there || text.0 == state && text.1 == later;
@@ -136,93 +159,104 @@ fn is_among<R: Abort>(rt: &R, texts: &[(&str, &str)], state: &str, later: &str) 
     }
 }
 
+/// The states of which one stands where the refresh or the call was refused.
+fn refused_states(begun: &Begun, told: &Told) -> States {
+    if begun.first >= 0 {
+        told.refused
+    } else if begun.has_replicas {
+        REPLICAS_NOT_REFRESHED
+    } else {
+        NOT_REFRESHED
+    }
+}
+
+fn later(alloc: Global, begun: &mut Begun) -> Result<String, RedisError> {
+    if begun.has_replicas {
+        later_reads(alloc, &mut begun.client)
+    } else {
+        told_later(alloc, &mut begun.client)
+    }
+}
+
 /// Sees what stands behind two calls: all that was wanted, or, where one of them was refused, one of
 /// these states with its later answers.
 fn sees<R: Abort + Print>(
     rt: &R,
     alloc: Global,
-    client: &mut Client,
-    call: &str,
-    answers: (i64, i64),
-    wanted: &str,
-    texts: &[(&str, &str)],
+    begun: &mut Begun,
+    second: i64,
+    told: &Told,
 ) -> Result<(), Fail> {
-    let is_refused = tells_refused(rt, answers.0, answers.1, call)?;
-    let state = state_again(rt, alloc, client, answers.0, answers.1)?;
+    let is_refused = tells_refused(rt, begun.first, second, told.call)?;
+    let state = again(rt, "format", || state(alloc, begun, second))?;
     if is_refused {
-        let later = told_later(alloc, client)?;
-        is_among(rt, texts, state.as_str(), later.as_str());
+        let later = later(alloc, begun)?;
+        is_among(
+            rt,
+            refused_states(begun, told),
+            state.as_str(),
+            later.as_str(),
+        );
     } else {
-        assert_eq!(rt; state.as_str(), wanted);
+        assert_eq!(rt; state.as_str(), told.wanted);
     }
     Ok(())
 }
 
-/// An addition, a push before its reply: refused in the refresh, before the request was written down, by a
-/// writer without room, with the link closed, and behind the reply.
-const ADDITION: [(&str, &str); 9] = [
-    ("-17, -7, false 0 0 0 0 0", "-7, -7, 0, 0"),
-    ("-17, -7, false 0 0 0 28! 0", "-7, -7, 8, 0"),
-    ("-17, -7, false 0 0 0 28 0", "-7, -7, 0, 0"),
-    ("-14, -7, false 0 0 0 0! 0", "-7, -7, 8, 0"),
-    ("0, -17, false 0 0 0 28 0", "-16, 6, 0, 0"),
-    (
-        "0, -14, false 0 0 0 28 0!, n2 XADD a NOMKSTREAM MAXLEN ~ 10 * f v",
-        "-8, 6, 0, 8",
-    ),
-    (
-        "0, -17, false 0 0 0 28 86!, n2 XADD a NOMKSTREAM MAXLEN ~ 10 * f v",
-        "-8, 6, 0, 8",
-    ),
-    (
-        "0, -17, false 0 0 1 28 86!, n2 XADD a NOMKSTREAM MAXLEN ~ 10 * f v",
-        "-8, 6, 0, 8",
-    ),
-    (
-        "0, -17, false 0 0 1 28 86, n2 XADD a NOMKSTREAM MAXLEN ~ 10 * f v",
-        "5, 6, 0, 0",
-    ),
-];
+/// An addition, a push before its reply: refused before the request was written down, by a writer without
+/// room, with the link closed, and behind the reply.
+const ADDITION: Told = Told {
+    call: "xadd",
+    wanted: "0, 1, false 0 0 1 28 86, n2 XADD a NOMKSTREAM MAXLEN ~ 10 * f v",
+    refused: &[
+        ("0, -17, false 0 0 0 28 0", "-16, 6, 0, 0"),
+        (
+            "0, -14, false 0 0 0 28 0!, n2 XADD a NOMKSTREAM MAXLEN ~ 10 * f v",
+            "-8, 6, 0, 8",
+        ),
+        (
+            "0, -17, false 0 0 0 28 86!, n2 XADD a NOMKSTREAM MAXLEN ~ 10 * f v",
+            "-8, 6, 0, 8",
+        ),
+        (
+            "0, -17, false 0 0 1 28 86!, n2 XADD a NOMKSTREAM MAXLEN ~ 10 * f v",
+            "-8, 6, 0, 8",
+        ),
+        (
+            "0, -17, false 0 0 1 28 86, n2 XADD a NOMKSTREAM MAXLEN ~ 10 * f v",
+            "5, 6, 0, 0",
+        ),
+    ],
+};
 
 #[test]
 fn addition(rt: HostRuntime) -> Result<(), Fail> {
     let alloc = rt.alloc();
-    let mut client = client_again(&rt, alloc, &row_at(0))?;
-    let words = make_words_again(&rt, alloc)?;
-    let first = refresh(alloc, &mut client, &words);
-    let second = is_text(xadd(alloc, &mut client), "Some(\"5-0\")");
-    let wanted = "0, 1, false 0 0 1 28 86, n2 XADD a NOMKSTREAM MAXLEN ~ 10 * f v";
-    sees(
-        &rt,
-        alloc,
-        &mut client,
-        "xadd",
-        (first, second),
-        wanted,
-        &ADDITION,
-    )
+    let mut begun = begin_row(&rt, alloc, &row_at(0))?;
+    let second = is_text(xadd(alloc, &mut begun.client), "Some(\"5-0\")");
+    sees(&rt, alloc, &mut begun, second, &ADDITION)
 }
 
 /// The same of a read by a group.
-const READ: [(&str, &str); 8] = [
-    ("-17, -7, false 0 0 0 0 0", "-7, -7, 0, 0"),
-    ("-17, -7, false 0 0 0 28! 0", "-7, -7, 8, 0"),
-    ("-17, -7, false 0 0 0 28 0", "-7, -7, 0, 0"),
-    ("-14, -7, false 0 0 0 0! 0", "-7, -7, 8, 0"),
-    ("0, -17, false 0 0 0 28 0", "-16, 6, 0, 0"),
-    (
-        "0, -14, false 0 0 0 28 0!, n2 XREADGROUP GROUP g c STREAMS a >",
-        "-8, 6, 0, 8",
-    ),
-    (
-        "0, -17, false 0 0 0 28 73!, n2 XREADGROUP GROUP g c STREAMS a >",
-        "-8, 6, 0, 8",
-    ),
-    (
-        "0, -17, false 0 0 0 28 73, n2 XREADGROUP GROUP g c STREAMS a >",
-        "5, 6, 0, 0",
-    ),
-];
+const READ: Told = Told {
+    call: "xread",
+    wanted: "0, 1, false 0 0 0 28 73, n2 XREADGROUP GROUP g c STREAMS a >",
+    refused: &[
+        ("0, -17, false 0 0 0 28 0", "-16, 6, 0, 0"),
+        (
+            "0, -14, false 0 0 0 28 0!, n2 XREADGROUP GROUP g c STREAMS a >",
+            "-8, 6, 0, 8",
+        ),
+        (
+            "0, -17, false 0 0 0 28 73!, n2 XREADGROUP GROUP g c STREAMS a >",
+            "-8, 6, 0, 8",
+        ),
+        (
+            "0, -17, false 0 0 0 28 73, n2 XREADGROUP GROUP g c STREAMS a >",
+            "5, 6, 0, 0",
+        ),
+    ],
+};
 
 const ONE_ENTRY: &str =
     "StreamReadReply { keys: [StreamKey { key: \"a\", ids: [StreamId { id: \"1-0\", map: {\"f\": BulkString([118])}, milliseconds_elapsed_from_delivery: Some(5), delivered_count: Some(1) }] }] }";
@@ -231,21 +265,11 @@ const TWO_ENTRIES: &str =
     "StreamReadReply { keys: [StreamKey { key: \"a\", ids: [StreamId { id: \"1-0\", map: {\"f\": BulkString([118])}, milliseconds_elapsed_from_delivery: None, delivered_count: None }, StreamId { id: \"5\", map: {}, milliseconds_elapsed_from_delivery: None, delivered_count: None }] }] }";
 
 fn reads<R: Abort + Print>(rt: &R, alloc: Global, row: &Row, text: &str) -> Result<(), Fail> {
-    let mut client = client_again(rt, alloc, row)?;
-    let words = make_words_again(rt, alloc)?;
-    let first = refresh(alloc, &mut client, &words);
-    let read = client.xread(alloc, &[("a", ">")], &words.group, None);
+    let mut begun = begin_row(rt, alloc, row)?;
+    let group = &begun.words.group;
+    let read = begun.client.xread(alloc, &[("a", ">")], group, None);
     let second = is_text(shown(alloc, read), text);
-    let wanted = "0, 1, false 0 0 0 28 73, n2 XREADGROUP GROUP g c STREAMS a >";
-    sees(
-        rt,
-        alloc,
-        &mut client,
-        "xread",
-        (first, second),
-        wanted,
-        &READ,
-    )
+    sees(rt, alloc, &mut begun, second, &READ)
 }
 
 #[test]
@@ -260,30 +284,30 @@ fn read_of_two_entries(rt: HostRuntime) -> Result<(), Fail> {
 
 /// A command to both nodes. A writer without room does not stop it, and want of memory does; with one
 /// reply taken the next node is asked, since what that takes was there before the first byte.
-const FAN_OUT: [(&str, &str); 10] = [
-    ("-17, -7, false 0 0 0 0 0", "-7, -7, 0, 0"),
-    ("-17, -7, false 0 0 0 28! 0", "-7, -7, 8, 0"),
-    ("-17, -7, false 0 0 0 28 0", "-7, -7, 0, 0"),
-    ("-14, -7, false 0 0 0 0! 0", "-7, -7, 8, 0"),
-    ("0, -17, false 0 0 0 28 0", "4, 3, 0, 0"),
-    (
-        "0, -14, false 0 0 0 28! 16, n1 DBSIZE, n2 DBSIZE",
-        "5, -8, 8, 0",
-    ),
-    ("0, -17, false 0 0 0 44! 0, n1 DBSIZE", "4, -8, 8, 0"),
-    (
-        "0, -14, false 0 0 0 44 0!, n1 DBSIZE, n2 DBSIZE",
-        "-8, 6, 0, 8",
-    ),
-    (
-        "0, -17, false 0 0 0 44 16!, n1 DBSIZE, n2 DBSIZE",
-        "-8, 6, 0, 8",
-    ),
-    (
-        "0, -17, false 0 0 0 44 16, n1 DBSIZE, n2 DBSIZE",
-        "5, 6, 0, 0",
-    ),
-];
+const FAN_OUT: Told = Told {
+    call: "fan_out",
+    wanted: "0, 7, false 0 0 0 44 16, n1 DBSIZE, n2 DBSIZE",
+    refused: &[
+        ("0, -17, false 0 0 0 28 0", "4, 3, 0, 0"),
+        (
+            "0, -14, false 0 0 0 28! 16, n1 DBSIZE, n2 DBSIZE",
+            "5, -8, 8, 0",
+        ),
+        ("0, -17, false 0 0 0 44! 0, n1 DBSIZE", "4, -8, 8, 0"),
+        (
+            "0, -14, false 0 0 0 44 0!, n1 DBSIZE, n2 DBSIZE",
+            "-8, 6, 0, 8",
+        ),
+        (
+            "0, -17, false 0 0 0 44 16!, n1 DBSIZE, n2 DBSIZE",
+            "-8, 6, 0, 8",
+        ),
+        (
+            "0, -17, false 0 0 0 44 16, n1 DBSIZE, n2 DBSIZE",
+            "5, 6, 0, 0",
+        ),
+    ],
+};
 
 /// The map of both halves, then what each node has left: a number for the command, and one more.
 fn counted() -> Row {
@@ -303,73 +327,62 @@ fn number_of(outcome: Result<Value, RedisError>) -> i64 {
 #[test]
 fn fan_out(rt: HostRuntime) -> Result<(), Fail> {
     let alloc = rt.alloc();
-    let mut client = client_again(&rt, alloc, &counted())?;
-    let words = make_words_again(&rt, alloc)?;
-    let first = refresh(alloc, &mut client, &words);
-    let second = number_of(client.fan_out(alloc, &words.dbsize));
-    let wanted = "0, 7, false 0 0 0 44 16, n1 DBSIZE, n2 DBSIZE";
-    sees(
-        &rt,
-        alloc,
-        &mut client,
-        "fan_out",
-        (first, second),
-        wanted,
-        &FAN_OUT,
-    )
+    let mut begun = begin_row(&rt, alloc, &counted())?;
+    let second = number_of(begun.client.fan_out(alloc, &begun.words.dbsize));
+    sees(&rt, alloc, &mut begun, second, &FAN_OUT)
 }
 
-/// A pipeline over both nodes that tells of each position: refused in the refresh, before its first byte,
-/// by a writer without room, and in the link call of a node. What is told is written as digits behind a
-/// 1, two for each position: 0 of a number, else the number of its refusal.
-const EACH: [(&str, &str); 9] = [
-    ("-17, -7, false 0 0 0 0 0", "-7, -7, 0, 0"),
-    ("-17, -7, false 0 0 0 28! 0", "-7, -7, 8, 0"),
-    ("-17, -7, false 0 0 0 28 0", "-7, -7, 0, 0"),
-    ("-14, -7, false 0 0 0 0! 0", "-7, -7, 8, 0"),
-    ("0, -17, false 0 0 0 28 0", "4, 3, 0, 0"),
-    (
-        "0, -11400, false 0 0 0 28! 20, n1 GET b, n2 GET a",
-        "5, -8, 8, 0",
-    ),
-    (
-        "0, -11700, false 0 0 0 48! 20, n1 GET b, n2 GET a",
-        "5, -8, 8, 0",
-    ),
-    (
-        "0, -10014, false 0 0 0 48 0!, n1 GET b, n2 GET a",
-        "-8, 6, 0, 8",
-    ),
-    (
-        "0, -10017, false 0 0 0 48 20!, n1 GET b, n2 GET a",
-        "-8, 6, 0, 8",
-    ),
-];
+/// A pipeline over both nodes that tells of each position: refused before its first byte, by a writer
+/// without room, and in the link call of a node. What is told is written as digits behind a 1, two for
+/// each position: 0 of a number, else the number of its refusal.
+const EACH: Told = Told {
+    call: "query_each",
+    wanted: "0, 1, false 0 0 0 48 20, n1 GET b, n2 GET a",
+    refused: &[
+        ("0, -17, false 0 0 0 28 0", "4, 3, 0, 0"),
+        (
+            "0, -11400, false 0 0 0 28! 20, n1 GET b, n2 GET a",
+            "5, -8, 8, 0",
+        ),
+        (
+            "0, -11700, false 0 0 0 48! 20, n1 GET b, n2 GET a",
+            "5, -8, 8, 0",
+        ),
+        (
+            "0, -10014, false 0 0 0 48 0!, n1 GET b, n2 GET a",
+            "-8, 6, 0, 8",
+        ),
+        (
+            "0, -10017, false 0 0 0 48 20!, n1 GET b, n2 GET a",
+            "-8, 6, 0, 8",
+        ),
+    ],
+};
 
 /// The same of one command with a part at each node, whose one outcome is that of the link that was refused.
-const IN_PARTS: [(&str, &str); 9] = [
-    ("-17, -7, false 0 0 0 0 0", "-7, -7, 0, 0"),
-    ("-17, -7, false 0 0 0 28! 0", "-7, -7, 8, 0"),
-    ("-17, -7, false 0 0 0 28 0", "-7, -7, 0, 0"),
-    ("-14, -7, false 0 0 0 0! 0", "-7, -7, 8, 0"),
-    ("0, -17, false 0 0 0 28 0", "4, 3, 0, 0"),
-    (
-        "0, -114, false 0 0 0 28! 20, n1 DEL b, n2 DEL a",
-        "5, -8, 8, 0",
-    ),
-    (
-        "0, -117, false 0 0 0 48! 20, n1 DEL b, n2 DEL a",
-        "5, -8, 8, 0",
-    ),
-    (
-        "0, -114, false 0 0 0 48 0!, n1 DEL b, n2 DEL a",
-        "-8, 6, 0, 8",
-    ),
-    (
-        "0, -117, false 0 0 0 48 20!, n1 DEL b, n2 DEL a",
-        "-8, 6, 0, 8",
-    ),
-];
+const IN_PARTS: Told = Told {
+    call: "query_each",
+    wanted: "0, 1, false 0 0 0 48 20, n1 DEL b, n2 DEL a",
+    refused: &[
+        ("0, -17, false 0 0 0 28 0", "4, 3, 0, 0"),
+        (
+            "0, -114, false 0 0 0 28! 20, n1 DEL b, n2 DEL a",
+            "5, -8, 8, 0",
+        ),
+        (
+            "0, -117, false 0 0 0 48! 20, n1 DEL b, n2 DEL a",
+            "5, -8, 8, 0",
+        ),
+        (
+            "0, -114, false 0 0 0 48 0!, n1 DEL b, n2 DEL a",
+            "-8, 6, 0, 8",
+        ),
+        (
+            "0, -117, false 0 0 0 48 20!, n1 DEL b, n2 DEL a",
+            "-8, 6, 0, 8",
+        ),
+    ],
+};
 
 /// `GET b`, `GET a`; or `DEL b a`.
 fn pipeline_of(alloc: Global, is_in_parts: bool) -> Result<ClusterPipeline, AllocError> {
@@ -384,20 +397,6 @@ fn pipeline_of(alloc: Global, is_in_parts: bool) -> Result<ClusterPipeline, Allo
         pipeline.add_command(get_a(alloc)?)?;
     }
     Ok(pipeline)
-}
-
-fn pipeline_again<R: Print>(
-    rt: &R,
-    alloc: Global,
-    is_in_parts: bool,
-) -> Result<ClusterPipeline, Fail> {
-    match pipeline_of(alloc, is_in_parts) {
-        Ok(pipeline) => Ok(pipeline),
-        Err(_) => {
-            println!(rt; "refused pipeline")?;
-            Ok(pipeline_of(alloc, is_in_parts)?)
-        }
-    }
 }
 
 /// Of outcomes that are numbers these two digits behind one another, and 1 where they are 3 and 4, or 7
@@ -432,63 +431,57 @@ fn tells_each<R: Abort + Print>(
     rt: &R,
     alloc: Global,
     is_in_parts: bool,
-    wanted: &str,
-    texts: &[(&str, &str)],
+    told: &Told,
 ) -> Result<(), Fail> {
-    let mut client = client_again(rt, alloc, &counted())?;
-    let words = make_words_again(rt, alloc)?;
-    let pipeline = pipeline_again(rt, alloc, is_in_parts)?;
-    let first = refresh(alloc, &mut client, &words);
-    let second = each_told(pipeline.query_each(alloc, &mut client));
-    let answers = (first, second);
-    sees(rt, alloc, &mut client, "query_each", answers, wanted, texts)
+    let pipeline = again(rt, "pipeline", || pipeline_of(alloc, is_in_parts))?;
+    let mut begun = begin_row(rt, alloc, &counted())?;
+    let second = each_told(pipeline.query_each(alloc, &mut begun.client));
+    sees(rt, alloc, &mut begun, second, told)
 }
 
 #[test]
 fn each_position(rt: HostRuntime) -> Result<(), Fail> {
-    let wanted = "0, 1, false 0 0 0 48 20, n1 GET b, n2 GET a";
-    tells_each(&rt, rt.alloc(), false, wanted, &EACH)
+    tells_each(&rt, rt.alloc(), false, &EACH)
 }
 
 #[test]
 fn a_position_in_parts(rt: HostRuntime) -> Result<(), Fail> {
-    let wanted = "0, 1, false 0 0 0 48 20, n1 DEL b, n2 DEL a";
-    tells_each(&rt, rt.alloc(), true, wanted, &IN_PARTS)
+    tells_each(&rt, rt.alloc(), true, &IN_PARTS)
 }
 
 /// A transaction that is moved. Behind the replies of n1:7001 the second attempt is made ready, and memory may
 /// lack for it; the flag is raised then.
-const TRANSACTED: [(&str, &str); 11] = [
-    ("-17, -7, false 0 0 0 0 0", "-7, -7, 0, 0"),
-    ("-17, -7, false 0 0 0 28! 0", "-7, -7, 8, 0"),
-    ("-17, -7, false 0 0 0 28 0", "-7, -7, 0, 0"),
-    ("-14, -7, false 0 0 0 0! 0", "-7, -7, 8, 0"),
-    ("0, -17, false 0 0 0 28 0", "-16, -16, 13, 0"),
-    (
-        "0, -14, false 0 0 0 28! 0, n1 MULTI, n1 GET a, n1 EXEC",
-        "-8, -8, 8, 0",
-    ),
-    (
-        "0, -17, false 0 0 0 77! 0, n1 MULTI, n1 GET a, n1 EXEC",
-        "-8, -8, 8, 0",
-    ),
-    (
-        "0, -17, true 0 0 0 77 0, n1 MULTI, n1 GET a, n1 EXEC",
-        "6, 7, 0, 0",
-    ),
-    (
-        "0, -14, true 0 0 0 77 0!, n1 MULTI, n1 GET a, n1 EXEC, n2 MULTI, n2 GET a, n2 EXEC",
-        "6, 7, 0, 8",
-    ),
-    (
-        "0, -17, true 0 0 0 77 49!, n1 MULTI, n1 GET a, n1 EXEC, n2 MULTI, n2 GET a, n2 EXEC",
-        "6, 7, 0, 8",
-    ),
-    (
-        "0, -17, true 0 0 0 77 49, n1 MULTI, n1 GET a, n1 EXEC, n2 MULTI, n2 GET a, n2 EXEC",
-        "6, 7, 0, 0",
-    ),
-];
+const TRANSACTED: Told = Told {
+    call: "transaction",
+    wanted: "0, 1, true 0 0 0 77 49, n1 MULTI, n1 GET a, n1 EXEC, n2 MULTI, n2 GET a, n2 EXEC",
+    refused: &[
+        ("0, -17, false 0 0 0 28 0", "-16, -16, 13, 0"),
+        (
+            "0, -14, false 0 0 0 28! 0, n1 MULTI, n1 GET a, n1 EXEC",
+            "-8, -8, 8, 0",
+        ),
+        (
+            "0, -17, false 0 0 0 77! 0, n1 MULTI, n1 GET a, n1 EXEC",
+            "-8, -8, 8, 0",
+        ),
+        (
+            "0, -17, true 0 0 0 77 0, n1 MULTI, n1 GET a, n1 EXEC",
+            "6, 7, 0, 0",
+        ),
+        (
+            "0, -14, true 0 0 0 77 0!, n1 MULTI, n1 GET a, n1 EXEC, n2 MULTI, n2 GET a, n2 EXEC",
+            "6, 7, 0, 8",
+        ),
+        (
+            "0, -17, true 0 0 0 77 49!, n1 MULTI, n1 GET a, n1 EXEC, n2 MULTI, n2 GET a, n2 EXEC",
+            "6, 7, 0, 8",
+        ),
+        (
+            "0, -17, true 0 0 0 77 49, n1 MULTI, n1 GET a, n1 EXEC, n2 MULTI, n2 GET a, n2 EXEC",
+            "6, 7, 0, 0",
+        ),
+    ],
+};
 
 fn transacted() -> Row {
     let mut row = row_at(3);
@@ -502,16 +495,6 @@ fn transaction_of(alloc: Global) -> Result<Vec<Cmd>, AllocError> {
     Ok(commands)
 }
 
-fn transaction_again<R: Print>(rt: &R, alloc: Global) -> Result<Vec<Cmd>, Fail> {
-    match transaction_of(alloc) {
-        Ok(commands) => Ok(commands),
-        Err(_) => {
-            println!(rt; "refused commands")?;
-            Ok(transaction_of(alloc)?)
-        }
-    }
-}
-
 /// 1 for the one reply 4, or the number of a refusal below zero.
 fn is_four(outcome: Result<Vec<i64>, RedisError>) -> i64 {
     match outcome {
@@ -523,45 +506,27 @@ fn is_four(outcome: Result<Vec<i64>, RedisError>) -> i64 {
 #[test]
 fn transaction(rt: HostRuntime) -> Result<(), Fail> {
     let alloc = rt.alloc();
-    let mut client = client_again(&rt, alloc, &transacted())?;
-    let words = make_words_again(&rt, alloc)?;
-    let commands = transaction_again(&rt, alloc)?;
-    let first = refresh(alloc, &mut client, &words);
-    let second = is_four(client.transaction(alloc, &commands));
-    let wanted = "0, 1, true 0 0 0 77 49, n1 MULTI, n1 GET a, n1 EXEC, n2 MULTI, n2 GET a, n2 EXEC";
-    sees(
-        &rt,
-        alloc,
-        &mut client,
-        "transaction",
-        (first, second),
-        wanted,
-        &TRANSACTED,
-    )
+    let commands = again(&rt, "commands", || transaction_of(alloc))?;
+    let mut begun = begin_row(&rt, alloc, &transacted())?;
+    let second = is_four(begun.client.transaction(alloc, &commands));
+    sees(&rt, alloc, &mut begun, second, &TRANSACTED)
 }
 
 /// A read that goes to the replica n3:7003, which a strategy picks. No pick is shown where the request was
 /// not written down.
-const PICKED: [(&str, &str); 8] = [
-    ("-17, -7, false 0 0 0 0 0 0", "-7, -7, 0"),
-    ("-17, -7, false 0 0 0 28! 0 0", "-7, -7, 8"),
-    ("-17, -7, false 0 0 0 28 0 0", "-7, -7, 0"),
-    ("-14, -7, false 0 0 0 0! 0 0", "-7, -7, 8"),
-    ("0, -17, false 0 0 0 28 0 0", "1, 3, 14"),
-    ("0, -14, false 1 0 0 28 0! 0, n3 GET a", "1, -8, 14"),
-    ("0, -17, false 1 0 0 28 20! 0, n3 GET a", "1, -8, 14"),
-    ("0, -17, false 1 0 0 28 20 0, n3 GET a", "1, 4, 14"),
-];
+const PICKED: Told = Told {
+    call: "query",
+    wanted: "0, 3, false 1 0 0 28 20 0, n3 GET a",
+    refused: &[
+        ("0, -17, false 0 0 0 28 0 0", "1, 3, 14"),
+        ("0, -14, false 1 0 0 28 0! 0, n3 GET a", "1, -8, 14"),
+        ("0, -17, false 1 0 0 28 20! 0, n3 GET a", "1, -8, 14"),
+        ("0, -17, false 1 0 0 28 20 0, n3 GET a", "1, 4, 14"),
+    ],
+};
 
-fn replicas_again<R: Print>(rt: &R, alloc: Global) -> Result<Client, Fail> {
-    let n3 = b":3\r\n:4\r\n";
-    match client_of_replicas(alloc, WITH_REPLICAS, n3, b"") {
-        Ok(client) => Ok(client),
-        Err(_) => {
-            println!(rt; "refused client")?;
-            Ok(client_of_replicas(alloc, WITH_REPLICAS, n3, b"")?)
-        }
-    }
+fn replicas(alloc: Global) -> Result<Client, RedisError> {
+    client_of_replicas(alloc, WITH_REPLICAS, b":3\r\n:4\r\n", b"")
 }
 
 /// What `GET a` answers at the primary and at the replica, and then a refresh.
@@ -575,40 +540,20 @@ fn later_reads(alloc: Global, client: &mut Client) -> Result<String, RedisError>
 #[test]
 fn picked_read(rt: HostRuntime) -> Result<(), Fail> {
     let alloc = rt.alloc();
-    let mut client = replicas_again(&rt, alloc)?;
-    let words = make_words_again(&rt, alloc)?;
-    let first = refresh(alloc, &mut client, &words);
-    let second = number_in(client.query(alloc, &words.get, 0, Some(&Nth::new(0))));
-    let is_refused = tells_refused(&rt, first, second, "query")?;
-    let state = state_again(&rt, alloc, &client, first, second)?;
-    if is_refused {
-        let later = later_reads(alloc, &mut client)?;
-        is_among(&rt, &PICKED, state.as_str(), later.as_str());
-    } else {
-        assert_eq!(rt; state.as_str(), "0, 3, false 1 0 0 28 20 0, n3 GET a");
-    }
-    Ok(())
-}
-
-fn known_again<R: Print>(rt: &R, alloc: Global) -> Result<Client, Fail> {
-    match client_of_halves(alloc) {
-        Ok(client) => Ok(client),
-        Err(_) => {
-            println!(rt; "refused client")?;
-            Ok(client_of_halves(alloc)?)
-        }
-    }
+    let client = again(&rt, "client", || replicas(alloc))?;
+    let mut begun = begin(&rt, alloc, client, true)?;
+    let strategy = Nth::new(0);
+    let answer = begun
+        .client
+        .query(alloc, &begun.words.get, 0, Some(&strategy));
+    let second = number_in(answer);
+    sees(&rt, alloc, &mut begun, second, &PICKED)
 }
 
 /// How many nodes have no link, which is one.
 fn counts_unlinked<R: Abort + Print>(rt: &R, alloc: Global, client: &Client) -> Result<(), Fail> {
-    match client.unlinked(alloc) {
-        Ok(nodes) => assert_eq!(rt; nodes.len(), 1),
-        Err(_) => {
-            println!(rt; "refused unlinked")?;
-            assert_eq!(rt; client.unlinked(alloc)?.len(), 1);
-        }
-    }
+    let nodes = again(rt, "unlinked", || client.unlinked(alloc))?;
+    assert_eq!(rt; nodes.len(), 1);
     Ok(())
 }
 
@@ -616,19 +561,9 @@ fn end(alloc: Global) -> Result<(NodeAddress, Link), RedisError> {
     Ok((node(alloc, "n2:7002")?, link(alloc, b":5\r\n")?))
 }
 
-fn end_again<R: Print>(rt: &R, alloc: Global) -> Result<(NodeAddress, Link), Fail> {
-    match end(alloc) {
-        Ok(end) => Ok(end),
-        Err(_) => {
-            println!(rt; "refused link")?;
-            Ok(end(alloc)?)
-        }
-    }
-}
-
 /// Puts a link to n2:7002, where there was none; a refused one leaves the client as it was.
 fn links_once<R: Abort + Print>(rt: &R, alloc: Global, client: &mut Client) -> Result<(), Fail> {
-    let (node, link) = end_again(rt, alloc)?;
+    let (node, link) = again(rt, "link", || end(alloc))?;
     match client.set_link(node, link) {
         Ok(old) => assert!(rt; old.is_none()),
         Err(_) => {
@@ -645,7 +580,7 @@ fn links_once<R: Abort + Print>(rt: &R, alloc: Global, client: &mut Client) -> R
 #[test]
 fn new_link(rt: HostRuntime) -> Result<(), Fail> {
     let alloc = rt.alloc();
-    let mut client = known_again(&rt, alloc)?;
+    let mut client = again(&rt, "client", || client_of_halves(alloc))?;
     counts_unlinked(&rt, alloc, &client)?;
     links_once(&rt, alloc, &mut client)?;
     assert_eq!(rt; client.links().len(), 2);
@@ -665,16 +600,6 @@ fn many(alloc: Global) -> Result<Client, RedisError> {
         links.push(numbered(alloc, port)?)?;
     }
     ClusterClient::new(alloc, links, Vec::new(alloc), 1)
-}
-
-fn many_again<R: Print>(rt: &R, alloc: Global) -> Result<Client, Fail> {
-    match many(alloc) {
-        Ok(client) => Ok(client),
-        Err(_) => {
-            println!(rt; "refused client")?;
-            Ok(many(alloc)?)
-        }
-    }
 }
 
 /// Puts a link to an eleventh node; a refused one leaves the ten.
@@ -711,22 +636,13 @@ fn linked(alloc: Global, client: &Client) -> Result<usize, RedisError> {
     Ok(count)
 }
 
-fn linked_again<R: Print>(rt: &R, alloc: Global, client: &Client) -> Result<usize, Fail> {
-    match linked(alloc, client) {
-        Ok(count) => Ok(count),
-        Err(_) => {
-            println!(rt; "refused link_state")?;
-            Ok(linked(alloc, client)?)
-        }
-    }
-}
-
 /// Does without 15 of its requests: the table of the addresses, and what it learns.
 #[test]
 fn many_links(rt: HostRuntime) -> Result<(), Fail> {
     let alloc = rt.alloc();
-    let mut client = many_again(&rt, alloc)?;
+    let mut client = again(&rt, "client", || many(alloc))?;
     links_eleventh_again(&rt, alloc, &mut client)?;
-    assert_eq!(rt; linked_again(&rt, alloc, &client)?, 11);
+    let count = again(&rt, "link_state", || linked(alloc, &client))?;
+    assert_eq!(rt; count, 11);
     Ok(())
 }

@@ -13,10 +13,10 @@ use cluster_routing::{
     combine_and_sort_array_results, combine_array_results, combine_map_results, combine_nodes,
     combine_parts, group_keys_by_slot, logical_aggregate, parse_slots,
 };
+use refusals_for_tests::{again, shown};
 use resp_args::Cmd;
 use resp_core::{ErrorKind, RedisError, Value, parse_redis_value};
 use std::alloc::{AllocError, Global};
-use std::fmt::Debug;
 use std::io::Print;
 use std::process::Abort;
 use std::test::Fail;
@@ -26,42 +26,6 @@ const SLOTS: &[u8] =
 
 const RANGES: &str =
     "[SlotRange { start: 0, end: 99, nodes: SlotAddrs { primary: NodeAddress { host: \"n1\", port: 7001 }, replicas: [] } }, SlotRange { start: 100, end: 300, nodes: SlotAddrs { primary: NodeAddress { host: \"n2\", port: 7002 }, replicas: [NodeAddress { host: \"n3\", port: 7003 }] } }, SlotRange { start: 400, end: 16383, nodes: SlotAddrs { primary: NodeAddress { host: \"n1\", port: 7004 }, replicas: [] } }]";
-
-fn shows<T: Debug, R: Abort + Print>(
-    rt: &R,
-    alloc: Global,
-    shown: &T,
-    wanted: &str,
-) -> Result<(), Fail> {
-    match text(alloc, shown) {
-        Ok(text) => assert_eq!(rt; text.as_str(), wanted),
-        Err(_) => {
-            println!(rt; "refused format")?;
-            assert_eq!(rt; text(alloc, shown)?.as_str(), wanted);
-        }
-    }
-    Ok(())
-}
-
-fn slots_reply<R: Print>(rt: &R, alloc: Global) -> Result<Value, Fail> {
-    match parse_redis_value(alloc, SLOTS) {
-        Ok(value) => Ok(value),
-        Err(_) => {
-            println!(rt; "refused reply")?;
-            Ok(parse_redis_value(alloc, SLOTS)?)
-        }
-    }
-}
-
-fn ranges_of<R: Print>(rt: &R, alloc: Global, reply: &Value) -> Result<Vec<SlotRange>, Fail> {
-    match parse_slots(alloc, reply, "n1") {
-        Ok(ranges) => Ok(ranges),
-        Err(_) => {
-            println!(rt; "refused parse_slots")?;
-            Ok(parse_slots(alloc, reply, "n1")?)
-        }
-    }
-}
 
 /// The primaries of slots, and a replica.
 fn nodes_text(alloc: Global, map: &SlotMap) -> Result<String, AllocError> {
@@ -79,27 +43,23 @@ const NODES: &str =
     "Some(NodeAddress { host: \"n1\", port: 7001 })Some(NodeAddress { host: \"n2\", port: 7002 })NoneSome(NodeAddress { host: \"n1\", port: 7004 })Some(NodeAddress { host: \"n3\", port: 7003 })";
 
 fn leads<R: Abort + Print>(rt: &R, alloc: Global, map: &SlotMap) -> Result<(), Fail> {
-    match nodes_text(alloc, map) {
-        Ok(text) => assert_eq!(rt; text.as_str(), NODES),
-        Err(_) => {
-            println!(rt; "refused text of nodes")?;
-            assert_eq!(rt; nodes_text(alloc, map)?.as_str(), NODES);
-        }
-    }
+    let text = again(rt, "text of nodes", || nodes_text(alloc, map))?;
+    assert_eq!(rt; text.as_str(), NODES);
     Ok(())
 }
 
 #[test]
 fn slots_of_a_reply(rt: HostRuntime) -> Result<(), Fail> {
-    let reply = slots_reply(&rt, rt.alloc())?;
-    let ranges = ranges_of(&rt, rt.alloc(), &reply)?;
-    shows(&rt, rt.alloc(), &ranges, RANGES)?;
-    match SlotMap::from_slots(rt.alloc(), ranges) {
-        Ok(map) => leads(&rt, rt.alloc(), &map),
+    let alloc = rt.alloc();
+    let reply = again(&rt, "reply", || parse_redis_value(alloc, SLOTS))?;
+    let ranges = again(&rt, "parse_slots", || parse_slots(alloc, &reply, "n1"))?;
+    assert_eq!(rt; shown(&rt, alloc, &ranges)?.as_str(), RANGES);
+    match SlotMap::from_slots(alloc, ranges) {
+        Ok(map) => leads(&rt, alloc, &map),
         Err(_) => {
             println!(rt; "refused from_slots")?;
-            let ranges = parse_slots(rt.alloc(), &reply, "n1")?;
-            leads(&rt, rt.alloc(), &SlotMap::from_slots(rt.alloc(), ranges)?)
+            let ranges = parse_slots(alloc, &reply, "n1")?;
+            leads(&rt, alloc, &SlotMap::from_slots(alloc, ranges)?)
         }
     }
 }
@@ -129,29 +89,16 @@ fn forty_ranges(rt: HostRuntime) -> Result<(), Fail> {
 }
 
 fn command<R: Print>(rt: &R, alloc: Global, words: &[&str]) -> Result<Cmd, Fail> {
-    match cmd(alloc, words) {
-        Ok(command) => Ok(command),
-        Err(_) => {
-            println!(rt; "refused command")?;
-            Ok(cmd(alloc, words)?)
-        }
-    }
+    again(rt, "command", || cmd(alloc, words))
 }
 
 /// The command goes there.
 fn goes<R: Abort + Print>(rt: &R, alloc: Global, command: &Cmd, wanted: &str) -> Result<(), Fail> {
-    match RoutingInfo::for_routable(alloc, command, &[]) {
-        Ok(info) => shows(rt, alloc, &info, wanted),
-        Err(_) => {
-            println!(rt; "refused for_routable")?;
-            shows(
-                rt,
-                alloc,
-                &RoutingInfo::for_routable(alloc, command, &[])?,
-                wanted,
-            )
-        }
-    }
+    let info = again(rt, "for_routable", || {
+        RoutingInfo::for_routable(alloc, command, &[])
+    })?;
+    assert_eq!(rt; shown(rt, alloc, &info)?.as_str(), wanted);
+    Ok(())
 }
 
 #[test]
@@ -182,16 +129,6 @@ fn three_ranges(alloc: Global) -> Result<SlotMap, AllocError> {
     SlotMap::from_slots(alloc, ranges)
 }
 
-fn map_of<R: Print>(rt: &R, alloc: Global) -> Result<SlotMap, Fail> {
-    match three_ranges(alloc) {
-        Ok(map) => Ok(map),
-        Err(_) => {
-            println!(rt; "refused map")?;
-            Ok(three_ranges(alloc)?)
-        }
-    }
-}
-
 const SHARDS: &str =
     "[(0, 99), (200, 299)] n1:7001 [NodeAddress { host: \"n2\", port: 7002 }]\n[(100, 199)] n3:7001 [NodeAddress { host: \"n2\", port: 7002 }]\n";
 
@@ -200,13 +137,8 @@ fn has_shards<R: Abort + Print>(
     alloc: Global,
     topology: &ClusterTopology,
 ) -> Result<(), Fail> {
-    match topology_text(alloc, topology) {
-        Ok(text) => assert_eq!(rt; text.as_str(), SHARDS),
-        Err(_) => {
-            println!(rt; "refused text of shards")?;
-            assert_eq!(rt; topology_text(alloc, topology)?.as_str(), SHARDS);
-        }
-    }
+    let text = again(rt, "text of shards", || topology_text(alloc, topology))?;
+    assert_eq!(rt; text.as_str(), SHARDS);
     assert!(rt; topology.shard_for_slot(250).is_some());
     assert!(rt; topology.shard_for_slot(300).is_none());
     Ok(())
@@ -214,55 +146,35 @@ fn has_shards<R: Abort + Print>(
 
 #[test]
 fn topology(rt: HostRuntime) -> Result<(), Fail> {
-    let map = map_of(&rt, rt.alloc())?;
-    match map.topology(rt.alloc()) {
-        Ok(topology) => has_shards(&rt, rt.alloc(), &topology),
-        Err(_) => {
-            println!(rt; "refused topology")?;
-            has_shards(&rt, rt.alloc(), &map.topology(rt.alloc())?)
-        }
-    }
-}
-
-fn has_groups<R: Abort + Print>(
-    rt: &R,
-    alloc: Global,
-    groups: &Vec<(Route, Vec<usize>)>,
-) -> Result<(), Fail> {
-    let wanted =
-        "[(Route { slot: 15495, slot_addr: Master }, [0, 2]), (Route { slot: 3300, slot_addr: Master }, [1])]";
-    shows(rt, alloc, groups, wanted)
+    let alloc = rt.alloc();
+    let map = again(&rt, "map", || three_ranges(alloc))?;
+    let topology = again(&rt, "topology", || map.topology(alloc))?;
+    has_shards(&rt, alloc, &topology)
 }
 
 #[test]
 fn keys_by_slot(rt: HostRuntime) -> Result<(), Fail> {
+    let alloc = rt.alloc();
     let keys: [&[u8]; 3] = [b"a", b"b", b"{a}x"];
-    match group_keys_by_slot(rt.alloc(), &keys, SlotAddr::Master) {
-        Ok(groups) => has_groups(&rt, rt.alloc(), &groups),
-        Err(_) => {
-            println!(rt; "refused group_keys_by_slot")?;
-            let groups = group_keys_by_slot(rt.alloc(), &keys, SlotAddr::Master)?;
-            has_groups(&rt, rt.alloc(), &groups)
-        }
-    }
+    let groups = again(&rt, "group_keys_by_slot", || {
+        group_keys_by_slot(alloc, &keys, SlotAddr::Master)
+    })?;
+    let wanted =
+        "[(Route { slot: 15495, slot_addr: Master }, [0, 2]), (Route { slot: 3300, slot_addr: Master }, [1])]";
+    assert_eq!(rt; shown(&rt, alloc, &groups)?.as_str(), wanted);
+    Ok(())
 }
 
-/// The replies in an array that is spelled so; none where memory was refused.
-fn items_of(alloc: Global, bytes: &[u8]) -> Option<Vec<Value>> {
-    match parse_redis_value(alloc, bytes) {
-        Ok(Value::Array(items)) => Some(items),
-        _ => None,
+/// The replies in an array that is spelled so.
+fn items_of(alloc: Global, bytes: &[u8]) -> Result<Vec<Value>, RedisError> {
+    match parse_redis_value(alloc, bytes)? {
+        Value::Array(items) => Ok(items),
+        _ => Ok(Vec::new(alloc)),
     }
 }
 
 fn replies<R: Print>(rt: &R, alloc: Global, bytes: &[u8]) -> Result<Vec<Value>, Fail> {
-    match items_of(alloc, bytes) {
-        Some(items) => Ok(items),
-        None => {
-            println!(rt; "refused replies")?;
-            Ok(items_of(alloc, bytes).unwrap_or(Vec::new(alloc)))
-        }
-    }
+    again(rt, "replies", || items_of(alloc, bytes))
 }
 
 fn lacks_memory<R: Abort>(rt: &R, e: RedisError) {
@@ -362,7 +274,7 @@ const COMBINED: [(&str, &[u8], &str); 8] = [
 fn combined_replies(rt: HostRuntime) -> Result<(), Fail> {
     for (name, bytes, wanted) in COMBINED {
         let reply = combines(&rt, rt.alloc(), name, bytes)?;
-        shows(&rt, rt.alloc(), &reply, wanted)?;
+        assert_eq!(rt; shown(&rt, rt.alloc(), &reply)?.as_str(), wanted);
     }
     Ok(())
 }

@@ -1,24 +1,13 @@
 //! One request for memory is refused, whichever: `tools/refused-tests` plays each test once for each.
 use crate::tests::bytes::{READ, Scene};
 use crate::tests::pieces::are_right_or_errors;
-use std::alloc::Global;
-use std::io::Print;
+use refusals_for_tests::again;
 use std::test::*;
-
-fn scene<R: Print>(rt: &R, alloc: Global) -> Result<Scene, Fail> {
-    match Scene::new(alloc, [8, 9]) {
-        Ok(scene) => Ok(scene),
-        Err(_) => {
-            println!(rt; "refused Scene::new")?;
-            Ok(Scene::new(alloc, [8, 9])?)
-        }
-    }
-}
 
 #[test]
 fn whichever_request_is_refused_no_reply_is_wrong(rt: HostRuntime) -> Result<(), Fail> {
     let alloc = rt.alloc();
-    let mut scene = scene(&rt, alloc)?;
+    let mut scene = again(&rt, "Scene::new", || Scene::new(alloc, [8, 9]))?;
     let mut was_refused = false;
     for turn in 1..11 {
         if scene.turn(alloc, 40, turn == 10).is_err() {

@@ -3,20 +3,10 @@ use crate::tests::moving::{ERROR, Moving};
 use crate::tests::turns::{Guests, LIMITS};
 use proxy_core::{Entry, Fate, Proxy};
 use proxy_stubs::OnKey;
-use std::alloc::Global;
+use refusals_for_tests::again;
 use std::io::Print;
 use std::process::Abort;
 use std::test::*;
-
-fn join<R: Print>(rt: &R, alloc: Global, proxy: &mut Guests) -> Result<usize, Fail> {
-    match proxy.join(alloc) {
-        Ok(guest) => Ok(guest),
-        Err(_) => {
-            println!(rt; "refused join")?;
-            Ok(proxy.join(alloc).unwrap_or(9))
-        }
-    }
-}
 
 fn put<R: Print>(rt: &R, proxy: &mut Guests, guest: usize, key: u8) -> Result<(), Fail> {
     if let Err(refused) = proxy.put(guest, Entry::Waits(OnKey { key })) {
@@ -32,7 +22,7 @@ fn a_guest_takes_the_same_whichever_request_is_refused(rt: HostRuntime) -> Resul
     let alloc = rt.alloc();
     let mut proxy: Guests = Proxy::new(alloc, LIMITS);
     let mut servers = Moving::once_at_seven(Fate::Redirected, true);
-    let guest = join(&rt, alloc, &mut proxy)?;
+    let guest = again(&rt, "join", || proxy.join(alloc))?;
     for key in [7, 3, 7] {
         put(&rt, &mut proxy, guest, key)?;
     }

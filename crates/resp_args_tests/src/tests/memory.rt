@@ -2,8 +2,8 @@
 //!
 //! A test prints a line `refused CALL` where a call is refused, sees what then stands, and goes on;
 //! no further call may be refused.
-use crate::tests::conversions::shown;
 use indexmap::IndexMap;
+use refusals_for_tests::{again, shown};
 use resp_args::{Cmd, from_redis_value, from_redis_value_ref};
 use resp_core::{ParsingError, RedisError, Value, parse_redis_value};
 use std::alloc::Global;
@@ -56,10 +56,7 @@ fn add_words<R: Abort + Print>(rt: &R, command: &mut Cmd) -> Result<(), Fail> {
 /// Behind a byte that stands in the buffer.
 fn is_packed<R: Abort + Print>(rt: &R, alloc: Global, command: &Cmd) -> Result<(), Fail> {
     let mut out = Vec::new(alloc);
-    if out.push(b'x').is_err() {
-        println!(rt; "refused push")?;
-        out.push(b'x')?;
-    }
+    again(rt, "push", || out.push(b'x'))?;
     if command.write_packed_command(&mut out).is_err() {
         println!(rt; "refused write_packed_command")?;
         assert_eq!(rt; out.as_slice(), b"x".as_slice());
@@ -74,13 +71,7 @@ fn ten_arguments(rt: HostRuntime) -> Result<(), Fail> {
     let mut command = Cmd::new(rt.alloc());
     add_words(&rt, &mut command)?;
     is_packed(&rt, rt.alloc(), &command)?;
-    let copy = match command.clone() {
-        Ok(copy) => copy,
-        Err(_) => {
-            println!(rt; "refused clone")?;
-            command.clone()?
-        }
-    };
+    let copy = again(&rt, "clone", || command.clone())?;
     is_packed(&rt, rt.alloc(), &copy)
 }
 
@@ -92,24 +83,12 @@ type Nested = IndexMap<String, Vec<(i64, String)>>;
 const TEXT: &str = "{\"a\": [(1, \"x\"), (2, \"7\")], \"b\": []}";
 
 fn is_nested<R: Abort + Print>(rt: &R, alloc: Global, fields: &Nested) -> Result<(), Fail> {
-    match shown(alloc, fields) {
-        Ok(text) => assert_eq!(rt; text.as_str(), TEXT),
-        Err(_) => {
-            println!(rt; "refused format")?;
-            assert_eq!(rt; shown(alloc, fields)?.as_str(), TEXT);
-        }
-    }
+    assert_eq!(rt; shown(rt, alloc, fields)?.as_str(), TEXT);
     Ok(())
 }
 
 fn nested_reply<R: Print>(rt: &R, alloc: Global) -> Result<Value, Fail> {
-    match parse_redis_value(alloc, NESTED) {
-        Ok(value) => Ok(value),
-        Err(_) => {
-            println!(rt; "refused reply")?;
-            Ok(parse_redis_value(alloc, NESTED)?)
-        }
-    }
+    again(rt, "reply", || parse_redis_value(alloc, NESTED))
 }
 
 /// The number of a refusal for want of memory.

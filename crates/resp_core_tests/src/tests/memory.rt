@@ -2,7 +2,8 @@
 //!
 //! A test prints a line `refused CALL` where a call is refused, sees what then stands, and goes on;
 //! no further call may be refused.
-use crate::tests::texts::{shown, taken};
+use crate::tests::texts::taken;
+use refusals_for_tests::{again, shown};
 use resp_core::*;
 use std::alloc::Global;
 use std::io::Print;
@@ -22,28 +23,6 @@ fn feed_whole<R: Abort + Print>(rt: &R, parser: &mut Parser) -> Result<(), Fail>
             println!(rt; "refused feed")?;
             assert_eq!(rt; taken(parser), 0);
             parser.feed(piece)?;
-        }
-    }
-    Ok(())
-}
-
-fn is_nested<R: Abort + Print>(rt: &R, alloc: Global, value: &Value) -> Result<(), Fail> {
-    match shown(alloc, value) {
-        Ok(text) => assert_eq!(rt; text.as_str(), TEXT),
-        Err(_) => {
-            println!(rt; "refused format")?;
-            assert_eq!(rt; shown(alloc, value)?.as_str(), TEXT);
-        }
-    }
-    Ok(())
-}
-
-fn copies<R: Abort + Print>(rt: &R, value: &Value) -> Result<(), Fail> {
-    match value.clone() {
-        Ok(copy) => assert!(rt; copy == *value),
-        Err(_) => {
-            println!(rt; "refused clone")?;
-            assert!(rt; value.clone()? == *value);
         }
     }
     Ok(())
@@ -78,46 +57,39 @@ const IN_RESP2: &[u8] =
 const IN_RESP3: &[u8] =
     b"?*3\r\n%1\r\n$1\r\nk\r\n~1\r\n+v\r\n|1\r\n+a\r\n:1\r\n=5\r\ntxt:t\r\n>2\r\n$4\r\nnews\r\n-ERR x\r\n";
 
-fn begun<R: Abort + Print>(rt: &R, alloc: Global) -> Result<Vec<u8>, Fail> {
-    match Vec::from_slice(alloc, b"?") {
-        Ok(out) => Ok(out),
-        Err(_) => {
-            println!(rt; "refused from_slice")?;
-            Ok(Vec::from_slice(alloc, b"?")?)
-        }
-    }
-}
-
-/// Where a reply is not written the bytes are as they were, and it can be written behind them.
-fn writes<R: Abort + Print>(
+/// What is written of a reply. Where it is not written the bytes are as they were, and it can be written behind them.
+fn written<R: Abort + Print>(
     rt: &R,
     alloc: Global,
     value: &Value,
     protocol: Protocol,
-    wanted: &[u8],
-) -> Result<(), Fail> {
-    let mut out = begun(rt, alloc)?;
+) -> Result<Vec<u8>, Fail> {
+    let mut out = again(rt, "from_slice", || Vec::from_slice(alloc, b"?"))?;
     if let Err(e) = value.write(&mut out, protocol) {
         println!(rt; "refused write")?;
         assert_eq!(rt; e, WriteError::Memory);
         assert_eq!(rt; out.as_slice(), b"?".as_slice());
         value.write(&mut out, protocol)?;
     }
-    assert_eq!(rt; out.as_slice(), wanted);
-    Ok(())
+    Ok(out)
 }
 
 /// The buffer grows again and again, and each time may be refused.
 #[test]
 fn written_reply(rt: HostRuntime) -> Result<(), Fail> {
     let value = reply(&rt, rt.alloc())?;
-    writes(&rt, rt.alloc(), &value, Protocol::Resp2, IN_RESP2)?;
-    writes(&rt, rt.alloc(), &value, Protocol::Resp3, IN_RESP3)
+    for (protocol, wanted) in [(Protocol::Resp2, IN_RESP2), (Protocol::Resp3, IN_RESP3)] {
+        let out = written(&rt, rt.alloc(), &value, protocol)?;
+        assert_eq!(rt; out.as_slice(), wanted);
+    }
+    Ok(())
 }
 
 #[test]
 fn nested_reply(rt: HostRuntime) -> Result<(), Fail> {
     let value = reply(&rt, rt.alloc())?;
-    is_nested(&rt, rt.alloc(), &value)?;
-    copies(&rt, &value)
+    assert_eq!(rt; shown(&rt, rt.alloc(), &value)?.as_str(), TEXT);
+    let copy = again(&rt, "clone", || value.clone())?;
+    assert!(rt; copy == value);
+    Ok(())
 }

@@ -5,6 +5,7 @@
 
 use crate::tests::join::{IN_ORDER, ROW_OF_B, ROWS_OF_A, of_three};
 use crate::tests::writing::text;
+use refusals_for_tests::{again, shown};
 use resp_args::ToRedisArgs;
 use resp_core::ErrorKind;
 use std::alloc::Global;
@@ -18,14 +19,7 @@ fn is_in_order<R: Abort + Print>(
     alloc: Global,
     record: &StreamReadReply,
 ) -> Result<(), Fail> {
-    match format!(in alloc; "{record:?}") {
-        Ok(text) => assert_eq!(rt; text.as_str(), IN_ORDER),
-        Err(_) => {
-            println!(rt; "refused format")?;
-            let text = format!(in alloc; "{record:?}")?;
-            assert_eq!(rt; text.as_str(), IN_ORDER);
-        }
-    }
+    assert_eq!(rt; shown(rt, alloc, record)?.as_str(), IN_ORDER);
     Ok(())
 }
 
@@ -54,16 +48,6 @@ const WORDS: [&str; 10] = [
     "LASTID",
     "4-0",
 ];
-
-fn last_id<R: Print>(rt: &R, alloc: Global) -> Result<String, Fail> {
-    match text(alloc, "4-0") {
-        Ok(last) => Ok(last),
-        Err(_) => {
-            println!(rt; "refused text")?;
-            Ok(text(alloc, "4-0")?)
-        }
-    }
-}
 
 /// The arguments are the words up to one of them.
 fn are_words<R: Abort>(rt: &R, args: &[Vec<u8>]) {
@@ -96,12 +80,14 @@ fn writes_words<R: Abort + Print>(
 
 #[test]
 fn claim_options(rt: HostRuntime) -> Result<(), Fail> {
+    let alloc = rt.alloc();
+    let last_id = again(&rt, "text", || text(alloc, "4-0"))?;
     let options = StreamClaimOptions::empty()
-        .with_lastid(last_id(&rt, rt.alloc())?)
+        .with_lastid(last_id)
         .with_justid()
         .with_force()
         .retry(3)
         .time(2)
         .idle(1);
-    writes_words(&rt, rt.alloc(), &options)
+    writes_words(&rt, alloc, &options)
 }

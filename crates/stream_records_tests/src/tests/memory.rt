@@ -6,6 +6,7 @@ use crate::tests::answers::{reply, told};
 use crate::tests::former::Former;
 use crate::tests::grammar::{ENTRIES, READ, TEXTS};
 use indexmap::IndexMap;
+use refusals_for_tests::again;
 use resp_args::{FromRedisValue, from_redis_value, from_redis_value_ref};
 use resp_core::{ParsingError, Value};
 use std::alloc::Global;
@@ -16,13 +17,7 @@ use std::test::Fail;
 use stream_commands::{StreamRangeReply, StreamReadReply};
 
 fn made_reply<R: Print>(rt: &R, alloc: Global, letter: u8, seed: u64) -> Result<Value, Fail> {
-    match reply(alloc, letter, seed) {
-        Ok(value) => Ok(value),
-        Err(_) => {
-            println!(rt; "refused reply")?;
-            Ok(reply(alloc, letter, seed)?)
-        }
-    }
+    again(rt, "reply", || reply(alloc, letter, seed))
 }
 
 fn text<T: Debug, R: Print>(
@@ -30,13 +25,7 @@ fn text<T: Debug, R: Print>(
     alloc: Global,
     outcome: &Result<T, ParsingError>,
 ) -> Result<String, Fail> {
-    match told(alloc, outcome) {
-        Ok(text) => Ok(text),
-        Err(_) => {
-            println!(rt; "refused format")?;
-            Ok(told(alloc, outcome)?)
-        }
-    }
+    again(rt, "format", || told(alloc, outcome))
 }
 
 fn lacks_memory<T>(outcome: &Result<T, ParsingError>) -> bool {
@@ -107,16 +96,26 @@ fn is_same<T: FromRedisValue + Former + Debug, R: Abort + Print>(
     Ok(())
 }
 
+/// The same of each row.
+fn are_same<T: FromRedisValue + Former + Debug, R: Abort + Print>(
+    rt: &R,
+    alloc: Global,
+    letter: u8,
+    rows: &[(u64, bool)],
+) -> Result<(), Fail> {
+    for row in rows {
+        is_same::<T, R>(rt, alloc, letter, *row)?;
+    }
+    Ok(())
+}
+
 // Two replies in standard form and two in claim form, each with whether it is read. Those that are refused are so behind
 // their first entry.
 const READS: [(u64, bool); 4] = [(281, true), (548, false), (180, true), (206, false)];
 
 #[test]
 fn reads(rt: HostRuntime) -> Result<(), Fail> {
-    for row in READS {
-        is_same::<StreamReadReply, _>(&rt, rt.alloc(), READ, row)?;
-    }
-    Ok(())
+    are_same::<StreamReadReply, _>(&rt, rt.alloc(), READ, &READS)
 }
 
 // The second is refused behind its first entry.
@@ -124,10 +123,7 @@ const RANGES: [(u64, bool); 2] = [(29, true), (37, false)];
 
 #[test]
 fn ranges(rt: HostRuntime) -> Result<(), Fail> {
-    for row in RANGES {
-        is_same::<StreamRangeReply, _>(&rt, rt.alloc(), ENTRIES, row)?;
-    }
-    Ok(())
+    are_same::<StreamRangeReply, _>(&rt, rt.alloc(), ENTRIES, &RANGES)
 }
 
 // The first has a name twice, and the second is refused at its third pair.
@@ -135,8 +131,5 @@ const MAPS: [(u64, bool); 2] = [(16, true), (23, false)];
 
 #[test]
 fn maps(rt: HostRuntime) -> Result<(), Fail> {
-    for row in MAPS {
-        is_same::<IndexMap<String, String>, _>(&rt, rt.alloc(), TEXTS, row)?;
-    }
-    Ok(())
+    are_same::<IndexMap<String, String>, _>(&rt, rt.alloc(), TEXTS, &MAPS)
 }
