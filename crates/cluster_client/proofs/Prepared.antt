@@ -1,5 +1,5 @@
 -- What is prepared for a command, from the code's parts and dispatches.
-use Rattle.std.specs.Prelude.{IfSome}
+use Rattle.std.specs.Prelude.{IfSome, is_some}
 use Rattle.std.proofs.Common.{◌≡◌, ℕ, true, false, List, [], ◌∷◌, map, length, Option, Some, option_map, Ok, Err, sym, ap, ◌∙◌, subst}
 use Rattle.std.proofs.lemmas.List.{length-map}
 use Rattle.resp_core.specs.Errors.{Refusal, by_cause}
@@ -10,17 +10,20 @@ use Rattle.cluster_routing.specs.Address.{Address}
 use Rattle.cluster_routing.specs.Choice.{Strategy}
 use Rattle.cluster_routing.specs.Seen.{address}
 use Rattle.cluster_routing.specs.Info.{shown_parts, shown_split, texts}
-use Rattle.cluster_routing.specs.Split.{parts_by_place}
+use Rattle.cluster_routing.specs.Split.{has_split_word, parts_by_place}
 use Rattle.cluster_routing.specs.declared.split.SplitParts.{SplitParts}
 use Rattle.cluster_steps.specs.Requests.{CodeDispatch}
 use Rattle.cluster_steps.specs.Requests.{CodePart}
 use Rattle.cluster_steps.specs.Dispatches.{AreDispatched, IsPlanned, dispatch_of}
-use Rattle.cluster_steps.specs.CodeParts.{routed_at, routed_part}
-use Rattle.cluster_steps.specs.FirstPlaces.{part_of}
+use Rattle.cluster_steps.specs.CodeParts.{part_targets, routed_at, routed_part, split_in, targets_by}
+use Rattle.cluster_steps.specs.FirstPlaces.{part_of, target_of}
+use Rattle.cluster_steps.specs.declared.route.Target.{Target as CodeTarget}
+use Rattle.cluster_steps.specs.declared.route.Targets.{Targets as CodeTargets}
+use Rattle.cluster_steps.specs.declared.route.Targets.TheVariants as targets
 use Rattle.cluster_calls.specs.Links.Orders.{command_call}
 use Rattle.cluster_calls.specs.Calls.Parts.{Target, fits_order, part_to, parts_of}
 use Rattle.cluster_calls.specs.Calls.Plan.{Client, in_order}
-use Rattle.cluster_steps.proofs.Directions.{parts_are}
+use Rattle.cluster_steps.proofs.Directions.{parts_are, whole_part_is}
 use Rattle.cluster_steps.proofs.Dispatched.{command_planned, command_unfit, command_unplaced}
 use Rattle.cluster_calls.proofs.LinkLaws.Ordering.{made_in_order, one_in_order}
 use Rattle.cluster_steps.proofs.PartReplies.{dispatches_fit, routes_fit}
@@ -57,6 +60,11 @@ module _ (client : Client) (command : Command) (order : Option (List ℕ)) (numb
             subst (λ es. IsPlanned strategy client (command_call command order number) picks (Ok es)) moved (command_planned command order number client strategy (map part_of list) are parts_fit picks (map dispatch_of ds) d)
 
 -- ---- a command that goes whole
+
+-- it has one part, where the code has one target
+pub alone_at : (command : Command) (read_only : List (List ℕ)) (number : ℕ) → command.no_response ≡ false → (target : CodeTarget) (made : CodeTargets) → made ≡ targets.Whole target → is_some (split_in made) ≡ has_split_word command.args
+    → targets_by (Ok made) ≡ part_targets (parts_of read_only command number) → parts_of read_only command number ≡ Ok (part_to (sent command) (target_of target) ∷ [])
+alone_at command read_only number response target made is word e = whole_part_is command read_only number response (target_of target) (sym word ∙ ap (λ t. is_some (split_in t)) is) (rw is at e)
 
 pub planned_alone : (client : Client) (command : Command) (order : Option (List ℕ)) (number : ℕ) (target : Target) → parts_of client.settings.read_only command number ≡ Ok (part_to (sent command) target ∷ []) → fits_order order 1 ≡ true
     → (strategy : Option Strategy) (picks : List Address) (made : CodeDispatch) → texts made.args.items ≡ sent command

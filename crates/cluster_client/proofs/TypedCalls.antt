@@ -13,7 +13,7 @@ use Rattle.cluster_routing.specs.Policies.{bad_reply, or_bad_reply}
 use Rattle.stream_commands.specs.Commands as commands
 use Rattle.stream_commands.specs.Settings.{ReadSettings}
 use Rattle.stream_commands.specs.Commands.{plain_command}
-use Rattle.cluster_calls.specs.Links.Converted.{ConvertsTo, ReplyMade, ValueMade, value_answer}
+use Rattle.cluster_calls.specs.Links.Converted.{ConvertsTo, ReplyMade, value_answer}
 use Rattle.cluster_calls.specs.Links.Events.{Event, exchanges_of, log_of}
 use Rattle.cluster_calls.specs.Links.Lacking.{MayLack, follows_redirects}
 use Rattle.cluster_calls.specs.Links.Faults.{LinkFault}

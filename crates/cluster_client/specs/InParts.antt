@@ -1,7 +1,8 @@
 -- The parts that go out for a pipeline's commands, and how the outcomes of those of one become its.
-use Rattle.std.specs.Prelude.{◌≡◌, ℕ, suc, Bool, true, false, List, [], ◌∷◌, ◌++◌, map, length, replicate, Option, None, Ok, option_map, IfSome}
+use Rattle.std.specs.Prelude.{◌≡◌, ◌≢◌, ℕ, suc, Bool, true, false, List, [], ◌∷◌, ◌++◌, map, length, replicate, Option, Some, None, Result, Ok, Err, option_map, IfSome}
 use Rattle.std.specs.List.{AllByRecursion}
-use Rattle.resp_core.specs.Errors.{Refusal, at_position}
+use Rattle.resp_core.specs.Errors.{Refusal, at_position, by_cause}
+use Rattle.resp_core.specs.declared.errors.redis_error.Cause.TheVariants.{Memory}
 use Rattle.resp_args.specs.Command.{Command}
 use Rattle.cluster_routing.specs.Directions.{direction, shown_direction}
 use Rattle.cluster_routing.specs.Split.{Split, PartsByPlace, split_by_place}
@@ -72,3 +73,8 @@ pub record AreInParts (entries : List Entry) (p : InParts) : Type 0 where
   pub parts : pipeline_parts 0 (in_parts entries) ≡ Ok (map part_of p.parts.items)
   pub joins : joins_after (length entries) p ≡ map places_of (splits_in entries)
   pub ready : AreReady p.joins.items
+
+-- a pipeline's commands were cut into their parts, or the first has none
+abbrev pub AreCut : List Entry → Result InParts Refusal → Type 0
+AreCut entries (Ok p) = AreInParts entries p
+AreCut entries (Err refusal) = refusal ≢ by_cause Memory → first_unplaced 0 entries ≡ Some refusal

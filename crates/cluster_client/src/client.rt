@@ -33,6 +33,7 @@ mod reading;
 mod relink;
 
 use crate::command_call::CommandCall;
+use crate::value::value_in;
 use cluster_routing::{
     ClusterTopology, Direction, NodeAddress, ReadRoutingStrategy, SlotMap, SplitParts,
 };
@@ -51,7 +52,7 @@ use cluster_steps::request::Request;
 use cluster_steps::route::{Targets, push_split, targets_of};
 use cluster_steps::slots::{slot_map_in, slots_dispatch};
 use cluster_steps::turn::{Turn, turn_by};
-use resp_args::{Cmd, FromRedisValue, from_redis_value};
+use resp_args::{Cmd, FromRedisValue};
 use resp_core::{Cause, PushInfo, RedisError, Value};
 use resp_link::ConnectionLike;
 use std::alloc::{AllocError, Global};
@@ -223,8 +224,8 @@ impl<L: ConnectionLike + Drop> ClusterClient<L> {
         ensures unpicked { result ≡ Err (by_cause Memory) → (whole L.seen self.new).log ≡ []
             → (whole L.seen self.new).picked ≡ [] }
     {
-        let reply = self.reply_to(alloc, call, strategy)?;
-        Ok(from_redis_value(alloc, reply)?)
+        let reply = self.reply_to(alloc, call, strategy);
+        value_in(alloc, reply)
     }
 
     /// The one reply to a command, made of those of its parts.

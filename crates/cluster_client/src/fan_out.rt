@@ -34,9 +34,8 @@ use crate::pipeline::Directed;
 use cluster_routing::{Direction, NodeAddress, ResponsePolicy, SlotMap, combine_nodes};
 use cluster_steps::dispatch::Dispatch;
 use cluster_steps::exchange::exchange_one;
-use cluster_steps::hop::Hop;
+use cluster_steps::hop::hop_of;
 use cluster_steps::known_links::KnownLinks;
-use cluster_steps::node_links::NodeLinks;
 use cluster_steps::ready::{Ready, make_all_ready};
 use cluster_steps::reply::needs_refresh;
 use cluster_steps::request::Request;
@@ -87,16 +86,8 @@ pub(crate) fn dispatch_to<L: ConnectionLike>(
     ensures args { IfOk result (λ d. texts d.args.items ≡ sent cmd.now) }
     ensures placed { IfOk result (λ d. IsPlaced (nodes L.seen links.now.nodes.items) d) }
 {
-    let Some(link) = links.open_place(node) else {
-        return Err(RedisError::from(Cause::NoLink));
-    };
-    let to = Hop {
-        node: node.clone()?,
-        link,
-        asking: false,
-    };
     Ok(Request {
-        to,
+        to: hop_of(links, node)?,
         args: cmd.wire_args()?,
     })
 }

@@ -8,6 +8,7 @@ mod pipeline;
 mod run;
 mod streams;
 mod transaction;
+mod value;
 
 pub use client::ClusterClient;
 pub use cluster_routing::AggregateOp;

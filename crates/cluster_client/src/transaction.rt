@@ -20,8 +20,9 @@ ghost use Rattle.cluster_steps.specs.Turns.{hop_to};
 ghost use Rattle.cluster_client.specs.Whole.{whole};
 
 use crate::client::{ClusterClient, begin};
-use crate::pipeline::reply::refresh_needed;
+use crate::pipeline::reply::refresh_needed_by;
 use crate::transaction::slot::common_slot;
+use crate::value::value_in;
 use cluster_routing::{Route, SlotAddr};
 use cluster_steps::attempt::{Attempt, exchange_attempt, make_attempt_ready};
 use cluster_steps::attempt_turn::attempt_turn;
@@ -29,7 +30,7 @@ use cluster_steps::hop::first_hop;
 use cluster_steps::picker::Picker;
 use cluster_steps::route::Target;
 use cluster_steps::turn::Turn;
-use resp_args::{Cmd, FromRedisValue, from_redis_value};
+use resp_args::{Cmd, FromRedisValue};
 use resp_core::{RedisError, Value};
 use resp_link::ConnectionLike;
 use std::alloc::Global;
@@ -85,9 +86,9 @@ impl<L: ConnectionLike + Drop> ClusterClient<L> {
             attempt.hop.link attempt.requests.items (skipped attempt.hop.asking)
             (tree_results view result) }
     {
-        let replies = exchange_attempt(alloc, &mut self.links, &mut self.asked, attempt)?;
-        self.needs_refresh = refresh_needed(self.needs_refresh, &replies);
-        Ok(replies)
+        let replies = exchange_attempt(alloc, &mut self.links, &mut self.asked, attempt);
+        self.needs_refresh = refresh_needed_by(self.needs_refresh, &replies);
+        replies
     }
 
     /// The reply to a transaction, from this attempt on. The log has room for it.
@@ -183,7 +184,7 @@ impl<L: ConnectionLike + Drop> ClusterClient<L> {
             (Transaction commands.now) }
         ensures picks { (whole L.seen self.new).picked ≡ [] }
     {
-        let reply = self.reply_to_transaction(alloc, commands)?;
-        Ok(from_redis_value(alloc, reply)?)
+        let reply = self.reply_to_transaction(alloc, commands);
+        value_in(alloc, reply)
     }
 }

@@ -1,16 +1,15 @@
 -- Groups that all went out before the first reply was taken: each is as if it had been called by itself, one after another.
-use Rattle.std.specs.Prelude.{nat_eq, ◌||◌, slice_get, slice_set, unwrap_or, MatchOption, MatchResult}
-use Rattle.std.specs.List.{AllByRecursion}
-use Rattle.std.proofs.Common.{◌≡◌, ◌≢◌, ℕ, suc, zero, ◌+◌, ◌<◌, Bool, true, false, List, [], ◌∷◌, ◌++◌, map, length, Option, Some, None, Result, Ok, Err, refl, sym, ap, ◌∙◌, subst, inl, inr, eq-eqb, arith}
+use Rattle.std.specs.Prelude.{nat_eq, slice_get, slice_set, unwrap_or, MatchOption}
+use Rattle.std.proofs.Common.{◌≡◌, ◌≢◌, ℕ, suc, zero, ◌+◌, Bool, true, false, List, [], ◌∷◌, ◌++◌, map, length, Option, Some, None, Result, Ok, Err, refl, sym, ap, ◌∙◌, subst, inl, inr, eq-eqb, arith}
 use Rattle.std.proofs.lemmas.Bool.{false≢true}
 use Rattle.std.proofs.lemmas.List.{set_comm, set-set}
 use Rattle.resp_core.specs.Trees.{Tree}
 use Rattle.resp_core.specs.Errors.{Refusal, by_cause, cause_of}
 use Rattle.resp_core.specs.declared.errors.redis_error.Cause.{Cause}
 use Rattle.resp_core.specs.declared.errors.redis_error.Cause.TheVariants.{NoLink, Io, Parse, Memory}
-use Rattle.resp_link.specs.Call.{Seen, Answers, Fails}
+use Rattle.resp_link.specs.Call.{Seen, Fails}
 use Rattle.resp_link.specs.TwoCalls as two
-use Rattle.resp_link.specs.TwoCalls.{ComesToOwe, SendRefused, TakesOwed, ReceiveRefused}
+use Rattle.resp_link.specs.TwoCalls.{ComesToOwe, SendRefused, ReceiveRefused}
 use Rattle.resp_link.proofs.TwoCalls.{answers_in_two, fails_in_two, refused_sends_are_refused_calls}
 use Rattle.cluster_routing.specs.Lists.{among}
 use Rattle.cluster_calls.specs.Links.Request.{bytes_of}

@@ -1,12 +1,11 @@
 -- Where the parts of a command go is told by its direction.
 use Rattle.std.specs.List.{list_any}
 use Rattle.std.specs.Prelude.{if◌then◌else◌, is_some, option_and_then}
-use Rattle.std.proofs.Common.{◌≡◌, ◌≢◌, ℕ, Bool, true, false, List, [], ◌∷◌, map, Option, Some, None, Result, Ok, Err, option_map, refl, sym, ap, ◌∙◌}
-use Rattle.resp_core.specs.Errors.{Refusal, by_cause}
+use Rattle.std.proofs.Common.{◌≡◌, ◌≢◌, ℕ, Bool, true, false, List, [], ◌∷◌, map, Option, Some, None, Ok, option_map, refl, sym, ap, ◌∙◌}
 use Rattle.resp_core.specs.declared.errors.redis_error.Cause.{Cause}
 use Rattle.resp_core.specs.declared.errors.redis_error.Cause.TheVariants.{BrokenTuples, CursorInSplit, NoRoute}
 use Rattle.resp_args.specs.Command.{Command}
-use Rattle.resp_args.specs.Packed.{sent, wire}
+use Rattle.resp_args.specs.Packed.{sent}
 use Rattle.resp_args.specs.declared.cmd.Arg.TheVariants.{Simple, Cursor}
 use Rattle.cluster_routing.specs.Command.{Args, all_bytes}
 use Rattle.cluster_routing.specs.Directions.{Direction, direction, in_parts, nowhere_by, parts_in, split_direction, whole, whole_direction}
@@ -16,7 +15,7 @@ use Rattle.cluster_routing.specs.Split.{PartsByPlace, has_split_word, parts_by_p
 use Rattle.cluster_routing.specs.declared.split.SplitParts.{SplitParts}
 use Rattle.cluster_routing.proofs.DirectionViews.{split_word}
 use Rattle.cluster_calls.specs.Calls.Parts.{Target, at_number, at_slot, is_gap, only_part, part_to, parts_of}
-use Rattle.cluster_steps.specs.CodeParts.{part_targets, route_target, routed_at, routed_part, targets_in_direction}
+use Rattle.cluster_steps.specs.CodeParts.{part_targets, routed_at, routed_part, targets_in_direction}
 use Rattle.cluster_steps.proofs.SplitCommands.{all_of, broken, gapped, parted, targets_parted}
 
 of_whole : (args : List (List ℕ)) (number : ℕ) (d : Option Destination) → targets_in_direction number (whole_direction d) ≡ part_targets (only_part args number d)

@@ -1,5 +1,5 @@
 -- The node at the place with a number, where the places are those of all nodes.
-use Rattle.std.proofs.Common.{◌≡◌, ◌∙◌, ℕ, ◌%◌, List, Option, Some, None, option_map, map, length, slice_get, refl, sym, ap}
+use Rattle.std.proofs.Common.{◌≡◌, ◌∙◌, ℕ, ◌%◌, List, Option, Some, None, option_map, map, length, slice_get, sym, ap}
 use Rattle.std.proofs.lemmas.List.{length-map}
 use Rattle.std.proofs.lemmas.Option.{slice_get-map}
 use Rattle.cluster_routing.specs.AllNodes.{all_nodes}

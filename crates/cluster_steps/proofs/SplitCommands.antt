@@ -1,6 +1,5 @@
 -- The parts of a command whose word is split by its keys, as the code finds them.
 use Rattle.std.specs.List.{list_any}
-use Rattle.std.specs.Prelude.{is_some}
 use Rattle.std.proofs.Common.{◌≡◌, ℕ, true, false, List, [], ◌∷◌, map, Option, Some, None, option_map, option_and_then, refl, sym, ap, ◌∙◌, Ok, Err}
 use Rattle.resp_core.specs.Errors.{by_cause}
 use Rattle.resp_core.specs.declared.errors.redis_error.Cause.TheVariants.{BrokenTuples, CursorInSplit}
@@ -9,7 +8,7 @@ use Rattle.resp_args.specs.Packed.{sent, wire}
 use Rattle.resp_args.specs.declared.cmd.Arg.TheVariants.{Simple, Cursor}
 use Rattle.cluster_routing.specs.Command.{Args, all_bytes}
 use Rattle.cluster_routing.specs.Routing.{name_of, role_of, route_to}
-use Rattle.cluster_routing.specs.Split.{Split, Splitting, PartsByPlace, splitting_of, with_tuples, shared_by, cut, split_of, has_split_word, part_slots, part_places, split_by_place, parts_by_place, sub_at}
+use Rattle.cluster_routing.specs.Split.{Split, PartsByPlace, cut, split_of, has_split_word, part_slots, part_places, split_by_place, parts_by_place}
 use Rattle.cluster_routing.specs.declared.route.Route.{Route}
 use Rattle.cluster_routing.specs.declared.route.SlotAddr.{SlotAddr}
 use Rattle.cluster_routing.proofs.SplitWords.{split_words_are_names}

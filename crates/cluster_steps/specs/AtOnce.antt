@@ -1,15 +1,15 @@
 -- Requests that go out to several nodes before the replies of any of them are taken.
 -- Source: documentation of the crate `redis`, `ClusterPipeline` (a pipeline is sent to all nodes, and then the
 -- replies are read).
-use Rattle.std.specs.Prelude.{◌≡◌, ℕ, ◌++◌, List, [], ◌∷◌, map, length, nat_eq, Option, Some, None, Result, Ok, Err, MatchOption, MatchResult, Vec}
+use Rattle.std.specs.Prelude.{◌≡◌, ℕ, ◌++◌, List, [], ◌∷◌, map, length, nat_eq, Option, Result, Err, MatchOption, MatchResult}
 use Rattle.std.specs.List.{AllByRecursion}
 use Rattle.resp_core.specs.Trees.{Tree}
-use Rattle.resp_core.specs.Errors.{Refusal, by_cause}
+use Rattle.resp_core.specs.Errors.{by_cause}
 use Rattle.resp_core.specs.declared.errors.redis_error.Cause.{Cause}
 use Rattle.resp_link.specs.Call.{Seen}
 use Rattle.resp_link.specs.TwoCalls.{ComesToOwe, SendRefused, TakesOwed, ReceiveRefused}
 use Rattle.cluster_routing.specs.Lists.{concat, IsDistinct}
-use Rattle.cluster_calls.specs.Links.Request.{Request, bytes_of}
+use Rattle.cluster_calls.specs.Links.Request.{bytes_of}
 use Rattle.cluster_calls.specs.Links.World.{Node, World, CallsLink}
 use Rattle.cluster_steps.specs.GroupRuns.{IsGroupPlaced, request_lists}
 use Rattle.cluster_steps.specs.Groups.{NodeRequests}

@@ -5,7 +5,7 @@ ghost use Rattle.resp_core.specs.Errors.{by_cause};
 ghost use Rattle.resp_core.specs.View.{view};
 ghost use Rattle.resp_core.specs.declared.errors.redis_error.Cause.TheVariants.{Memory};
 ghost use Rattle.cluster_routing.specs.Policies.{or_bad_reply};
-ghost use Rattle.cluster_calls.specs.Calls.Redirects.{Stays, next_of};
+ghost use Rattle.cluster_calls.specs.Calls.Redirects.{Stays};
 ghost use Rattle.cluster_calls.specs.Calls.Transactions.{answers, attempt_answer, error_or_bad, exec_answers, exec_reply, fate, first_own_error, first_redirect, is_array, is_nil, is_okay, is_redirect, is_refused, multi_reply, next_attempt, own_error, redirect_in};
 ghost use Rattle.cluster_calls.specs.Links.World.{open_links, tree_result};
 ghost use Rattle.cluster_steps.specs.Attempts.{AttemptTurnsBy, heard, is_not_done, seen};
@@ -123,28 +123,6 @@ fn redirect_in(replies: &[Value]) -> Option<&Value>
     }
 }
 
-/// Where the redirect among the replies leads, with so many redirects left.
-fn redirected<K: NodeLinks>(
-    alloc: Global,
-    links: &K,
-    redirects: u16,
-    replies: &[Value],
-) -> Result<Onward, RedisError>
-    ensures next { IfOk result
-        (λ o. next_by o ≡ next_of (open_links (K.nodes links.now)) redirects
-        (redirect_in (heard (map view replies.now)))) }
-    ensures on { IfOk result (λ o. LeadsOn (K.nodes links.now) o) }
-    ensures some { IfOk result (λ o. goes_on o ≡ true → redirects ≢ 0) }
-    ensures only { IfErr result (λ e. e ≡ by_cause Memory) }
-    ensures redirect { IfErr result
-        (λ e. is_none (redirect_in (heard (map view replies.now))) ≡ false) }
-{
-    match redirect_in(replies) {
-        None => Ok(Onward::Stay),
-        Some(reply) => next_place(alloc, links, redirects, reply),
-    }
-}
-
 /// Where the replies send the transaction on, with so many redirects left.
 fn next_attempt<K: NodeLinks>(
     alloc: Global,
@@ -161,7 +139,10 @@ fn next_attempt<K: NodeLinks>(
     ensures unanswered { IfErr result (λ e. exec_answers (heard (map view replies.now)) ≡ false) }
 {
     if is_not_done(replies) {
-        redirected(alloc, links, redirects, replies)
+        match redirect_in(replies) {
+            None => Ok(Onward::Stay),
+            Some(reply) => next_place(alloc, links, redirects, reply),
+        }
     } else {
         Ok(Onward::Stay)
     }

@@ -1,15 +1,13 @@
 //! Where all parts of a call go first, found before the first byte is sent.
-ghost use Rattle.std.specs.Prelude.{◌≡◌, ◌≢◌, [], ◌∷◌, map, IfOk, Err};
+ghost use Rattle.std.specs.Prelude.{◌≡◌, ◌≢◌, [], map, IfOk, Err};
 ghost use Rattle.std.specs.List.{AllByRecursion};
 ghost use Rattle.resp_core.specs.Errors.{by_cause};
 ghost use Rattle.resp_core.specs.declared.errors.redis_error.Cause.TheVariants.{Memory};
 ghost use Rattle.cluster_calls.specs.Links.World.{Settings};
 ghost use Rattle.cluster_steps.specs.Dispatches.{AreDispatched, IsPlaced, client_with, dispatches_of};
 ghost use Rattle.cluster_steps.specs.FirstPlaces.{part_of};
-ghost use Rattle.cluster_steps.specs.Groups.{request_in};
 ghost use Rattle.cluster_steps.specs.Picker.{picked_by, strategy_in};
 
-use crate::asked::Asked;
 use crate::hop::{Hop, first_hop};
 use crate::node_links::NodeLinks;
 use crate::numbered_map::NumberedMap;

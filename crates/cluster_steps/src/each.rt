@@ -5,7 +5,6 @@ ghost use Rattle.std.specs.VecDeque.{deque_items};
 ghost use Rattle.resp_core.specs.Errors.{cause_of};
 ghost use Rattle.resp_core.specs.View.{view};
 ghost use Rattle.resp_core.specs.declared.errors.redis_error.Cause.TheVariants.{Io};
-ghost use Rattle.cluster_calls.specs.Calls.Each.{reply_outcome};
 ghost use Rattle.cluster_calls.specs.Links.World.{tree_result};
 ghost use Rattle.cluster_steps.specs.Each.{came_from, left_or_cause, next_outcome, told_each, without_next, without_next_from};
 

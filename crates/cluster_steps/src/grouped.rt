@@ -1,8 +1,8 @@
 //! The requests of a pipeline, grouped by the nodes that they go to.
-ghost use Rattle.std.specs.Prelude.{ℕ, ◌≡◌, ◌<◌, Some, map, nat_eq, slice_get, vec_len, IfOk, OnOk};
+ghost use Rattle.std.specs.Prelude.{ℕ, ◌≡◌, ◌<◌, Some, map, nat_eq, slice_get, IfOk, OnOk};
 ghost use Rattle.std.specs.List.{AllByRecursion};
 ghost use Rattle.cluster_routing.specs.Lists.{firsts};
-ghost use Rattle.cluster_steps.specs.Groups.{AreNumbered, Puts, gathered_of, group_at, group_of, place_in, places_in_use, with_place};
+ghost use Rattle.cluster_steps.specs.Groups.{AreNumbered, gathered_of, group_at, group_of, place_in, places_in_use, with_place};
 ghost use Rattle.cluster_steps.specs.Numbers.{HasPlace, found};
 
 use crate::asked::Asked;

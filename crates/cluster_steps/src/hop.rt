@@ -5,7 +5,6 @@ ghost use Rattle.resp_core.specs.Errors.{by_cause};
 ghost use Rattle.resp_core.specs.declared.errors.redis_error.Cause.TheVariants.{Memory};
 ghost use Rattle.cluster_routing.specs.Choice.{strategy_of};
 ghost use Rattle.cluster_routing.specs.Seen.{address};
-ghost use Rattle.cluster_routing.specs.SlotMap.{nodes_at};
 ghost use Rattle.cluster_calls.specs.Links.World.{open_links};
 ghost use Rattle.cluster_calls.specs.Links.Places.{IsOpenAt};
 ghost use Rattle.cluster_steps.specs.FirstPlaces.{IsPickOf, if_linked, node_by, node_in, node_of_hop, node_with_link, target_of};
@@ -113,7 +112,10 @@ pub fn first_hop<K: NodeLinks>(
 }
 
 /// A node, and the place of its open link.
-fn hop_of<K: NodeLinks>(links: &K, node: &NodeAddress) -> Result<Hop, RedisError>
+///
+/// # Errors
+/// `NoLink` where no usable link leads to the node; `Memory`.
+pub fn hop_of<K: NodeLinks>(links: &K, node: &NodeAddress) -> Result<Hop, RedisError>
     ensures found { result ≢ Err (by_cause Memory)
         → node_of_hop result ≡ if_linked (open_links (K.nodes links.now)) (address node.now) }
     ensures place { IfOk result

@@ -1,6 +1,6 @@
 //! The outcome of a split command from those of its parts, and of each position of a pipeline from what was
 //! told of all parts.
-ghost use Rattle.std.specs.Prelude.{ℕ, ◌≡◌, ◌≤◌, ◌+◌, ◌++◌, drop, length, map, option_map, take, vec_capacity, vec_len, [], Err, IfNone, IfOk, IfSome};
+ghost use Rattle.std.specs.Prelude.{◌≡◌, ◌≤◌, ◌+◌, ◌++◌, drop, length, map, option_map, take, vec_capacity, vec_len, [], Err, IfNone, IfOk, IfSome};
 ghost use Rattle.std.specs.List.{list_all, AllByRecursion};
 ghost use Rattle.resp_core.specs.Errors.{by_cause};
 ghost use Rattle.resp_core.specs.View.{view};

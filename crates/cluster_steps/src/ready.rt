@@ -2,7 +2,7 @@
 ghost use Rattle.std.specs.Prelude.{◌≡◌, ◌+◌, ◌≤◌, ◌++◌, map, vec_capacity, vec_len, IfOk, OnOk};
 ghost use Rattle.resp_args.specs.Packed.{packed};
 ghost use Rattle.cluster_routing.specs.Info.{texts};
-ghost use Rattle.cluster_calls.specs.Links.Request.{asking_command, bytes_of, outgoing, outgoing_for};
+ghost use Rattle.cluster_calls.specs.Links.Request.{asking_command, bytes_of, outgoing_for};
 
 use crate::asked::Asked;
 use crate::dispatch::Dispatch;

@@ -1,10 +1,8 @@
 //! Where a command goes, and its parts as they stand on the wire.
-ghost use Rattle.std.specs.Prelude.{◌≡◌, ◌≢◌, ◌++◌, Err, is_some, map, option_map, false, ℕ, List, IfOk};
-ghost use Rattle.resp_core.specs.Errors.{by_cause};
-ghost use Rattle.resp_core.specs.declared.errors.redis_error.Cause.TheVariants.{Memory};
+ghost use Rattle.std.specs.Prelude.{◌≡◌, ◌++◌, Err, is_some, map, option_map, false, ℕ, List, IfOk};
 ghost use Rattle.resp_args.specs.Packed.{sent};
 ghost use Rattle.cluster_routing.specs.Directions.{direction as direction_of, parts_in, shown_direction};
-ghost use Rattle.cluster_routing.specs.Info.{shown_parts, shown_routed, shown_split, texts};
+ghost use Rattle.cluster_routing.specs.Info.{shown_parts, shown_routed, shown_split};
 ghost use Rattle.cluster_routing.specs.Split.{IsOwnSplitting, has_split_word, parts_by_place};
 ghost use Rattle.cluster_calls.specs.Calls.Parts.{part_to, parts_of};
 ghost use Rattle.cluster_steps.specs.CodeParts.{part_targets, routed_at, routed_part, split_in, targets_by, targets_in_direction};

@@ -9,7 +9,7 @@ ghost use Rattle.cluster_calls.specs.Links.Log.{is_data};
 ghost use Rattle.cluster_calls.specs.Links.Reply.{error_sort, redirect_target, sort_of};
 ghost use Rattle.cluster_calls.specs.Links.World.{open_links};
 ghost use Rattle.cluster_steps.specs.Turns.{next_by, goes_on, LeadsOn, TurnsBy, turns_on, TurnsOn};
-ghost use Rattle.cluster_calls.specs.Calls.Redirects.{Stays, hop_by_link, next_of, sort_next};
+ghost use Rattle.cluster_calls.specs.Calls.Redirects.{hop_by_link, next_of, sort_next};
 
 use crate::hop::Hop;
 use crate::node_links::NodeLinks;

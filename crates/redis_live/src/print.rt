@@ -107,6 +107,12 @@ fn width_of(alloc: Global, number: usize) -> Result<usize> {
     Ok(number.to_string(alloc)?.len())
 }
 
+/// The margin of the `count` items of a list: their labels stand in front of them.
+fn margin_in(alloc: Global, list: &Todo<'_>, count: usize) -> Result<usize> {
+    let width = width_of(alloc, count)?;
+    Ok(list.margin.saturating_add(width).saturating_add(2))
+}
+
 /// What stands behind item `place` of `count`, where this stands behind the list.
 fn behind(place: usize, count: usize, after: &'static str) -> &'static str {
     if place.saturating_add(1) == count {
@@ -126,10 +132,7 @@ fn push_items<'a>(
     mark: char,
 ) -> Result<()> {
     let count = items.len();
-    let margin = list
-        .margin
-        .saturating_add(width_of(alloc, count)?)
-        .saturating_add(2);
+    let margin = margin_in(alloc, list, count)?;
     for (place, value) in items.iter().enumerate().rev() {
         todo.push(Todo {
             before: label(alloc, style, list.margin, place, count, mark)?,
@@ -150,10 +153,7 @@ fn push_pairs<'a>(
     pairs: &'a [(Value, Value)],
 ) -> Result<()> {
     let count = pairs.len();
-    let margin = map
-        .margin
-        .saturating_add(width_of(alloc, count)?)
-        .saturating_add(2);
+    let margin = margin_in(alloc, map, count)?;
     for (place, pair) in pairs.iter().enumerate().rev() {
         todo.push(Todo {
             before: String::new(alloc),

@@ -12,10 +12,11 @@ ghost use Rattle.cluster_client.specs.Whole.{whole};
 
 use super::{ClusterClient, begin};
 use crate::fan_out::{dispatch_to, needs_refresh_by, outcome_in};
+use crate::value::value_in;
 use cluster_routing::NodeAddress;
 use cluster_steps::exchange::exchange_one;
 use cluster_steps::ready::make_ready;
-use resp_args::{Cmd, FromRedisValue, from_redis_value};
+use resp_args::{Cmd, FromRedisValue};
 use resp_core::{Cause, RedisError, Value};
 use resp_link::ConnectionLike;
 use std::alloc::Global;
@@ -54,8 +55,8 @@ impl<L: ConnectionLike + Drop> ClusterClient<L> {
             (At (address node.now) cmd.now) }
         ensures picks { (whole L.seen self.new).picked ≡ [] }
     {
-        let reply = self.reply_at(alloc, node, cmd)?;
-        Ok(from_redis_value(alloc, reply)?)
+        let reply = self.reply_at(alloc, node, cmd);
+        value_in(alloc, reply)
     }
 
     /// The reply to a command that goes to one node.

@@ -16,7 +16,6 @@ ghost use Rattle.cluster_calls.specs.Links.Typed.{record_answer};
 ghost use Rattle.cluster_calls.specs.Links.World.{nodes};
 ghost use Rattle.cluster_steps.specs.Dispatches.{IsPlaced, IsPlanned};
 ghost use Rattle.cluster_steps.specs.Reads.{read_places, streams_in};
-ghost use Rattle.cluster_client.specs.Ended.{CommandEnded};
 ghost use Rattle.cluster_client.specs.PreparedReads.{dispatches_in};
 ghost use Rattle.cluster_client.specs.Whole.{whole};
 
@@ -55,28 +54,15 @@ impl<L: ConnectionLike + Drop> ClusterClient<L> {
             (whole L.seen self.new) (OnStreams (Xread (streams_in streams.now) options.now))
             (record_answer (λ reply. Read (rows_view reply.keys.items)) result) }
     {
-        let reply = self.read_with_picks(alloc, streams, options, strategy);
+        let reply = match self.prepare_read(alloc, streams, options, strategy) {
+            Ok(PreparedRead { dispatches, places }) => match self.follow_all(alloc, dispatches) {
+                Ok(replies) => record_of_parts(alloc, streams, &places, replies),
+                Err(e) => Err(e),
+            },
+            Err(e) => Err(e),
+        };
         self.unpick(&reply);
         reply
-    }
-
-    /// The same; its picks are shown also where memory was refused before a request was written down.
-    fn read_with_picks(
-        &mut self,
-        alloc: Global,
-        streams: &[Stream],
-        options: &StreamReadOptions,
-        strategy: Option<&dyn ReadRoutingStrategy>,
-    ) -> Result<StreamReadReply, RedisError>
-        requires by_key { is_by_key options.now (stream_keys (streams_in streams.now)) ≡ true }
-        requires met { read_refusal (stream_keys (streams_in streams.now)) options.now ≡ None }
-        ensures { CommandEnded (strategy_of admits strategy.entry) (whole L.seen self.old)
-            (whole L.seen self.new) (OnStreams (Xread (streams_in streams.now) options.now))
-            (record_answer (λ reply. Read (rows_view reply.keys.items)) result) }
-    {
-        let prepared = self.prepare_read(alloc, streams, options, strategy)?;
-        let replies = self.follow_all(alloc, prepared.dispatches)?;
-        record_of_parts(alloc, streams, &prepared.places, replies)
     }
 
     /// What is done for a read before its first byte.

@@ -14,7 +14,7 @@ ghost use Rattle.cluster_steps.specs.AtOnce.{AllSent};
 ghost use Rattle.cluster_steps.specs.Each.{left_or_cause};
 ghost use Rattle.cluster_steps.specs.GroupRuns.{IsGroupPlaced};
 ghost use Rattle.cluster_steps.specs.Groups.{NodeRequests as RequestGroup, group_of, request_count};
-ghost use Rattle.cluster_client.specs.InParts.{AreInParts, ArePartsOf, IsDirected, entry_of};
+ghost use Rattle.cluster_client.specs.InParts.{AreCut, AreInParts, ArePartsOf, IsDirected, entry_of};
 ghost use Rattle.cluster_client.specs.Outcomes.{EachExchanged, ReceivedFrom, outcomes_of};
 ghost use Rattle.cluster_client.specs.Whole.{whole};
 
@@ -131,6 +131,20 @@ impl<L: PipelinedLink + Drop> ClusterClient<L> {
         Ok(outcomes)
     }
 
+    /// The same of a pipeline that was cut into its parts, or the refusal of its first command that has none.
+    fn outcomes_if_cut(
+        &mut self,
+        alloc: Global,
+        all: Result<InParts, RedisError>,
+    ) -> Result<Vec<Result<Value, RedisError>>, RedisError>
+        requires { (entries : List Entry) × AreCut entries all }
+        ensures { (strategy : Option Strategy) (entries : List Entry) → AreCut entries all
+            → EachMade strategy (whole L.seen self.old) (whole L.seen self.new) entries (outcomes_of result) }
+    {
+        begin(alloc, &mut self.asked, &mut self.picked);
+        self.outcomes_in_parts(alloc, all?)
+    }
+
     /// The outcome of each of a pipeline's positions, of which some may be split commands of several slots.
     fn outcomes_of_pipeline(
         &mut self,
@@ -141,9 +155,8 @@ impl<L: PipelinedLink + Drop> ClusterClient<L> {
             → EachMade strategy (whole L.seen self.old) (whole L.seen self.new) commands.now
             (outcomes_of result) }
     {
-        begin(alloc, &mut self.asked, &mut self.picked);
-        let all = commands_in_parts(alloc, commands)?;
-        self.outcomes_in_parts(alloc, all)
+        let all = commands_in_parts(alloc, commands);
+        self.outcomes_if_cut(alloc, all)
     }
 
     /// What `ClusterPipeline::query_each` does and tells, of commands that are lent with their directions: none
@@ -162,9 +175,8 @@ impl<L: PipelinedLink + Drop> ClusterClient<L> {
             → EachMade strategy (whole L.seen self.old) (whole L.seen self.new) (map entry_of commands.now)
             (outcomes_of result) }
     {
-        begin(alloc, &mut self.asked, &mut self.picked);
-        let all = directed_in_parts(alloc, commands)?;
-        self.outcomes_in_parts(alloc, all)
+        let all = directed_in_parts(alloc, commands);
+        self.outcomes_if_cut(alloc, all)
     }
 }
 

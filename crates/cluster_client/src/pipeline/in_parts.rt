@@ -1,18 +1,18 @@
 //! A pipeline whose split commands may have several slots: each of these stands as its parts.
 ghost use Rattle.std.specs.List.{AllByRecursion};
-ghost use Rattle.std.specs.Prelude.{◌≡◌, ◌≢◌, ◌∷◌, ◌++◌, suc, Bool, [], None, Some, false, map, replicate, option_map, IfOk, IfErr, IfSome, OnOk};
+ghost use Rattle.std.specs.Prelude.{◌≡◌, ◌≢◌, ◌∷◌, ◌++◌, suc, Bool, [], None, Some, false, map, replicate, option_map, IfErr, IfSome, OnOk};
 ghost use Rattle.resp_core.specs.Errors.{at_position, by_cause};
 ghost use Rattle.resp_core.specs.declared.errors.redis_error.Cause.TheVariants.{Memory};
 ghost use Rattle.resp_args.specs.Packed.{sent};
 ghost use Rattle.cluster_routing.specs.Directions.{direction as direction_of, shown_direction};
 ghost use Rattle.cluster_routing.specs.Info.{shown_split};
 ghost use Rattle.cluster_routing.specs.Split.{IsOwnSplitting};
-ghost use Rattle.cluster_calls.specs.Calls.InParts.{first_unplaced, split_at};
+ghost use Rattle.cluster_calls.specs.Calls.InParts.{split_at};
 ghost use Rattle.cluster_calls.specs.Calls.Parts.{if_one_slot, parts_of, reads_several_slots, whole_part};
 ghost use Rattle.cluster_steps.specs.CodeParts.{split_in, targets_in};
 ghost use Rattle.cluster_steps.specs.Joins.{HasRoom, shown_join};
 ghost use Rattle.cluster_steps.specs.WholeParts.{whole_by};
-ghost use Rattle.cluster_client.specs.InParts.{AreInParts, AreReady, IsAdded, IsDirected, IsUnplaced, entry, entry_of, if_several_targets, joins_after, places_of, shown_joins};
+ghost use Rattle.cluster_client.specs.InParts.{AreCut, AreReady, IsAdded, IsDirected, IsUnplaced, entry, entry_of, if_several_targets, joins_after, places_of, shown_joins};
 
 use crate::pipeline::parts::primary_route;
 use crate::pipeline::{Directed, PipelineCommand};
@@ -153,8 +153,7 @@ pub(crate) fn commands_in_parts(
     alloc: Global,
     commands: &[PipelineCommand],
 ) -> Result<InParts, RedisError>
-    ensures parts { IfOk result (λ p. AreInParts commands.now p) }
-    ensures refused { IfErr result (λ e. e ≢ by_cause Memory → first_unplaced 0 commands.now ≡ Some e) }
+    ensures { AreCut commands.now result }
 {
     let mut all = InParts {
         parts: Vec::new(alloc),
@@ -174,9 +173,7 @@ pub(crate) fn directed_in_parts(
     commands: &[Directed<'_>],
 ) -> Result<InParts, RedisError>
     requires { AllByRecursion IsDirected commands.now }
-    ensures parts { IfOk result (λ p. AreInParts (map entry_of commands.now) p) }
-    ensures refused { IfErr result
-        (λ e. e ≢ by_cause Memory → first_unplaced 0 (map entry_of commands.now) ≡ Some e) }
+    ensures { AreCut (map entry_of commands.now) result }
 {
     let mut all = InParts {
         parts: Vec::new(alloc),

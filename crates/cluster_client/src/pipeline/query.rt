@@ -18,8 +18,9 @@ ghost use Rattle.cluster_calls.specs.Links.World.{nodes, tree_result, tree_resul
 
 use crate::client::{ClusterClient, begin};
 use crate::pipeline::parts::pipeline_parts;
-use crate::pipeline::reply::{refresh_needed, reply_of_pipeline};
+use crate::pipeline::reply::{refresh_needed_by, reply_of_pipeline};
 use crate::pipeline::{ClusterPipeline, PipelineCommand};
+use crate::value::value_in;
 use cluster_steps::dispatch::{Dispatch, dispatches};
 use cluster_steps::drawn::{Answered, drawn};
 use cluster_steps::exchange::exchange;
@@ -27,7 +28,7 @@ use cluster_steps::grouped::{NumberedGroups, grouped};
 use cluster_steps::picker::Picker;
 use cluster_steps::ready::NodeRequests;
 use cluster_steps::route::Part;
-use resp_args::{FromRedisValue, from_redis_value};
+use resp_args::FromRedisValue;
 use resp_core::{RedisError, Value};
 use resp_link::ConnectionLike;
 use std::alloc::Global;
@@ -72,9 +73,9 @@ impl<L: ConnectionLike + Drop> ClusterClient<L> {
         ensures log_len { vec_len self.new.asked ≡ vec_len self.old.asked + vec_len group.requests }
         ensures log_capacity { vec_capacity self.old.asked ≤ vec_capacity self.new.asked }
     {
-        let replies = exchange(alloc, &mut self.links, &mut self.asked, group)?;
-        self.needs_refresh = refresh_needed(self.needs_refresh, &replies);
-        Ok(replies)
+        let replies = exchange(alloc, &mut self.links, &mut self.asked, group);
+        self.needs_refresh = refresh_needed_by(self.needs_refresh, &replies);
+        replies
     }
 
     /// The replies of one node after another, up to the first whose link fails.
@@ -164,7 +165,7 @@ impl ClusterPipeline {
         ensures unpicked { result ≡ Err (by_cause Memory) → (whole L.seen client.new).log ≡ []
             → (whole L.seen client.new).picked ≡ [] }
     {
-        let reply = client.reply_to_pipeline(alloc, self.commands())?;
-        Ok(from_redis_value(alloc, reply)?)
+        let reply = client.reply_to_pipeline(alloc, self.commands());
+        value_in(alloc, reply)
     }
 }

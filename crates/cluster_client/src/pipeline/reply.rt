@@ -7,9 +7,9 @@ ghost use Rattle.resp_core.specs.Refused.{errors_at};
 ghost use Rattle.resp_core.specs.View.{view};
 ghost use Rattle.resp_core.specs.declared.errors.redis_error.Cause.TheVariants.{Memory};
 ghost use Rattle.cluster_calls.specs.Calls.Replies.{not_ignored};
-ghost use Rattle.cluster_steps.specs.GroupRuns.{is_moved_tree};
+ghost use Rattle.cluster_steps.specs.GroupRuns.{is_moved_tree, moved_by};
 ghost use Rattle.cluster_calls.specs.Links.PipeReplies.{errors_in, pipeline_result};
-ghost use Rattle.cluster_calls.specs.Links.World.{tree_result};
+ghost use Rattle.cluster_calls.specs.Links.World.{tree_result, tree_results};
 
 use crate::pipeline::PipelineCommand;
 use cluster_steps::reply::needs_refresh;
@@ -25,6 +25,16 @@ pub(crate) fn refresh_needed(flag: bool, replies: &[Value]) -> bool
         needed = needs_refresh(needed, reply);
     }
     needed
+}
+
+/// Whether a refresh is needed after these replies of a node, if it gave them.
+pub(crate) fn refresh_needed_by(flag: bool, replies: &Result<Vec<Value>, RedisError>) -> bool
+    ensures { result ≡ (flag || moved_by (tree_results view replies.now)) }
+{
+    match replies {
+        Ok(replies) => refresh_needed(flag, replies),
+        Err(_) => flag,
+    }
 }
 
 /// The first error in each reply that holds one, with the reply's position.

@@ -1,4 +1,4 @@
-use Rattle.std.proofs.Common.{◌≡◌, ◌∙◌, ℕ, false, [], map, length, sym, ap, eqb-true}
+use Rattle.std.proofs.Common.{◌≡◌, ◌∙◌, false, map, length, sym, ap, eqb-true}
 use Rattle.std.proofs.lemmas.List.{nil_from_length}
 use Rattle.std.proofs.lemmas.Result.{err_from_is_err_and}
 use Rattle.resp_args.specs.Packed.{sent}

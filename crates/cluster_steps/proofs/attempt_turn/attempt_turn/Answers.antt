@@ -1,4 +1,4 @@
-use Rattle.std.proofs.Common.{map, subst, ◌∙◌}
+use Rattle.std.proofs.Common.{map, subst}
 use Rattle.resp_core.specs.View.{view}
 use Rattle.cluster_calls.proofs.LogLaws.ExecAnswers.{lacks_unanswered}
 use Rattle.cluster_steps.specs.Attempts.{AttemptTurnsBy, heard}

@@ -1,19 +1,17 @@
-use Rattle.std.specs.Prelude.{is_some, option_map}
+use Rattle.std.specs.Prelude.{option_map}
 use Rattle.std.proofs.Common.{ℕ, true, false, List, Bor, [], ◌∷◌, ◌≡◌, ◌∙◌, sym, ap}
 use Rattle.std.proofs.lemmas.Result.{err_from_is_err_and}
 use Rattle.resp_args.specs.Packed.{sent}
 use Rattle.cluster_routing.specs.Seen.{addresses}
 use Rattle.cluster_calls.specs.Calls.Parts.{fits_order, part_to}
 use Rattle.cluster_calls.specs.Links.Happened.{client_of}
-use Rattle.cluster_steps.specs.CodeParts.{split_in}
 use Rattle.cluster_steps.specs.FirstPlaces.{target_of}
 use Rattle.cluster_steps.specs.Requests.{CodeDispatch}
-use Rattle.cluster_steps.proofs.Directions.{whole_part_is}
 use Rattle.cluster_steps.proofs.Dispatched.{command_unfit, command_unparted, command_unplaced}
 use Rattle.cluster_steps.proofs.Dispatching.{loop_done, loop_more, loop_refused, loop_start}
 use Rattle.cluster_steps.proofs.PartTargets.{refused_targets}
 use Rattle.cluster_client.specs.Whole.{whole}
-use Rattle.cluster_client.proofs.Prepared.{planned_alone}
+use Rattle.cluster_client.proofs.Prepared.{alone_at, planned_alone}
 use Rattle.cluster_client.proofs.client.ClusterClient.prepare.Goals as goal
 
 -- a command without parts has no plan
@@ -30,9 +28,7 @@ pub returns-then-not-branch-clause-planned : goal.returns-then-not-branch-clause
 returns-then-not-branch-clause-planned g c m =
     let world = whole g.L.ConnectionLike.seen c.args.self.now in
     let order = option_map (λ (o : Bor (List ℕ)). o.now) c.args.call.now.order in
-    let read_only = (client_of world).settings.read_only in
-    let goes = c.in_ok-direction.ensures in
-    let alone = whole_part_is c.args.call.now.command.now read_only c.args.call.now.number c.in_ok-targets.ensures.response (target_of c.in-Whole.target) (sym (c.in_ok-targets.ensures.word read_only goes) ∙ ap (λ t. is_some (split_in t)) c.in-Whole.is) (rw c.in-Whole.is at (c.in_ok-targets.ensures.targets read_only goes)) in
+    let alone = alone_at c.args.call.now.command.now (client_of world).settings.read_only c.args.call.now.number c.in_ok-targets.ensures.response c.in-Whole.target _ c.in-Whole.is (c.in_ok-targets.ensures.word _ c.in_ok-direction.ensures) (c.in_ok-targets.ensures.targets _ c.in_ok-direction.ensures) in
     let unfit : fits_order order 1 ≡ false = sym c.in_ok-fits_order-in-Whole.ensures ∙ c.if-not-branch.true in
     rw (c.begin.ensures.picked, c.from.ensures) (command_unfit c.args.call.now.command.now order c.args.call.now.number (client_of world) _ _ alone unfit)
 
@@ -41,9 +37,7 @@ returns-in_err-hop-in-Whole-clause-planned g c =
     let p = err_from_is_err_and c.from_residual-in_err-hop-in-Whole.result c.from_residual-in_err-hop-in-Whole.ensures.1 in
     let world = whole g.L.ConnectionLike.seen c.args.self.now in
     let order = option_map (λ (o : Bor (List ℕ)). o.now) c.args.call.now.order in
-    let read_only = (client_of world).settings.read_only in
-    let goes = c.in_ok-direction.ensures in
-    let alone = whole_part_is c.args.call.now.command.now read_only c.args.call.now.number c.in_ok-targets.ensures.response (target_of c.in-Whole.target) (sym (c.in_ok-targets.ensures.word read_only goes) ∙ ap (λ t. is_some (split_in t)) c.in-Whole.is) (rw c.in-Whole.is at (c.in_ok-targets.ensures.targets read_only goes)) in
+    let alone = alone_at c.args.call.now.command.now (client_of world).settings.read_only c.args.call.now.number c.in_ok-targets.ensures.response c.in-Whole.target _ c.in-Whole.is (c.in_ok-targets.ensures.word _ c.in_ok-direction.ensures) (c.in_ok-targets.ensures.targets _ c.in_ok-direction.ensures) in
     let part = part_to (sent c.args.call.now.command.now) (target_of c.in-Whole.target) in
     let fits : fits_order order 1 ≡ true = sym c.in_ok-fits_order-in-Whole.ensures ∙ c.if-not-branch.false in
     rw (p.1, p.2) (λ m. command_unplaced c.args.call.now.command.now order c.args.call.now.number (client_of world) _ (part ∷ []) alone fits _ _
@@ -53,9 +47,7 @@ pub returns-in_ok-request-in-Whole-clause-planned : goal.returns-in_ok-request-i
 returns-in_ok-request-in-Whole-clause-planned g c m =
     let world = whole g.L.ConnectionLike.seen c.args.self.now in
     let order = option_map (λ (o : Bor (List ℕ)). o.now) c.args.call.now.order in
-    let read_only = (client_of world).settings.read_only in
-    let goes = c.in_ok-direction.ensures in
-    let alone = whole_part_is c.args.call.now.command.now read_only c.args.call.now.number c.in_ok-targets.ensures.response (target_of c.in-Whole.target) (sym (c.in_ok-targets.ensures.word read_only goes) ∙ ap (λ t. is_some (split_in t)) c.in-Whole.is) (rw c.in-Whole.is at (c.in_ok-targets.ensures.targets read_only goes)) in
+    let alone = alone_at c.args.call.now.command.now (client_of world).settings.read_only c.args.call.now.number c.in_ok-targets.ensures.response c.in-Whole.target _ c.in-Whole.is (c.in_ok-targets.ensures.word _ c.in_ok-direction.ensures) (c.in_ok-targets.ensures.targets _ c.in_ok-direction.ensures) in
     let part = part_to (sent c.args.call.now.command.now) (target_of c.in-Whole.target) in
     let fits : fits_order order 1 ≡ true = sym c.in_ok-fits_order-in-Whole.ensures ∙ c.if-not-branch.false in
     let dispatch : CodeDispatch = record { to = c.in_ok-hop-in-Whole.field-0; args = c.in_ok-wire_args-in-Whole.field-0 } in

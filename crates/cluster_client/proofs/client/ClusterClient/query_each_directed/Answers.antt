@@ -1,30 +1,9 @@
-use Rattle.std.proofs.Common.{◌≡◌, [], refl, map}
-use Rattle.std.proofs.lemmas.Result.{err_from_is_err_and}
-use Rattle.cluster_calls.specs.Links.Run.{with_log}
+use Rattle.std.proofs.Common.{map}
 use Rattle.cluster_client.specs.InParts.{entry_of}
-use Rattle.cluster_client.specs.Whole.{whole}
-use Rattle.cluster_client.proofs.InParts.{each_before, unplaced}
 use Rattle.cluster_client.proofs.client.ClusterClient.query_each_directed.Goals as goal
 
-pub returns-in_err-all : goal.returns-in_err-all
-returns-in_err-all g c strategy =
-    let seen = g.L.ConnectionLike.seen in
-    let old = whole seen c.args.self.now in
-    let mid = whole seen (record c.args.self.now { asked = c.begin.new.asked; picked = c.begin.new.picked }) in
-    let stays : mid ≡ with_log old [] [] = rw (c.begin.ensures.asked, c.begin.ensures.picked) refl in
-    let p = err_from_is_err_and c.from_residual.result c.from_residual.ensures.1 in
-    rw (p.1, p.2) (unplaced strategy old mid (map entry_of c.args.commands.now) _ stays c.in_err-all.ensures.refused)
-
-pub outcomes_in_parts-requires-clause-emptied : goal.outcomes_in_parts-requires-clause-emptied
-outcomes_in_parts-requires-clause-emptied g c = rw (c.begin.ensures.asked, c.begin.ensures.picked) refl
-
-pub outcomes_in_parts-requires-clause-parts : goal.outcomes_in_parts-requires-clause-parts
-outcomes_in_parts-requires-clause-parts g c = (map entry_of c.args.commands.now, c.in_ok-all.ensures.parts)
+pub outcomes_if_cut-requires : goal.outcomes_if_cut-requires
+outcomes_if_cut-requires g c = (map entry_of c.args.commands.now, c.directed_in_parts-all.ensures)
 
 pub returns : goal.returns
-returns g c strategy =
-    let seen = g.L.ConnectionLike.seen in
-    let old = whole seen c.args.self.now in
-    let mid = whole seen (record c.args.self.now { asked = c.begin.new.asked; picked = c.begin.new.picked }) in
-    let stays : mid ≡ with_log old [] [] = rw (c.begin.ensures.asked, c.begin.ensures.picked) refl in
-    each_before strategy old mid (whole seen c.outcomes_in_parts.new.self) (map entry_of c.args.commands.now) _ stays (c.outcomes_in_parts.ensures strategy (map entry_of c.args.commands.now) c.in_ok-all.ensures.parts)
+returns g c strategy = c.outcomes_if_cut.ensures strategy (map entry_of c.args.commands.now) c.directed_in_parts-all.ensures

@@ -3,7 +3,6 @@ use Rattle.std.proofs.Common.{◌≡◌, ℕ, Bool, true, false, List, [], ◌�
 use Rattle.std.proofs.lemmas.List.{length-map}
 use Rattle.resp_core.specs.View.{view}
 use Rattle.cluster_routing.specs.Split.{has_split_word, parts_by_place}
-use Rattle.cluster_calls.specs.Links.Converted.{value_answer}
 use Rattle.cluster_calls.specs.Links.Happened.{client_of}
 use Rattle.cluster_calls.specs.Links.Orders.{command_call, routes_in_order}
 use Rattle.cluster_calls.specs.Links.World.{World, tree_result}

@@ -15,8 +15,8 @@ commands-preserved c =
     subst (λ n. Added all n (drop n all) c.add.new.self) (sym (add-one at))
     (added_more all at x (drop (suc at) all) c.commands.all c.add.new.self (subst (λ es. Added all at es c.commands.all) next c.commands.invariant) (subst (λ e. IsAdded at e c.commands.all c.add.new.self) c.command.view_is (c.in_ok-add.ensures.added c.command.inside.ignored)))
 
-pub returns-in_err-add-clause-refused : goal.returns-in_err-add-clause-refused
-returns-in_err-add-clause-refused c =
+pub returns-in_err-add : goal.returns-in_err-add
+returns-in_err-add c =
     let all = c.args.commands.now in
     let at = c.commands.position in
     let x = c.index-commands-position.result in

@@ -23,8 +23,8 @@ commands-preserved c =
       subst (λ n. AllByRecursion IsDirected (drop n commands)) (sym (add-one at)) ((subst (AllByRecursion IsDirected) next c.commands.invariant.1).1),
     )
 
-pub returns-in_err-add-clause-refused : goal.returns-in_err-add-clause-refused
-returns-in_err-add-clause-refused c =
+pub returns-in_err-add : goal.returns-in_err-add
+returns-in_err-add c =
     let commands = c.args.commands.now in
     let all = map entry_of commands in
     let at = c.commands.position in
