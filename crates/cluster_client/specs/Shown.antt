@@ -13,11 +13,11 @@ use Rattle.cluster_calls.specs.Calls.Call.{Call, Refresh, Query, Ordered, Pipeli
 use Rattle.cluster_calls.specs.Links.Typed.{deletion_of}
 use Rattle.cluster_calls.specs.Links.Play.{Shown}
 use Rattle.cluster_calls.specs.Links.World.{tree_result}
-use Rattle.cluster_client.specs.declared.run.Call.{Call as CodeCall}
-use Rattle.cluster_client.specs.declared.run.Call.TheVariants as calls
-use Rattle.cluster_client.specs.declared.run.Answer.{Answer as CodeAnswer}
-use Rattle.cluster_client.specs.declared.run.Answer.TheVariants as answers
-use Rattle.cluster_client.specs.declared.run.Played.{Played as CodePlayed}
+use Rattle.cluster_client.specs.declared.client.play.Call.{Call as CodeCall}
+use Rattle.cluster_client.specs.declared.client.play.Call.TheVariants as calls
+use Rattle.cluster_client.specs.declared.client.play.Answer.{Answer as CodeAnswer}
+use Rattle.cluster_client.specs.declared.client.play.Answer.TheVariants as answers
+use Rattle.cluster_client.specs.declared.client.play.Played.{Played as CodePlayed}
 use Rattle.cluster_client.specs.declared.streams.Claimant.{Claimant as CodeClaimant}
 use Rattle.cluster_client.specs.Streams.{claimant_by, fields_by}
 

@@ -29,6 +29,7 @@ ghost use Rattle.cluster_calls.specs.Links.World.{addresses_of, has_repeats, lin
 mod at;
 mod directed;
 mod ordered;
+pub(crate) mod play;
 mod reading;
 mod relink;
 

@@ -8,7 +8,7 @@ ghost use Rattle.cluster_calls.specs.Links.Play.{Plays, PlaysOne};
 ghost use Rattle.cluster_client.specs.Shown.{answer_result, call_in, shown};
 ghost use Rattle.cluster_client.specs.Whole.{whole};
 
-use crate::client::ClusterClient;
+use super::ClusterClient;
 use crate::command_call::CommandCall;
 use crate::pipeline::ClusterPipeline;
 use crate::streams::Claimant;

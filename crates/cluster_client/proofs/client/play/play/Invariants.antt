@@ -2,7 +2,7 @@ use Rattle.std.proofs.Common.{map, option_map, drop}
 use Rattle.cluster_client.specs.Shown.{call_in, shown}
 use Rattle.cluster_client.specs.Whole.{whole}
 use Rattle.cluster_calls.proofs.LinkLaws.PlayLoop.{PlayLoop}
-use Rattle.cluster_client.proofs.run.play.Given as goal
+use Rattle.cluster_client.proofs.client.play.play.Given as goal
 
 abbrev pub invariant-calls : goal.invariant-calls
 invariant-calls g l = PlayLoop (option_map (λ s. (goal.ReadRoutingStrategy-dyn g s.now).admits s.now.1) l.strategy)

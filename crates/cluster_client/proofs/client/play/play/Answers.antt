@@ -3,7 +3,7 @@ use Rattle.std.proofs.lemmas.List.{drop_all, map-append}
 use Rattle.std.proofs.lemmas.Result.{err_from_is_err_and}
 use Rattle.cluster_client.specs.Shown.{call_in}
 use Rattle.cluster_calls.proofs.LinkLaws.PlayLoop.{play_start, play_more, play_done}
-use Rattle.cluster_client.proofs.run.play.Goals as goal
+use Rattle.cluster_client.proofs.client.play.play.Goals as goal
 
 -- what is left from an index on
 first_left : {A : Type 0} (xs : List A) (i : ℕ) (x : A) → i < length xs → x ≡ get_or xs i x → drop i xs ≡ x ∷ drop (i + 1) xs
