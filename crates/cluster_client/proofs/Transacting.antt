@@ -3,8 +3,10 @@ use Rattle.std.specs.Prelude.{◌&&◌, ◌||◌, bytes_eq, option_map}
 use Rattle.std.specs.Char.{to_ascii_lowercase}
 use Rattle.std.specs.List.{list_any}
 use Rattle.std.specs.Str.{str_to_ascii_lowercase, str_to_ascii_uppercase}
-use Rattle.std.proofs.Common.{◌≡◌, ◌≢◌, ℕ, suc, ◌-◌, Bool, true, false, if◌then◌else◌, List, [], ◌∷◌, length, Option, Some, None, Result, Ok, Err, refl, sym, ap, ◌∙◌, subst}
+use Rattle.std.proofs.Common.{◌≡◌, ◌≢◌, ℕ, suc, ◌-◌, ◌<◌, Bor, get_or, IfSome, map, Bool, true, false, if◌then◌else◌, List, [], ◌∷◌, length, Option, Some, None, Result, Ok, Err, refl, sym, ap, ◌∙◌, subst}
 use Rattle.std.proofs.lemmas.Str.Ascii.{lowercase-uppercase}
+use Rattle.std.proofs.lemmas.List.{get_or-map}
+use Rattle.std.proofs.Math.ListN.{get_or-map as shown_at}
 use Rattle.resp_core.specs.Trees.{Tree}
 use Rattle.resp_core.specs.Errors.{Refusal, at_position, by_cause}
 use Rattle.resp_core.specs.declared.errors.redis_error.Cause.TheVariants.{Memory, NoLink}
@@ -12,6 +14,8 @@ use Rattle.resp_args.specs.Command.{Command}
 use Rattle.cluster_routing.specs.Address.{Address}
 use Rattle.cluster_routing.specs.Choice.{Strategy}
 use Rattle.cluster_routing.specs.Command.{Args, is_one_of}
+use Rattle.cluster_routing.specs.Directions.{Direction as Directed, direction, shown_direction}
+use Rattle.cluster_routing.specs.declared.direction.Direction.{Direction}
 use Rattle.cluster_routing.specs.Routing.{route_to}
 use Rattle.cluster_routing.specs.SlotMap.{Nodes, nodes_at}
 use Rattle.cluster_routing.specs.declared.route.SlotAddr.TheVariants.{Master}
@@ -38,6 +42,7 @@ use Rattle.cluster_steps.specs.Attempts.{AttemptExchanged, heard}
 use Rattle.cluster_steps.specs.FirstPlaces.{node_with_link}
 use Rattle.cluster_steps.specs.Turns.{hop_to}
 use Rattle.cluster_steps.specs.declared.hop.Hop.{Hop as CodeHop}
+use Rattle.cluster_client.specs.InParts.{AreDirected}
 
 -- ---- names, whatever their case
 
@@ -77,6 +82,14 @@ module _ (all : List Command) (position : ℕ) (known : Option ℕ) (c : Command
 
     pub slots_more : agrees known slot ≡ true → common_slot (suc position) (Some slot) rest ≡ common_slot 0 None all
     slots_more same = sym (ap (λ b. if b then later (Some slot) else Err (at_position position)) same) ∙ chosen
+
+-- the direction at a command's place is its
+pub known_at : (commands : List Command) (all : List Direction) (i : ℕ) (c : Command) (known : Option (Bor Direction)) → AreDirected commands all → i < length commands → c ≡ get_or commands i c
+    → IfSome known (λ d. d.now ≡ get_or all i d.now) → IfSome known (λ d. shown_direction d.now ≡ direction c.args [])
+known_at commands all i c None same lt at item = tt {0}
+known_at commands all i c (Some d) same lt at item =
+    let own : Command → Directed = λ command. direction command.args [] in
+    ap shown_direction item ∙ sym (shown_at shown_direction all i d.now) ∙ ap (λ ds. get_or ds i (shown_direction d.now)) same ∙ get_or-map own commands i c (shown_direction d.now) lt ∙ ap own (sym at)
 
 -- ---- the node
 

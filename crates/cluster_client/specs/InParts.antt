@@ -5,6 +5,7 @@ use Rattle.resp_core.specs.Errors.{Refusal, at_position, by_cause}
 use Rattle.resp_core.specs.declared.errors.redis_error.Cause.TheVariants.{Memory}
 use Rattle.resp_args.specs.Command.{Command}
 use Rattle.cluster_routing.specs.Directions.{direction, shown_direction}
+use Rattle.cluster_routing.specs.declared.direction.Direction.{Direction}
 use Rattle.cluster_routing.specs.Split.{Split, PartsByPlace, split_by_place}
 use Rattle.cluster_calls.specs.Calls.Call.{Entry}
 use Rattle.cluster_calls.specs.Calls.Parts.{Part, Target, pipeline_parts}
@@ -26,6 +27,10 @@ entry_of d = entry d.command.now false
 -- it goes where it is said to go
 abbrev pub IsDirected : Directed → Type 0
 IsDirected d = shown_direction d.direction.now ≡ direction d.command.now.args []
+
+-- each command of a list goes where the direction at its place says
+abbrev pub AreDirected : List Command → List Direction → Type 0
+AreDirected commands directions = map shown_direction directions ≡ map (λ command. direction command.args []) commands
 
 -- the command at a position goes to no slots, and is refused so
 abbrev pub IsUnplaced : ℕ → Command → Refusal → Type 0

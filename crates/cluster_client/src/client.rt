@@ -27,7 +27,7 @@ ghost use Rattle.cluster_calls.specs.Links.Run.{with_log};
 ghost use Rattle.cluster_calls.specs.Links.World.{addresses_of, has_repeats, link_at, new_world, nodes, tree_result, tree_results};
 
 mod at;
-mod directed;
+pub(crate) mod directed;
 mod ordered;
 pub(crate) mod play;
 mod reading;

@@ -29,6 +29,7 @@ ghost use Rattle.cluster_client.specs.NodeRuns.{NodesAsked, all_outcomes, listed
 ghost use Rattle.cluster_client.specs.Whole.{whole};
 ghost use Rattle.cluster_calls.specs.Links.World.{nodes, open_links, tree_result};
 
+use crate::client::directed::direction_by;
 use crate::client::{ClusterClient, begin};
 use crate::pipeline::Directed;
 use cluster_routing::{Direction, NodeAddress, ResponsePolicy, SlotMap, combine_nodes};
@@ -318,10 +319,7 @@ impl<L: ConnectionLike + Drop> ClusterClient<L> {
             (value_answer (tree_result view result)) }
     {
         begin(alloc, &mut self.asked, &mut self.picked);
-        let direction = match known {
-            Some(direction) => direction.clone()?,
-            None => Direction::for_routable(alloc, cmd, &[])?,
-        };
+        let direction = direction_by(alloc, cmd, known)?;
         let NodeDispatches { list, policy } = node_dispatches(
             alloc,
             &self.links,

@@ -17,13 +17,14 @@ ghost use Rattle.cluster_calls.specs.Links.Run.{with_log};
 ghost use Rattle.cluster_calls.specs.Links.World.{nodes, tree_result, tree_results};
 ghost use Rattle.cluster_steps.specs.Attempts.{AttemptExchanged, IsFirstAttempt, IsPlacedAttempt, attempt_plan};
 ghost use Rattle.cluster_steps.specs.Turns.{hop_to};
+ghost use Rattle.cluster_client.specs.InParts.{AreDirected};
 ghost use Rattle.cluster_client.specs.Whole.{whole};
 
 use crate::client::{ClusterClient, begin};
 use crate::pipeline::reply::refresh_needed_by;
 use crate::transaction::slot::common_slot;
 use crate::value::value_in;
-use cluster_routing::{Route, SlotAddr};
+use cluster_routing::{Direction, Route, SlotAddr};
 use cluster_steps::attempt::{Attempt, exchange_attempt, make_attempt_ready};
 use cluster_steps::attempt_turn::attempt_turn;
 use cluster_steps::hop::first_hop;
@@ -49,7 +50,9 @@ impl<L: ConnectionLike + Drop> ClusterClient<L> {
         &mut self,
         alloc: Global,
         commands: &[Cmd],
+        directions: Option<&[Direction]>,
     ) -> Result<Option<Attempt>, RedisError>
+        requires { IfSome directions (λ all. AreDirected commands.now all.now) }
         ensures stays { whole L.seen self.new ≡ with_log (whole L.seen self.old) [] [] }
         ensures planned { result ≢ Err (by_cause Memory)
             → plan (client_of (whole L.seen self.old)) [] (Transaction commands.now)
@@ -60,7 +63,7 @@ impl<L: ConnectionLike + Drop> ClusterClient<L> {
             (λ o. IfSome o (λ a. vec_len self.new.asked + vec_len a.requests ≤ vec_capacity self.new.asked)) }
     {
         begin(alloc, &mut self.asked, &mut self.picked);
-        let Some(slot) = common_slot(alloc, commands)? else {
+        let Some(slot) = common_slot(alloc, commands, directions)? else {
             return Ok(None);
         };
         let target = Target::Slot(Route::new(slot, SlotAddr::Master));
@@ -117,17 +120,19 @@ impl<L: ConnectionLike + Drop> ClusterClient<L> {
         }
     }
 
-    /// The one reply to a transaction.
+    /// The one reply to a transaction of commands whose directions may be known.
     pub(crate) fn reply_to_transaction(
         &mut self,
         alloc: Global,
         commands: &[Cmd],
+        directions: Option<&[Direction]>,
     ) -> Result<Value, RedisError>
+        requires { IfSome directions (λ all. AreDirected commands.now all.now) }
         ensures made { ReplyMade None (whole L.seen self.old) (whole L.seen self.new)
             (Transaction commands.now) (tree_result view result) }
         ensures picks { (whole L.seen self.new).picked ≡ [] }
     {
-        match self.first_attempt(alloc, commands)? {
+        match self.first_attempt(alloc, commands, directions)? {
             Some(attempt) => self.follow_attempts(alloc, commands, attempt),
             None => Ok(no_replies(alloc)),
         }
@@ -184,7 +189,7 @@ impl<L: ConnectionLike + Drop> ClusterClient<L> {
             (Transaction commands.now) }
         ensures picks { (whole L.seen self.new).picked ≡ [] }
     {
-        let reply = self.reply_to_transaction(alloc, commands);
+        let reply = self.reply_to_transaction(alloc, commands, None);
         value_in(alloc, reply)
     }
 }

@@ -322,7 +322,7 @@ impl<L: PipelinedLink + Drop> ClusterClient<L> {
             → CallMade strategy (whole L.seen self.old) (whole L.seen self.new) (Transaction commands.now)
             (answer_result result) }
     {
-        let reply = self.reply_to_transaction(alloc, commands)?;
+        let reply = self.reply_to_transaction(alloc, commands, None)?;
         Ok(Answer::Value(reply))
     }
 }

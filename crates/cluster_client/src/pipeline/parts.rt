@@ -1,12 +1,14 @@
 //! The parts of a pipeline: each command whole, to the primary of its one slot.
-ghost use Rattle.std.specs.Prelude.{ℕ, List, [], ◌≡◌, ◌≢◌, Err, Ok, option_map, IfOk, IfErr};
+ghost use Rattle.std.specs.Prelude.{ℕ, List, [], ◌≡◌, ◌≢◌, Err, Ok, option_map, IfOk, IfErr, IfSome};
 ghost use Rattle.resp_core.specs.Errors.{by_cause};
 ghost use Rattle.resp_core.specs.declared.errors.redis_error.Cause.TheVariants.{Memory};
 ghost use Rattle.resp_args.specs.Packed.{sent};
+ghost use Rattle.cluster_routing.specs.Directions.{direction as direction_of, shown_direction};
 ghost use Rattle.cluster_calls.specs.Calls.Parts.{if_one_slot, parts_of, pipeline_parts, reads_several_slots, whole_part};
 ghost use Rattle.cluster_steps.specs.CodeParts.{targets_in};
 ghost use Rattle.cluster_steps.specs.WholeParts.{parts_found, whole_at, whole_by};
 
+use crate::client::directed::direction_by;
 use crate::pipeline::PipelineCommand;
 use cluster_routing::{Direction, Route, SlotAddr};
 use cluster_steps::pipeline_reads::reads_several_slots;
@@ -33,8 +35,13 @@ pub(crate) fn primary_route(targets: &Targets) -> Option<Route>
 }
 
 /// The route to the primary of the one slot that a command goes to whole; none for one that does not, or reads
-/// streams of several. No argument is copied.
-pub(crate) fn whole_route(alloc: Global, command: &Cmd) -> Result<Option<Route>, RedisError>
+/// streams of several. No argument is copied. Its direction may be known.
+pub(crate) fn whole_route(
+    alloc: Global,
+    command: &Cmd,
+    known: Option<&Direction>,
+) -> Result<Option<Route>, RedisError>
+    requires { IfSome known (λ d. shown_direction d.now ≡ direction_of command.now.args []) }
     ensures route { IfOk result (λ o. option_map (whole_by (sent command.now)) o
         ≡ if_one_slot (reads_several_slots command.now.args)
         (whole_part (sent command.now) (parts_of [] command.now 0))) }
@@ -43,7 +50,7 @@ pub(crate) fn whole_route(alloc: Global, command: &Cmd) -> Result<Option<Route>,
     if reads_several_slots(alloc, command)? {
         return Ok(None);
     }
-    let direction = Direction::for_routable(alloc, command, &[])?;
+    let direction = direction_by(alloc, command, known)?;
     match targets_of(command, direction, 0) {
         Ok(targets) => Ok(primary_route(&targets)),
         Err(_) => Ok(None),
@@ -63,7 +70,7 @@ pub(crate) fn pipeline_parts(
 {
     let mut parts = Vec::new(alloc);
     'commands: for (position, command) in commands.iter().enumerate() {
-        let Some(route) = whole_route(alloc, &command.command)? else {
+        let Some(route) = whole_route(alloc, &command.command, None)? else {
             return Err(RedisError::at_position(position));
         };
         let part = whole_part(&command.command, Target::Slot(route))?;

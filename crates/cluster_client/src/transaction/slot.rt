@@ -1,15 +1,17 @@
 //! The one slot of a transaction's commands.
-ghost use Rattle.std.specs.Prelude.{◌≡◌, ◌≢◌, ◌&&◌, ◌||◌, Err, None, IfOk, IfErr};
+ghost use Rattle.std.specs.Prelude.{◌≡◌, ◌≢◌, ◌&&◌, ◌||◌, [], Err, None, IfOk, IfErr, IfSome};
 ghost use Rattle.std.specs.Str.{str_eq_ignore_ascii_case};
 ghost use Rattle.resp_core.specs.Errors.{by_cause};
 ghost use Rattle.resp_core.specs.declared.errors.redis_error.Cause.TheVariants.{Memory};
 ghost use Rattle.cluster_routing.specs.Command.{is_one_of};
+ghost use Rattle.cluster_routing.specs.Directions.{direction as direction_of, shown_direction};
 ghost use Rattle.cluster_routing.specs.Routing.{name_of};
 ghost use Rattle.cluster_routing.specs.Rows.{names_of};
 ghost use Rattle.cluster_calls.specs.Calls.OneSlot.{agrees, common_slot, is_before, is_outside, names_block, outside_names, own_slot, read_names, whole_slot};
+ghost use Rattle.cluster_client.specs.InParts.{AreDirected};
 
 use crate::pipeline::parts::whole_route;
-use cluster_routing::Routable;
+use cluster_routing::{Direction, Routable};
 use resp_args::Cmd;
 use resp_core::RedisError;
 use std::alloc::{AllocError, Global};
@@ -98,26 +100,36 @@ fn is_outside(alloc: Global, command: &Cmd) -> Result<bool, AllocError>
     }
 }
 
-/// The slot to which a command goes whole.
-fn whole_slot(alloc: Global, command: &Cmd) -> Result<Option<u16>, RedisError>
+/// The slot to which a command goes whole. Its direction may be known.
+fn whole_slot(
+    alloc: Global,
+    command: &Cmd,
+    known: Option<&Direction>,
+) -> Result<Option<u16>, RedisError>
+    requires { IfSome known (λ d. shown_direction d.now ≡ direction_of command.now.args []) }
     ensures slot { IfOk result (λ o. o ≡ whole_slot command.now) }
     ensures only { IfErr result (λ e. e ≡ by_cause Memory) }
 {
-    match whole_route(alloc, command)? {
+    match whole_route(alloc, command, known)? {
         Some(route) => Ok(Some(route.slot())),
         None => Ok(None),
     }
 }
 
-/// The slot of a command that may stand in a transaction.
-fn own_slot(alloc: Global, command: &Cmd) -> Result<Option<u16>, RedisError>
+/// The slot of a command that may stand in a transaction. Its direction may be known.
+fn own_slot(
+    alloc: Global,
+    command: &Cmd,
+    known: Option<&Direction>,
+) -> Result<Option<u16>, RedisError>
+    requires { IfSome known (λ d. shown_direction d.now ≡ direction_of command.now.args []) }
     ensures slot { IfOk result (λ o. o ≡ own_slot command.now) }
     ensures only { IfErr result (λ e. e ≡ by_cause Memory) }
 {
     if is_outside(alloc, command)? {
         return Ok(None);
     }
-    whole_slot(alloc, command)
+    whole_slot(alloc, command, known)
 }
 
 fn agrees(known: Option<u16>, slot: u16) -> bool
@@ -129,17 +141,26 @@ fn agrees(known: Option<u16>, slot: u16) -> bool
     }
 }
 
-/// The one slot of all commands; none where there are no commands.
+/// The one slot of all commands, whose directions may be known; none where there are no commands.
 ///
 /// # Errors
 /// The position of the first command that waits for no response, does not go whole to one slot, goes to
 /// another than the first, or has no place in a transaction; `Memory`.
-pub(crate) fn common_slot(alloc: Global, commands: &[Cmd]) -> Result<Option<u16>, RedisError>
+pub(crate) fn common_slot(
+    alloc: Global,
+    commands: &[Cmd],
+    directions: Option<&[Direction]>,
+) -> Result<Option<u16>, RedisError>
+    requires { IfSome directions (λ all. AreDirected commands.now all.now) }
     ensures { result ≢ Err (by_cause Memory) → result ≡ common_slot 0 None commands.now }
 {
     let mut common = None;
     'commands: for (position, command) in commands.iter().enumerate() {
-        let Some(slot) = own_slot(alloc, command)? else {
+        let known = match directions {
+            Some(all) => all.get(position),
+            None => None,
+        };
+        let Some(slot) = own_slot(alloc, command, known)? else {
             return Err(RedisError::at_position(position));
         };
         if !agrees(common, slot) {

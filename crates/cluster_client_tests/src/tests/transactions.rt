@@ -268,3 +268,41 @@ fn a_transactions_reply_is_read_as_a_type(rt: HostRuntime) -> Result<(), Fail> {
     assert_eq!(rt; client.asked().len(), 4);
     Ok(())
 }
+
+/// What a transaction of two commands is answered where their directions are known.
+fn told_by_directions(
+    alloc: Global,
+    client: &mut Client,
+    one: &str,
+    other: &str,
+) -> Result<String, RedisError> {
+    let one = command_of(alloc, one)?;
+    let other = command_of(alloc, other)?;
+    let mut directions = Vec::new(alloc);
+    directions.push(Direction::for_routable(alloc, &one, &[])?)?;
+    directions.push(Direction::for_routable(alloc, &other, &[])?)?;
+    let mut commands = Vec::new(alloc);
+    commands.push(one)?;
+    commands.push(other)?;
+    told_of(
+        alloc,
+        client.transaction_directed(alloc, &commands, &directions),
+    )
+}
+
+/// Commands whose directions are known make the same transaction, and are refused where their slots differ.
+#[test]
+fn known_directions_are_those_of_a_transaction(rt: HostRuntime) -> Result<(), Fail> {
+    let alloc = rt.alloc();
+    let mut client = client_of(alloc, &ROWS[0])?;
+    assert_eq!(rt;
+        told_by_directions(alloc, &mut client, "SET {x}a 1", "INCR {x}a")?.as_str(),
+        "Array([Okay, Int(2)])"
+    );
+    assert_eq!(rt; client.asked().len(), 4);
+    assert_eq!(rt;
+        told_by_directions(alloc, &mut client, "GET a", "GET b")?.as_str(),
+        "at 1"
+    );
+    Ok(())
+}

@@ -9,14 +9,9 @@ use Rattle.cluster_client.specs.Whole.{whole}
 use Rattle.cluster_client.proofs.SeveralNodes.{fan_made, fan_not_sent, list_apart, made_of}
 use Rattle.cluster_client.proofs.client.ClusterClient.fan_out_by.Goals as goal
 
-pub returns-in_err-direction-in-Some : goal.returns-in_err-direction-in-Some
-returns-in_err-direction-in-Some g c =
+pub returns-in_err-direction : goal.returns-in_err-direction
+returns-in_err-direction g c =
     let p = err_from_is_err_and c.from_residual.result c.from_residual.ensures.1 in
-    rw (p.1, p.2) (λ strategy. not_begun strategy _ _ _ (record { nodes = refl; log = c.begin.ensures.asked; entries = refl; settings = refl; flag = refl }) (ap addresses c.begin.ensures.picked))
-
-pub returns-in_err-direction-in-None : goal.returns-in_err-direction-in-None
-returns-in_err-direction-in-None g c =
-    let p = err_from_is_err_and c.from_residual-in_err-direction-in-None.result c.from_residual-in_err-direction-in-None.ensures.1 in
     rw (p.1, p.2) (λ strategy. not_begun strategy _ _ _ (record { nodes = refl; log = c.begin.ensures.asked; entries = refl; settings = refl; flag = refl }) (ap addresses c.begin.ensures.picked))
 
 pub returns-in_err-list : goal.returns-in_err-list
