@@ -3,8 +3,8 @@ use crate::print::{Style, errors, refusal, reply};
 use crate::words::split;
 use anyhow::Result;
 use cluster_client::{
-    ClusterClient, ClusterPipeline, Cmd, ConnectionLike, MultipleNodeRoutingInfo, RedisError,
-    RoutingInfo, Value, cluster_pipe,
+    ClusterClient, ClusterPipeline, Cmd, ConnectionLike, Directed, Direction, RedisError, Value,
+    cluster_pipe,
 };
 use node_files::{Link, Peer, listed, relink};
 use std::alloc::{AllocError, Global};
@@ -136,27 +136,22 @@ fn command_of(alloc: Global, words: &[Vec<u8>]) -> Result<Cmd, AllocError> {
     Ok(command)
 }
 
-/// Whether a command goes to all nodes or to all primaries.
-fn goes_to_several(alloc: Global, command: &Cmd) -> Result<bool, AllocError> {
-    Ok(matches!(
-        &RoutingInfo::for_routable(alloc, command, &[])?,
-        Some(RoutingInfo::MultiNode((
-            MultipleNodeRoutingInfo::AllNodes | MultipleNodeRoutingInfo::AllMasters,
-            _,
-        ))),
-    ))
-}
-
-/// The answer to one command.
+/// The answer to one command, of all nodes or all primaries where it goes to these.
 fn ask<L: ConnectionLike + Drop>(
     alloc: Global,
     client: &mut ClusterClient<L>,
     command: &Cmd,
 ) -> Result<Value, RedisError> {
-    if goes_to_several(alloc, command)? {
-        client.fan_out(alloc, command)
-    } else {
-        client.query(alloc, command, 0, None)
+    let direction = Direction::for_routable(alloc, command, &[])?;
+    let directed = Directed {
+        command,
+        direction: &direction,
+    };
+    match &direction {
+        Direction::AllNodes(_) | Direction::AllPrimaries(_) => {
+            client.fan_out_directed(alloc, &directed)
+        }
+        _ => client.query_directed(alloc, &directed, 0, None),
     }
 }
 

@@ -4,6 +4,7 @@ ghost use Rattle.cluster_servers.specs.Slots.{slots_of};
 ghost use Rattle.proxy_core.specs.Slots.{overlap};
 
 use crate::block::Block;
+use crate::queued::Queued;
 use crate::way::{Way, argument_count, is_word};
 use cluster_client::Cmd;
 use cluster_servers::GuestCommand;
@@ -17,9 +18,9 @@ pub(crate) enum How {
     /// With what waits of other guests.
     Together,
     /// By itself, behind all that its guest asked before.
-    Alone(Way, Cmd),
+    Alone(Way),
     /// As a transaction, behind all that its guest asked before.
-    Exec(Vec<Cmd>),
+    Exec(Queued),
     /// Again and again until there is something to take, behind all that its guest asked before. The guest
     /// has this id.
     Wait(Block, i64),
@@ -58,19 +59,17 @@ impl Ask {
         command: Cmd,
         protocol: Protocol,
     ) -> Result<Ask, AllocError> {
-        Ask::together(alloc, command, protocol)?.into_alone(way)
+        Ok(Ask::together(alloc, command, protocol)?.into_alone(way))
     }
 
     /// The same, asked by itself.
-    pub(crate) fn into_alone(self, way: Way) -> Result<Ask, AllocError> {
-        let how = How::Alone(way, self.command.command().clone()?);
-        let bytes = self.command.bytes().saturating_mul(2);
-        Ok(Ask {
+    pub(crate) fn into_alone(self, way: Way) -> Ask {
+        Ask {
             command: self.command,
-            how,
+            how: How::Alone(way),
             protocol: self.protocol,
-            bytes,
-        })
+            bytes: self.bytes,
+        }
     }
 
     /// A command that waits, of the guest of an id.
@@ -91,13 +90,14 @@ impl Ask {
         })
     }
 
-    /// The same, as the EXEC of these commands, which take so many bytes.
-    pub(crate) fn with_queued(self, queued: Vec<Cmd>, bytes: usize) -> Ask {
+    /// The same, as the EXEC of these commands.
+    pub(crate) fn with_queued(self, queued: Queued) -> Ask {
+        let bytes = self.bytes.saturating_add(queued.bytes);
         Ask {
             command: self.command,
             how: How::Exec(queued),
             protocol: self.protocol,
-            bytes: self.bytes.saturating_add(bytes),
+            bytes,
         }
     }
 
@@ -106,7 +106,7 @@ impl Ask {
         match self.how {
             How::Together => tells_no_list(self.command.command()),
             How::Wait(..) => true,
-            How::Alone(..) | How::Exec(_) => false,
+            How::Alone(_) | How::Exec(_) => false,
         }
     }
 }

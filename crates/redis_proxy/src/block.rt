@@ -242,17 +242,6 @@ pub(crate) fn waits(command: &Cmd) -> bool {
     }
 }
 
-/// A command as it is in a transaction, where nothing waits, and how many lists in its reply give way to their
-/// items.
-pub(crate) fn without_waiting(alloc: Global, command: &Cmd) -> Result<(Cmd, u8), AllocError> {
-    if waits(command)
-        && let Ok(block) = Block::new(alloc, command)?
-    {
-        return Ok((block.attempt, block.depth));
-    }
-    Ok((command.clone()?, 0))
-}
-
 impl Block {
     pub(crate) fn clone(&self) -> Result<Block, AllocError> {
         Ok(Block {

@@ -138,7 +138,9 @@ impl<L: PipelinedLink + Drop> Cluster<L> {
                 continue;
             }
             let outcome = match &asked.command.how {
-                How::Alone(Way::Unblock, command) => unblock(alloc, &mut self.waits, command),
+                How::Alone(Way::Unblock) => {
+                    unblock(alloc, &mut self.waits, asked.command.command.command())
+                }
                 _ => {
                     let around = Around {
                         waiting: self.waits.count(),

@@ -1,6 +1,5 @@
 //! Commands that are asked by themselves.
 use crate::ask::{Ask, How};
-use crate::block::{flat_by, waits, without_waiting};
 use crate::info::{is_saving, with_waiting};
 use crate::own::refuse;
 use crate::scan::{primaries, scan};
@@ -111,40 +110,6 @@ fn ask_in_turn<L: ConnectionLike + Drop>(
     Ok(Value::Nil)
 }
 
-/// Whether a command waits outside a transaction.
-fn any_waits(queued: &[Cmd]) -> bool {
-    for command in queued {
-        if waits(command) {
-            return true;
-        }
-    }
-    false
-}
-
-/// Asks a transaction in which nothing waits, as in each.
-fn ask_without_waiting<L: ConnectionLike + Drop>(
-    alloc: Global,
-    client: &mut ClusterClient<L>,
-    queued: &[Cmd],
-) -> Result<Value, RedisError> {
-    let mut commands = Vec::with_capacity(alloc, queued.len())?;
-    let mut depths = Vec::with_capacity(alloc, queued.len())?;
-    for command in queued {
-        let (command, depth) = without_waiting(alloc, command)?;
-        commands.push(command)?;
-        depths.push(depth)?;
-    }
-    let told: Value = client.transaction(alloc, &commands)?;
-    let Value::Array(items) = told else {
-        return Ok(told);
-    };
-    let mut flat = Vec::with_capacity(alloc, items.len())?;
-    for (item, depth) in items.into_iter().zip(depths) {
-        flat.push(flat_by(alloc, depth, item)?)?;
-    }
-    Ok(Value::Array(flat))
-}
-
 /// Asks the primary of a key.
 fn ask_of_key<L: ConnectionLike + Drop>(
     alloc: Global,
@@ -165,24 +130,22 @@ fn answer<L: ConnectionLike + Drop>(
     ask: &Ask,
     around: Around,
 ) -> Result<Reply> {
+    let command = ask.command.command();
     let told: Result<Value, RedisError> = match &ask.how {
-        How::Exec(queued) if !any_waits(queued) => client.transaction(alloc, queued),
-        How::Exec(queued) => ask_without_waiting(alloc, client, queued),
-        How::Alone(Way::Several, _) => client.fan_out_directed(alloc, &ask.command.directed()),
-        How::Alone(Way::InTurn, command) => ask_in_turn(alloc, client, around.number, command),
-        How::Alone(Way::Primaries, command) => ask_primaries(alloc, client, command),
-        How::Alone(Way::FirstNode, command) if is_word(command, 0, b"INFO") => {
+        How::Exec(queued) => queued.ask(alloc, client),
+        How::Alone(Way::Several) => client.fan_out_directed(alloc, &ask.command.directed()),
+        How::Alone(Way::InTurn) => ask_in_turn(alloc, client, around.number, command),
+        How::Alone(Way::Primaries) => ask_primaries(alloc, client, command),
+        How::Alone(Way::FirstNode) if is_word(command, 0, b"INFO") => {
             match ask_info(alloc, client, command) {
                 Ok(told) => Ok(with_waiting(alloc, told, around.waiting)?),
                 Err(error) => Err(error),
             }
         }
-        How::Alone(Way::FirstNode, command) => ask_first(alloc, client, command),
-        How::Alone(Way::ThirdWord, command) => {
-            ask_of_key(alloc, client, argument(command, 2), command)
-        }
-        How::Alone(Way::Scan, command) => return scan(alloc, client, command, ask.protocol),
-        How::Alone(_, command) => return Ok(refuse(alloc, command)?),
+        How::Alone(Way::FirstNode) => ask_first(alloc, client, command),
+        How::Alone(Way::ThirdWord) => ask_of_key(alloc, client, argument(command, 2), command),
+        How::Alone(Way::Scan) => return scan(alloc, client, command, ask.protocol),
+        How::Alone(_) => return Ok(refuse(alloc, command)?),
         How::Together | How::Wait(..) => Err(RedisError::from(Cause::NoRoute)),
     };
     Ok(Reply::new(alloc, told, ask.protocol))

@@ -1,5 +1,6 @@
 //! What a guest's words mean.
-ghost use Rattle.std.specs.Prelude.{◌≡◌, OnErr};
+ghost use Rattle.std.specs.Prelude.{◌≡◌, [], OnErr};
+ghost use Rattle.cluster_routing.specs.Directions.{direction as direction_of, shown_direction};
 
 use crate::ask::Ask;
 use crate::block::Block;
@@ -29,6 +30,9 @@ pub(crate) struct Talk {
     pub(crate) has_ended: bool,
 }
 
+/// What a guest reads where a command has no place behind MULTI.
+const NOT_IN_TRANSACTION: &[u8] = b"-ERR proxy: this command is not served behind MULTI";
+
 impl Talk {
     pub(crate) fn new(alloc: Global, id: i64, has_clock: bool) -> Talk {
         Talk {
@@ -57,7 +61,7 @@ impl Talk {
                     return Ok(Entry::Waits(ask));
                 }
                 let way = way_by_table(ask.command.direction());
-                Ok(Entry::Waits(ask.into_alone(way)?))
+                Ok(Entry::Waits(ask.into_alone(way)))
             }
             Way::Refused => Ok(Entry::Reads(refuse(alloc, &command)?)),
             Way::Own(own) => Ok(Entry::Reads(own::answer(alloc, self, own, &command)?)),
@@ -101,24 +105,39 @@ impl Talk {
                 b"-ERR MULTI calls can not be nested",
             )?)),
             Way::Own(Own::Reset | Own::Quit) => self.plain(alloc, way, command),
-            Way::ByTable if is_keyed(alloc, &command)? => self.queue(alloc, command),
+            Way::ByTable => {
+                let direction = Direction::for_routable(alloc, &command, &[])?;
+                match way_by_table(&direction) {
+                    Way::Keyed => self.queue(alloc, command, direction, 0),
+                    _ => self.abort(alloc, NOT_IN_TRANSACTION),
+                }
+            }
             Way::Wait => match Block::new(alloc, &command)? {
-                Ok(_) => self.queue(alloc, command),
+                Ok(Block { attempt, depth, .. }) => {
+                    let direction = Direction::for_routable(alloc, &attempt, &[])?;
+                    self.queue(alloc, attempt, direction, depth)
+                }
                 Err(fault) => self.abort(alloc, &fault.line(alloc, &command)?),
             },
-            _ => self.abort(
-                alloc,
-                b"-ERR proxy: this command is not served behind MULTI",
-            ),
+            _ => self.abort(alloc, NOT_IN_TRANSACTION),
         }
     }
 
-    fn queue(&mut self, alloc: Global, command: Cmd) -> Result<Entry<Ask, Reply>, AllocError>
+    /// Puts a command with its direction to those since MULTI; so many lists in its reply give way to their
+    /// items.
+    fn queue(
+        &mut self,
+        alloc: Global,
+        command: Cmd,
+        direction: Direction,
+        depth: u8,
+    ) -> Result<Entry<Ask, Reply>, AllocError>
+        requires { shown_direction direction ≡ direction_of command.args [] }
         ensures err { OnErr result (self.new ≡ self.old) }
     {
         let reply = line(alloc, b"+QUEUED")?;
         if let Some(queued) = &mut self.queued {
-            queued.add(alloc, command)?;
+            queued.add(alloc, command, direction, depth)?;
         }
         Ok(Entry::Reads(reply))
     }
@@ -138,7 +157,7 @@ impl Talk {
         ensures err { OnErr result (self.new ≡ self.old) }
     {
         let (is_aborted, is_empty) = match &self.queued {
-            Some(queued) => (queued.is_aborted, queued.commands.is_empty()),
+            Some(queued) => (queued.is_aborted, queued.is_empty()),
             None => (false, true),
         };
         if is_aborted || is_empty {
@@ -148,16 +167,10 @@ impl Talk {
         }
         let ask = Ask::together(alloc, exec, self.protocol)?;
         match mem::replace(&mut self.queued, None) {
-            Some(queued) => Ok(Entry::Waits(ask.with_queued(queued.commands, queued.bytes))),
+            Some(queued) => Ok(Entry::Waits(ask.with_queued(queued))),
             None => Ok(Entry::Waits(ask)),
         }
     }
-}
-
-/// Whether a command that is named nowhere here goes by its keys.
-fn is_keyed(alloc: Global, command: &Cmd) -> Result<bool, AllocError> {
-    let direction = Direction::for_routable(alloc, command, &[])?;
-    Ok(matches!(way_by_table(&direction), Way::Keyed))
 }
 
 /// What EXEC answers where no command is asked.

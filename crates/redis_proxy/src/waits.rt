@@ -5,10 +5,11 @@ use crate::held::ask_first;
 use crate::last_ids::with_last_ids;
 use crate::own::line;
 use cluster_client::{Cause, ClusterClient, Cmd, ConnectionLike, RedisError, Value};
-use cluster_servers::Reply;
+use cluster_servers::{GuestCommand, Reply};
 use proxy_core::{Fate, Outcome};
 use resp_core::{Protocol, WriteError};
 use std::alloc::{AllocError, Global};
+use std::mem;
 
 /// How CLIENT UNBLOCK ends a wait.
 #[derive(Clone, Copy, Debug, PartialEq, Eq)]
@@ -27,9 +28,10 @@ pub(crate) struct Wait {
     id: i64,
     protocol: Protocol,
     block: Block,
+    /// What is asked at each try, with where it goes, once it has begun.
+    attempt: Option<GuestCommand>,
     /// When it ends with nothing, once the clock has told when it began.
     end: Option<u64>,
-    has_begun: bool,
     /// Whether it is tried in this turn.
     is_due: bool,
     release: Option<Release>,
@@ -102,22 +104,39 @@ fn meaning_of(error: &RedisError, block: &Block) -> Meaning {
 fn ask_once<L: ConnectionLike + Drop>(
     alloc: Global,
     client: &mut ClusterClient<L>,
-    command: &Cmd,
+    attempt: &GuestCommand,
 ) -> Result<Value, RedisError> {
-    let told: Result<Value, RedisError> = client.query(alloc, command, 0, None);
+    let told: Result<Value, RedisError> = client.query_directed(
+        alloc,
+        &attempt.directed(),
+        0,
+        None,
+    );
     match &told {
         Err(error) if error.cause() == Some(Cause::NoRoute) => {}
         _ => return told,
     }
-    ask_first(alloc, client, command)
+    ask_first(alloc, client, attempt.command())
 }
 
 impl Wait {
+    /// Makes what is asked at each try, and looks up where it goes.
+    fn begin<L: ConnectionLike + Drop>(
+        &mut self,
+        alloc: Global,
+        client: &mut ClusterClient<L>,
+    ) -> Result<(), RedisError> {
+        with_last_ids(alloc, client, &mut self.block.attempt)?;
+        let command = mem::replace(&mut self.block.attempt, Cmd::new(alloc));
+        self.attempt = Some(GuestCommand::new(alloc, command, self.protocol)?);
+        Ok(())
+    }
+
     /// Asks once.
     fn ask<L: ConnectionLike + Drop>(&mut self, alloc: Global, client: &mut ClusterClient<L>) {
-        let has_begun = self.has_begun;
+        let has_begun = self.attempt.is_some();
         if !has_begun {
-            match with_last_ids(alloc, client, &mut self.block.attempt) {
+            match self.begin(alloc, client) {
                 Ok(()) => {}
                 Err(error) => {
                     self.outcome = answered(Reply::new(alloc, Err(error), self.protocol));
@@ -125,8 +144,10 @@ impl Wait {
                 }
             }
         }
-        let told = ask_once(alloc, client, &self.block.attempt);
-        self.has_begun = true;
+        let Some(attempt) = &self.attempt else {
+            return;
+        };
+        let told = ask_once(alloc, client, attempt);
         self.outcome = match told {
             Ok(reply) => self.outcome_of(alloc, reply),
             Err(error) => self.outcome_by(alloc, error, has_begun),
@@ -257,8 +278,8 @@ impl Waits {
             id,
             protocol,
             block: block.clone()?,
+            attempt: None,
             end: None,
-            has_begun: false,
             is_due: true,
             release: None,
             outcome: None,
