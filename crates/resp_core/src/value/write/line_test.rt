@@ -7,7 +7,7 @@ use crate::parser::double::is_double;
 use crate::parser::line::{LineEnd, line_end};
 use std::str::from_utf8;
 
-// No CR LF stands in the bytes.
+/// No CR LF stands in the bytes.
 #[tactic(auto, unfolding(crate::specs::Reading::line_at))]
 pub(super) fn is_one_line(bytes: &[u8]) -> bool
     ensures { result ≡ one_line bytes.now }
@@ -33,14 +33,14 @@ pub(super) fn is_text_line(bytes: &[u8]) -> bool
     }
 }
 
-// A byte that ends no line.
+/// A byte that ends no line.
 pub(super) fn is_inner(byte: u8) -> bool
     ensures { result ≡ is_inner byte }
 {
     byte != b'\r' && byte != b'\n'
 }
 
-// Neither a CR nor an LF stands in the bytes.
+/// Neither a CR nor an LF stands in the bytes.
 pub(super) fn is_within_a_line(bytes: &[u8]) -> bool
     ensures { result ≡ list_all is_inner bytes.now }
 {
