@@ -1,6 +1,6 @@
 //! The commands of a transaction that is not asked yet.
 ghost use Rattle.std.proofs.Props.{props};
-ghost use Rattle.std.specs.Prelude.{◌≡◌, ◌<◌, [], vec_capacity, vec_len, OnErr, OnOk};
+ghost use Rattle.std.specs.Prelude.{◌≡◌, ◌<◌, ◌∷◌, ◌++◌, [], vec_capacity, vec_len, OnErr, OnOk};
 ghost use Rattle.cluster_routing.specs.Directions.{direction as direction_of, shown_direction};
 ghost use Rattle.cluster_client.specs.InParts.{AreDirected};
 
@@ -42,6 +42,8 @@ impl Queued {
     /// Makes room for one more. Where memory is refused nothing changes.
     fn make_room(&mut self, alloc: Global) -> Result<(), AllocError>
         ensures err { OnErr result (self.new ≡ self.old) }
+        ensures commands_kept { self.new.commands.items ≡ self.old.commands.items }
+        ensures depths_kept { self.new.depths.items ≡ self.old.depths.items }
         ensures commands { OnOk result (vec_len self.new.commands < vec_capacity self.new.commands) }
         ensures directions { OnOk result (vec_len self.new.directions < vec_capacity self.new.directions) }
         ensures depths { OnOk result (vec_len self.new.depths < vec_capacity self.new.depths) }
@@ -75,6 +77,8 @@ impl Queued {
         depth: u8,
     ) -> Result<(), AllocError>
         requires { shown_direction direction ≡ direction_of command.args [] }
+        ensures command { OnOk result (self.new.commands.items ≡ self.old.commands.items ++ command ∷ []) }
+        ensures depth { OnOk result (self.new.depths.items ≡ self.old.depths.items ++ depth ∷ []) }
         ensures err { OnErr result (self.new ≡ self.old) }
     {
         let bytes = command.get_packed_command()?.len();
