@@ -6,7 +6,7 @@ use Rattle.std.specs.Str.{str_to_ascii_lowercase, str_to_ascii_uppercase}
 use Rattle.std.proofs.Common.{◌≡◌, ◌≢◌, ℕ, suc, ◌-◌, ◌<◌, Bor, get_or, IfSome, map, Bool, true, false, if◌then◌else◌, List, [], ◌∷◌, length, Option, Some, None, Result, Ok, Err, refl, sym, ap, ◌∙◌, subst}
 use Rattle.std.proofs.lemmas.Str.Ascii.{lowercase-uppercase}
 use Rattle.std.proofs.lemmas.List.{get_or-map}
-use Rattle.std.proofs.Math.ListN.{get_or-map as shown_at}
+use Rattle.std.proofs.Math.ListN.{get_or-map as same_at}
 use Rattle.resp_core.specs.Trees.{Tree}
 use Rattle.resp_core.specs.Errors.{Refusal, at_position, by_cause}
 use Rattle.resp_core.specs.declared.errors.redis_error.Cause.TheVariants.{Memory, NoLink}
@@ -14,7 +14,7 @@ use Rattle.resp_args.specs.Command.{Command}
 use Rattle.cluster_routing.specs.Address.{Address}
 use Rattle.cluster_routing.specs.Choice.{Strategy}
 use Rattle.cluster_routing.specs.Command.{Args, is_one_of}
-use Rattle.cluster_routing.specs.Directions.{Direction as Directed, direction, shown_direction}
+use Rattle.cluster_routing.specs.Directions.{Direction as ShownDirection, direction, shown_direction}
 use Rattle.cluster_routing.specs.declared.direction.Direction.{Direction}
 use Rattle.cluster_routing.specs.Routing.{route_to}
 use Rattle.cluster_routing.specs.SlotMap.{Nodes, nodes_at}
@@ -88,8 +88,8 @@ pub known_at : (commands : List Command) (all : List Direction) (i : ℕ) (c : C
     → IfSome known (λ d. d.now ≡ get_or all i d.now) → IfSome known (λ d. shown_direction d.now ≡ direction c.args [])
 known_at commands all i c None same lt at item = tt {0}
 known_at commands all i c (Some d) same lt at item =
-    let own : Command → Directed = λ command. direction command.args [] in
-    ap shown_direction item ∙ sym (shown_at shown_direction all i d.now) ∙ ap (λ ds. get_or ds i (shown_direction d.now)) same ∙ get_or-map own commands i c (shown_direction d.now) lt ∙ ap own (sym at)
+    let own : Command → ShownDirection = λ command. direction command.args [] in
+    ap shown_direction item ∙ sym (same_at shown_direction all i d.now) ∙ ap (λ ds. get_or ds i (shown_direction d.now)) same ∙ get_or-map own commands i c (shown_direction d.now) lt ∙ ap own (sym at)
 
 -- ---- the node
 
