@@ -19,7 +19,7 @@ use Rattle.cluster_client.specs.declared.client.play.Answer.{Answer as CodeAnswe
 use Rattle.cluster_client.specs.declared.client.play.Answer.TheVariants as answers
 use Rattle.cluster_client.specs.declared.client.play.Played.{Played as CodePlayed}
 use Rattle.cluster_client.specs.declared.streams.Claimant.{Claimant as CodeClaimant}
-use Rattle.cluster_client.specs.Streams.{claimant_by, fields_by}
+use Rattle.cluster_client.specs.Streams.{fields_by}
 
 abbrev pub pairs : List (Vec ℕ Global × Vec ℕ Global) → List (List ℕ × List ℕ)
 pairs ps = fields_by (λ v. v.items) (λ v. v.items) ps
@@ -28,7 +28,8 @@ abbrev pub streams_in : List (Vec ℕ Global × Vec ℕ Global) → List Stream
 streams_in ps = map (λ p. record { key = p.0.items; id = p.1.items }) ps
 
 abbrev pub claimant_in : CodeClaimant (Vec ℕ Global) (Vec ℕ Global) (Vec ℕ Global) → Claimant
-claimant_in c = claimant_by (λ v. v.items) (λ v. v.items) (λ v. v.items) c
+claimant_in c = record
+    { key = c.key.items; group = c.group.items; consumer = c.consumer.items; min_idle = c.min_idle }
 
 -- the code's call
 abbrev pub call_in : CodeCall → Call

@@ -3,19 +3,12 @@ use Rattle.std.specs.Prelude.{◌≡◌, ℕ, List, map, None, Result, IfOk}
 use Rattle.std.specs.declared.alloc.AllocError.{AllocError}
 use Rattle.resp_args.specs.Command.{Command}
 use Rattle.stream_commands.specs.Commands.{plain_command}
-use Rattle.cluster_calls.specs.Calls.Call as call
 use Rattle.cluster_calls.specs.Calls.Call.{StreamCall}
 use Rattle.cluster_calls.specs.Calls.Task.{sentence, sentence_task, stream_refusal, stream_task}
-use Rattle.cluster_client.specs.declared.streams.Claimant.{Claimant}
 
 -- the fields of an entry, of a list of names and values
 abbrev pub fields_by : {F V : Type 0} → (F → List ℕ) → (V → List ℕ) → List (F × V) → List (List ℕ × List ℕ)
 fields_by name value fields = map (λ f. (name f.0, value f.1)) fields
-
--- who claims, with its key and its names as bytes
-abbrev pub claimant_by : {K G C : Type 0} → (K → List ℕ) → (G → List ℕ) → (C → List ℕ) → Claimant K G C → call.Claimant
-claimant_by key group consumer c = record
-    { key = key c.key; group = group c.group; consumer = consumer c.consumer; min_idle = c.min_idle }
 
 -- The call is refused by no check, and goes out whole as its one command, which is this one unless memory was refused.
 pub record GoesOutAs (call : StreamCall) (cmd : Result Command AllocError) : Type 0 where

@@ -18,7 +18,7 @@ ghost use Rattle.cluster_calls.specs.Calls.Answer.{Answer, Added, Trimmed, Read,
 ghost use Rattle.cluster_calls.specs.Calls.Call.{StreamCall, Xadd, Xtrim, Xread, Xrange, Xclaim, Xautoclaim, Xpending, XinfoStream, XinfoGroups, XinfoConsumers, XdelEx};
 ghost use Rattle.cluster_calls.specs.Links.Run.{with_log};
 ghost use Rattle.cluster_calls.specs.Links.Typed.{IsReadBy, StreamCallMade, deletion_of, streams_by};
-ghost use Rattle.cluster_client.specs.Streams.{GoesOutAs, claimant_by, fields_by};
+ghost use Rattle.cluster_client.specs.Streams.{GoesOutAs, fields_by};
 ghost use Rattle.cluster_client.specs.Whole.{whole};
 
 use crate::client::{ClusterClient, begin};
@@ -36,8 +36,8 @@ use stream_commands::{
     StreamReadReply, StreamTrimOptions, XDelExStatusCode, commands,
 };
 
-/// Who claims pending entries: a consumer of a group, of the stream `key`, those that were idle for
-/// `min_idle` milliseconds.
+/// Who claims pending entries in a list of calls: a consumer of a group, of the stream `key`, those that
+/// were idle for `min_idle` milliseconds.
 #[derive(Drop)]
 pub struct Claimant<K, G, C> {
     pub key: K,
@@ -147,70 +147,63 @@ impl<L: ConnectionLike + Drop> ClusterClient<L> {
         self.reply_as(alloc, cmd, strategy)
     }
 
-    /// Takes over pending entries for this consumer, by `XCLAIM`.
+    /// Takes over pending entries that were idle for `min_idle` milliseconds, by `XCLAIM`.
     ///
     /// # Errors
     /// Before all others `ClaimsIdsAlone` where the options ask for the ids alone, of which the reply is
     /// no list of entries.
     pub fn xclaim<
-        K: ToSingleRedisArg,
-        G: ToSingleRedisArg,
-        C: ToSingleRedisArg,
+        K: ToSingleRedisArg + Drop,
+        G: ToSingleRedisArg + Drop,
+        C: ToSingleRedisArg + Drop,
         I: ToSingleRedisArg,
     >(
         &mut self,
         alloc: Global,
-        claimant: &Claimant<K, G, C>,
+        key: K,
+        group: G,
+        consumer: C,
+        min_idle: usize,
         ids: &[I],
         options: &StreamClaimOptions,
         strategy: Option<&dyn ReadRoutingStrategy>,
     ) -> Result<StreamClaimReply, RedisError>
         ensures { StreamCallMade (strategy_of admits strategy.entry) (whole L.seen self.old)
-            (whole L.seen self.new) (Xclaim (claimant_by K.arg G.arg C.arg claimant.now)
+            (whole L.seen self.new) (Xclaim (record
+            { key = K.arg key; group = G.arg group; consumer = C.arg consumer; min_idle = min_idle })
             (map I.arg ids.now) options.now) (λ reply. Claim (entries_view reply.ids.items)) result }
     {
         if options.justid() {
             return Err(self.refuse(alloc, RedisError::from(Cause::ClaimsIdsAlone)));
         }
-        let cmd = commands::xclaim(
-            alloc,
-            &claimant.key,
-            &claimant.group,
-            &claimant.consumer,
-            claimant.min_idle,
-            ids,
-            options,
-        );
+        let cmd = commands::xclaim(alloc, &key, &group, &consumer, min_idle, ids, options);
         self.reply_as(alloc, cmd, strategy)
     }
 
-    /// Takes over pending entries from an id on for this consumer, by `XAUTOCLAIM`.
+    /// Takes over pending entries from an id on that were idle for `min_idle` milliseconds, by
+    /// `XAUTOCLAIM`.
     pub fn xautoclaim<
-        K: ToSingleRedisArg,
-        G: ToSingleRedisArg,
-        C: ToSingleRedisArg,
+        K: ToSingleRedisArg + Drop,
+        G: ToSingleRedisArg + Drop,
+        C: ToSingleRedisArg + Drop,
         S: ToSingleRedisArg + Drop,
     >(
         &mut self,
         alloc: Global,
-        claimant: &Claimant<K, G, C>,
+        key: K,
+        group: G,
+        consumer: C,
+        min_idle: usize,
         start: S,
         options: &StreamAutoClaimOptions,
         strategy: Option<&dyn ReadRoutingStrategy>,
     ) -> Result<StreamAutoClaimReply, RedisError>
         ensures { StreamCallMade (strategy_of admits strategy.entry) (whole L.seen self.old)
-            (whole L.seen self.new) (Xautoclaim (claimant_by K.arg G.arg C.arg claimant.now)
+            (whole L.seen self.new) (Xautoclaim (record
+            { key = K.arg key; group = G.arg group; consumer = C.arg consumer; min_idle = min_idle })
             (S.arg start) options.now) (λ reply. AutoClaim (autoclaim_view reply)) result }
     {
-        let cmd = commands::xautoclaim(
-            alloc,
-            &claimant.key,
-            &claimant.group,
-            &claimant.consumer,
-            claimant.min_idle,
-            &start,
-            options,
-        );
+        let cmd = commands::xautoclaim(alloc, &key, &group, &consumer, min_idle, &start, options);
         self.reply_as(alloc, cmd, strategy)
     }
 

@@ -5,7 +5,7 @@
 
 use anyhow::{Context, Result};
 use cluster_client::{
-    ByteLink, Claimant, ClusterClient, FromRead, MemoryWriter, NodeAddress, StreamAddOptions,
+    ByteLink, ClusterClient, FromRead, MemoryWriter, NodeAddress, StreamAddOptions,
     StreamAutoClaimOptions, StreamId, StreamReadOptions, StreamReadReply, command,
 };
 use std::alloc::Global;
@@ -97,14 +97,8 @@ impl Queue {
     /// Hands a worker the jobs that were taken a second ago or earlier, and not finished.
     fn take_over(&mut self, worker: &str) -> Result<Vec<StreamId>> {
         let (client, alloc) = (&mut self.client, self.alloc);
-        let claimant = Claimant {
-            key: STREAM,
-            group: GROUP,
-            consumer: worker,
-            min_idle: 1000,
-        };
         let options = StreamAutoClaimOptions::default();
-        let reply = client.xautoclaim(alloc, &claimant, "0-0", &options, None)?;
+        let reply = client.xautoclaim(alloc, STREAM, GROUP, worker, 1000, "0-0", &options, None)?;
         Ok(reply.claimed)
     }
 

@@ -6,8 +6,8 @@ use crate::inputs::{Pool, push_head};
 use crate::random::Numbers;
 use anyhow::Result;
 use cluster_client::{
-    Claimant, ClusterClient, StreamAddOptions, StreamAutoClaimOptions, StreamClaimOptions,
-    StreamReadOptions, StreamTrimOptions, StreamTrimmingMode, command,
+    ClusterClient, StreamAddOptions, StreamAutoClaimOptions, StreamClaimOptions, StreamReadOptions,
+    StreamTrimOptions, StreamTrimmingMode, command,
 };
 use std::alloc::Global;
 
@@ -173,16 +173,6 @@ fn read(
     Ok(())
 }
 
-/// Who takes over what others left for a minute.
-fn idle_for_a_minute<'a>(stream: &'a str, worker: &'a str) -> Claimant<&'a str, &'a str, &'a str> {
-    Claimant {
-        key: stream,
-        group: GROUP,
-        consumer: worker,
-        min_idle: 60_000,
-    }
-}
-
 /// Marks jobs as finished, and looks at the others: all, those of a worker, and those that were left.
 fn finish(
     queue: &Queue,
@@ -204,18 +194,11 @@ fn finish(
     digest_of(alloc, &all.ids, digest)?;
     let claimed = {
         let options = StreamClaimOptions::empty();
-        client.xclaim(
-            alloc,
-            &idle_for_a_minute(stream, "bert"),
-            ids,
-            &options,
-            None,
-        )?
+        client.xclaim(alloc, stream, GROUP, "bert", 60_000, ids, &options, None)?
     };
     digest_of(alloc, &claimed.ids, digest)?;
     let options = StreamAutoClaimOptions::default().count(counts.taken_over);
-    let carl = idle_for_a_minute(stream, "carl");
-    let left = client.xautoclaim(alloc, &carl, "0-0", &options, None)?;
+    let left = client.xautoclaim(alloc, stream, GROUP, "carl", 60_000, "0-0", &options, None)?;
     digest.bytes(left.next_stream_id.as_bytes());
     digest_of(alloc, &left.claimed, digest)?;
     let trim = StreamTrimOptions::maxlen(StreamTrimmingMode::Approx, 10_000);

@@ -211,12 +211,30 @@ impl<L: PipelinedLink + Drop> ClusterClient<L> {
                 claimant,
                 ids,
                 options,
-            } => Ok(Answer::Claim(self.xclaim(alloc, claimant, ids, options, strategy)?)),
+            } => Ok(Answer::Claim(self.xclaim(
+                alloc,
+                &claimant.key,
+                &claimant.group,
+                &claimant.consumer,
+                claimant.min_idle,
+                ids,
+                options,
+                strategy,
+            )?)),
             Call::Xautoclaim {
                 claimant,
                 start,
                 options,
-            } => Ok(Answer::AutoClaim(self.xautoclaim(alloc, claimant, start, options, strategy)?)),
+            } => Ok(Answer::AutoClaim(self.xautoclaim(
+                alloc,
+                &claimant.key,
+                &claimant.group,
+                &claimant.consumer,
+                claimant.min_idle,
+                start,
+                options,
+                strategy,
+            )?)),
             Call::Xpending { key, group } => {
                 Ok(Answer::Pending(self.xpending(alloc, key, group, strategy)?))
             }

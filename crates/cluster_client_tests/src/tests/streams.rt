@@ -38,13 +38,6 @@ const SENT: [&str; 11] = [
     "XDELEX a KEEPREF IDS 2 1-0 2-0",
 ];
 
-const CLAIMANT: Claimant<&str, &str, &str> = Claimant {
-    key: "a",
-    group: "g",
-    consumer: "c",
-    min_idle: 60000,
-};
-
 fn xtrim(alloc: Global, client: &mut Client) -> Result<String, RedisError> {
     let options = StreamTrimOptions::maxlen(StreamTrimmingMode::Exact, 2);
     shown(alloc, client.xtrim(alloc, "a", &options, None))
@@ -52,13 +45,13 @@ fn xtrim(alloc: Global, client: &mut Client) -> Result<String, RedisError> {
 
 fn xclaim(alloc: Global, client: &mut Client) -> Result<String, RedisError> {
     let options = StreamClaimOptions::empty();
-    let outcome = client.xclaim(alloc, &CLAIMANT, &["1-0"], &options, None);
+    let outcome = client.xclaim(alloc, "a", "g", "c", 60000, &["1-0"], &options, None);
     shown(alloc, outcome)
 }
 
 fn xautoclaim(alloc: Global, client: &mut Client) -> Result<String, RedisError> {
     let options = StreamAutoClaimOptions::default();
-    let outcome = client.xautoclaim(alloc, &CLAIMANT, "0-0", &options, None);
+    let outcome = client.xautoclaim(alloc, "a", "g", "c", 60000, "0-0", &options, None);
     shown(alloc, outcome)
 }
 
@@ -172,7 +165,7 @@ fn read_that_blocks_over_slots(alloc: Global, client: &mut Client) -> Result<Str
 
 fn claim_of_ids(alloc: Global, client: &mut Client) -> Result<String, RedisError> {
     let options = StreamClaimOptions::empty().with_justid();
-    let outcome = client.xclaim(alloc, &CLAIMANT, &["1-0"], &options, None);
+    let outcome = client.xclaim(alloc, "a", "g", "c", 60000, &["1-0"], &options, None);
     shown(alloc, outcome)
 }
 
