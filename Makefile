@@ -8,7 +8,7 @@
 #                       takes beside a lean client in plain Rust
 # make live HOST=H PORT=P   takes commands for the cluster of the node at H and P from standard input (docs/LIVE.md)
 # make proxy HOST=H PORT=P LISTEN=L   makes the cluster of the node at H and P look like one server at 127.0.0.1:L
-#                       (docs/PROXY.md); with PROGRAMS=N by so many programs side by side
+#                       (docs/PROXY.md); with PROGRAMS=N by so many programs side by side. Where one of its parts ends, it fails
 # make proxy-test       tries that against a cluster of six, which it starts, and measures it; no part of the gate
 # make proxy-test SOURCE=F  the same, and then Redis's own tests through it, of the source of Redis 7.0.15 in the folder F
 # make live-test        tries the program of docs/SOCKETS.md, and then `make live`, by one client and by four on the same keys,
@@ -46,7 +46,7 @@ live-test:
 	@program=$$(tools/build redis_live) && tools/live-test "$$program" && tools/live-clients "$$program"
 
 proxy:
-	@program=$$(tools/build redis_proxy) && tools/proxy "$$program" "$(HOST)" "$(PORT)" "$(LISTEN)" "$(PROGRAMS)"
+	@program=$$(tools/build redis_proxy) && exec tools/proxy "$$program" "$(HOST)" "$(PORT)" "$(LISTEN)" "$(PROGRAMS)"
 
 proxy-test:
 	@program=$$(tools/build redis_proxy) && tools/proxy-test "$$program" && tools/proxy-bench "$$program" && \

@@ -5,10 +5,11 @@
    that failed. A pair gets its socket when the first bytes come for it. FOLDER/nodes lists the nodes once all of this stands.
 
    A node that does not take the connection, or answers nothing for LIVE_DEADLINE seconds (5; 0 is no deadline) behind what
-   was sent to it, is passed over: its pair ends, with a word on standard error.
+   was sent to it, is passed over: its pair ends, with a line on standard error. That is told once for each reason until the
+   node answers, and then that it does.
 
    It ends when it is told to (TERM, INT), and by itself when its folder is gone, when who started it is gone, or when the
-   program that had opened its pairs is. */
+   program that had opened its pairs is; but for the last where PROXY_LAUNCHER tells the process that started it and sees to that. */
 #define _GNU_SOURCE
 #include <dirent.h>
 #include <errno.h>
@@ -27,6 +28,8 @@
 #include <sys/stat.h>
 #include <time.h>
 #include <unistd.h>
+
+#include "part.h"
 
 enum {
     ROOM = 1 << 18,
@@ -62,17 +65,37 @@ struct pair {
 static const char *folder;
 static struct pair *pairs;
 static uint32_t pair_count;
+/* For each node why its links failed since it answered, as far as there is room. */
+static char (*failures)[LONGEST];
 static int waiting;
 static int64_t deadline, last_seen;
-static int was_opened;
+static int was_opened, is_launched;
 static pid_t parent;
 static volatile sig_atomic_t is_told_to_end;
 
 /* A pair ends, and there is nothing to say of it. */
 static const char QUIETLY[] = "";
 
-static void say(const char *what, const char *why) {
-    fprintf(stderr, "live: %s%s%s\n", what, *what ? ": " : "", why);
+static const char WITHOUT_PARENT[] = "who started it is gone";
+
+static void say_end(const char *why) {
+    say("bridge: it ends: %s", why);
+}
+
+/* Says why a link failed to the node of a place, where that was not said since the node answered. */
+static void say_failure(uint32_t place, const char *why) {
+    char *said = failures[place / 2];
+    size_t length = strlen(said);
+    if (strstr(said, why)) return;
+    say("bridge: %s: %s", pairs[place].node, why);
+    snprintf(said + length, LONGEST - length, "%s\n", why);
+}
+
+/* The node of a place answers: that is said where a failure was. */
+static void say_answer(uint32_t place) {
+    char *said = failures[place / 2];
+    if (*said) say("bridge: %s: it answers again", pairs[place].node);
+    *said = 0;
 }
 
 static int64_t now(void) {
@@ -163,7 +186,7 @@ static void put_pair(uint32_t place, const char *node, unsigned number, const in
 static void begin_pair(uint32_t place, const char *node, unsigned number) {
     int files[FILES];
     if (!make_files(node, number, files)) {
-        say("the bridge ends", strerror(errno));
+        say_end(strerror(errno));
         end(1);
     }
     put_pair(place, node, number, files);
@@ -173,10 +196,10 @@ static void begin_pair(uint32_t place, const char *node, unsigned number) {
 static void end_pair(uint32_t place, const char *why) {
     struct pair *pair = &pairs[place];
     int files[FILES];
-    if (*why) say(pair->node, why);
+    if (*why) say_failure(place, why);
     was_opened = 1;
     if (!make_files(pair->node, pair->number + 2, files)) {
-        say("the bridge ends", strerror(errno));
+        say_end(strerror(errno));
         end(1);
     }
     close_pair(place);
@@ -249,6 +272,7 @@ static const char *read_node(struct pair *pair) {
     const char *why = fill(&pair->to_program, pair->files[SOCKET]);
     if (why || !left_in(&pair->to_program)) return why;
     pair->since = 0;
+    say_answer((uint32_t)(pair - pairs));
     return drain(&pair->to_program, pair->files[SINK]);
 }
 
@@ -332,7 +356,7 @@ static void look_around(void) {
     int64_t time = now();
     struct stat seen;
     const char *why = 0;
-    if (getppid() != parent) why = "who started it is gone";
+    if (getppid() != parent) why = WITHOUT_PARENT;
     else if (stat(folder, &seen)) why = "its folder is gone";
     for (uint32_t place = 0; !why && place < pair_count; place++) {
         const char *over = why_over(&pairs[place], time);
@@ -341,10 +365,10 @@ static void look_around(void) {
         else
             wait_on(place);
     }
-    if (!was_opened || last_seen >= time || has_reader()) last_seen = time;
+    if (is_launched || !was_opened || last_seen >= time || has_reader()) last_seen = time;
     if (!why && time - last_seen > WITHOUT_READER) why = "its reader is gone";
     if (!why) return;
-    say("the bridge ends", why);
+    say_end(why);
     end(0);
 }
 
@@ -376,7 +400,7 @@ static int64_t deadline_of(const char *text) {
     char *rest;
     double seconds = strtod(text, &rest);
     if (rest == text || *rest) {
-        fprintf(stderr, "live: LIVE_DEADLINE is a number of seconds, and not '%s'\n", text);
+        say("bridge: LIVE_DEADLINE is a number of seconds, and not '%s'", text);
         exit(1);
     }
     return seconds > 0 ? (int64_t)(seconds * 1000) : 0;
@@ -389,31 +413,33 @@ static void list_nodes(char **nodes) {
     FILE *list = fopen(name, "w");
     for (; list && *nodes; nodes++) fprintf(list, "%s\n", *nodes);
     if (list && !fclose(list) && !rename(name, other)) return;
-    say("the bridge ends", strerror(errno));
+    say_end(strerror(errno));
     end(1);
 }
 
 int main(int count, char **words) {
     if (count < 3) {
-        say("", "bridge FOLDER HOST:PORT..");
+        fprintf(stderr, "bridge FOLDER HOST:PORT..\n");
         return 1;
     }
     deadline = deadline_of(getenv("LIVE_DEADLINE"));
+    parent = who_started(), is_launched = !!getenv("PROXY_LAUNCHER");
     signal(SIGPIPE, SIG_IGN), signal(SIGTERM, tell_to_end), signal(SIGINT, tell_to_end);
-    parent = getppid();
+    end_with_parent(parent, SIGTERM);
     folder = realpath(words[1], 0);
     waiting = epoll_create1(EPOLL_CLOEXEC);
     pair_count = (uint32_t)(count - 2) * 2;
     pairs = calloc(pair_count, sizeof *pairs);
-    if (!folder || waiting < 0 || !pairs) {
-        say("the bridge ends", strerror(errno));
+    failures = calloc(pair_count / 2, sizeof *failures);
+    if (!folder || waiting < 0 || !pairs || !failures) {
+        say_end(strerror(errno));
         return 1;
     }
     for (uint32_t place = 0; place < pair_count; place++) {
         pairs[place].to_node.at = malloc(ROOM);
         pairs[place].to_program.at = malloc(ROOM);
         if (pairs[place].to_node.at && pairs[place].to_program.at) continue;
-        say("the bridge ends", strerror(errno));
+        say_end(strerror(errno));
         return 1;
     }
     for (uint32_t place = 0; place < pair_count; place++) begin_pair(place, words[2 + place / 2], place % 2);
@@ -425,5 +451,6 @@ int main(int count, char **words) {
         looked = now();
         look_around();
     }
+    if (getppid() != parent) say_end(WITHOUT_PARENT);
     end(0);
 }

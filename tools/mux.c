@@ -11,7 +11,11 @@
    A frame of the program for the number 4294967295 holds a delay in milliseconds, of four bytes. That much later, or
    sooner where it asked for that before, the program gets a frame of that number, with the time in eight bytes.
 
-   It takes guests at 127.0.0.1, and ends when a program does, with its status. */
+   A frame of the program for the number 4294967294, with no bytes, says that it knows the slot map. Once all have said so,
+   `proxy: one server at 127.0.0.1:PORT` is written to standard output. Guests are let in before that too.
+
+   It takes guests at 127.0.0.1. It ends with status 1 and a line on standard error when a program ends, in whichever way, and
+   where it can not begin; and without one when who started it ends. Its programs end with it. */
 #define _GNU_SOURCE
 #include <arpa/inet.h>
 #include <errno.h>
@@ -29,18 +33,23 @@
 #include <time.h>
 #include <unistd.h>
 
+#include "part.h"
+
 enum {
     MOST_GUESTS = 10000,
     MOST_PROGRAMS = 64,
+    MOST_PORT = 65535,
     PIECE = 1 << 16,
     HEAD = 8,
     /* So many bytes may wait for the program before guests are read again. */
     ENOUGH = 1 << 22,
     /* So many bytes may wait for a guest. */
     TOO_MUCH = 1 << 28,
+    /* So many milliseconds may pass before it is said that the slot map is not known. */
+    LATE = 10000,
 };
 
-static const uint32_t CLOCK = UINT32_MAX;
+static const uint32_t CLOCK = UINT32_MAX, READY = UINT32_MAX - 1;
 
 /* What an event is about: a guest's number, or one of these; a program's number is added to the last two. */
 enum { LISTENER = MOST_GUESTS, GUESTS, FROM_PROGRAM, TO_PROGRAM = FROM_PROGRAM + MOST_PROGRAMS };
@@ -78,25 +87,34 @@ struct program {
     struct bytes frames;
     /* When it wants to know the time; 0: it does not. */
     int64_t alarm_at;
+    /* Whether it knows the slot map. */
+    int is_ready;
 };
 
 static struct guest guests[MOST_GUESTS];
 static struct program programs[MOST_PROGRAMS];
-static uint32_t program_count;
+static uint32_t program_count, ready_count;
+static unsigned port;
+/* When to say that the slot map is not known; 0: never. */
+static int64_t late_at;
 /* Guests are waited for by themselves, so that all can be left out at once. */
 static int waiting, guests_waiting, are_read;
 
 static void end(const char *why) {
-    perror(why);
+    say("proxy: %s: %s", why, strerror(errno));
     exit(1);
 }
 
-/* A program has ended: so does this, with its status. */
+/* A program has ended: so does this. */
 static void end_with(struct program *program) {
-    int status = 0;
+    int status = 0, which = (int)(program - programs);
     close(program->to);
     waitpid(program->process, &status, 0);
-    exit(WIFEXITED(status) ? WEXITSTATUS(status) : 1);
+    if (WIFSIGNALED(status))
+        say("proxy: program %d was ended by signal %d (%s)", which, WTERMSIG(status), strsignal(WTERMSIG(status)));
+    else
+        say("proxy: program %d ended with status %d", which, WEXITSTATUS(status));
+    exit(1);
 }
 
 static struct program *program_of(uint32_t guest) {
@@ -105,7 +123,7 @@ static struct program *program_of(uint32_t guest) {
 
 static void watch(int in, int file, int change, uint32_t events, uint32_t what) {
     struct epoll_event event = {.events = events, .data.u32 = what};
-    if (epoll_ctl(in, change, file, &event)) end("mux: epoll");
+    if (epoll_ctl(in, change, file, &event)) end("epoll");
 }
 
 static size_t left_in(const struct bytes *bytes) {
@@ -121,7 +139,7 @@ static void put(struct bytes *bytes, const void *more, size_t count) {
     if (bytes->room - bytes->end < count) {
         bytes->room = (bytes->end + count) * 2 + PIECE;
         bytes->at = realloc(bytes->at, bytes->room);
-        if (!bytes->at) end("mux: memory");
+        if (!bytes->at) end("memory");
     }
     memcpy(bytes->at + bytes->end, more, count);
     bytes->end += count;
@@ -239,7 +257,7 @@ static void set_alarm(struct program *program, const void *bytes, uint32_t count
 
 /* How long to wait for an event: for ever where no alarm is set. */
 static int patience(void) {
-    int64_t first = 0;
+    int64_t first = late_at;
     for (uint32_t which = 0; which < program_count; which++) {
         int64_t at = programs[which].alarm_at;
         if (at && (!first || at < first)) first = at;
@@ -261,6 +279,28 @@ static void ring(void) {
     }
 }
 
+/* Says once that the slot map is not known, where it is time for that. */
+static void tell_late(void) {
+    if (!late_at || now() < late_at) return;
+    late_at = 0;
+    say("proxy: no node tells the slot map yet (%u of %u programs know it)", ready_count, program_count);
+}
+
+/* A program knows the slot map. Once all do, there is one server. */
+static void take_ready(struct program *program) {
+    if (program->is_ready) return;
+    program->is_ready = 1;
+    if (++ready_count < program_count) return;
+    late_at = 0;
+    printf("proxy: one server at 127.0.0.1:%u\n", port);
+    fflush(stdout);
+}
+
+/* Whether a program may write a frame of this number. */
+static int is_number_of(const struct program *program, uint32_t number) {
+    return number == CLOCK || number == READY || (number < MOST_GUESTS && program_of(number) == program);
+}
+
 /* Hands out a program's frames as far as they are whole. */
 static void hand_out(struct program *program) {
     struct bytes *frames = &program->frames;
@@ -268,13 +308,15 @@ static void hand_out(struct program *program) {
         uint32_t head[2];
         memcpy(head, frames->at + frames->start, HEAD);
         uint32_t number = head[0], count = head[1];
-        if (number != CLOCK && (number >= MOST_GUESTS || program_of(number) != program)) {
-            fprintf(stderr, "mux: a program wrote no frame\n");
+        if (!is_number_of(program, number)) {
+            say("proxy: program %d wrote no frame", (int)(program - programs));
             exit(1);
         }
         if (left_in(frames) - HEAD < count) break;
         if (number == CLOCK)
             set_alarm(program, frames->at + frames->start + HEAD, count);
+        else if (number == READY)
+            take_ready(program);
         else if (!count)
             end_guest(number);
         else if (guests[number].state == OPEN) {
@@ -310,20 +352,32 @@ static void let_in(int listener) {
     watch(guests_waiting, socket, EPOLL_CTL_ADD, EPOLLIN, number);
 }
 
-static int listen_at(const char *port) {
+/* The number of 1 to `most` that a word is, or 0. */
+static unsigned number_in(const char *word, unsigned most) {
+    char *rest;
+    if (*word < '0' || *word > '9') return 0;
+    unsigned long number = strtoul(word, &rest, 10);
+    return *rest || number > most ? 0 : (unsigned)number;
+}
+
+static int listen_at_port(void) {
     int listener = socket(AF_INET, SOCK_STREAM | SOCK_CLOEXEC | SOCK_NONBLOCK, 0), on = 1;
-    struct sockaddr_in at = {.sin_family = AF_INET, .sin_port = htons((uint16_t)atoi(port))};
+    struct sockaddr_in at = {.sin_family = AF_INET, .sin_port = htons((uint16_t)port)};
     at.sin_addr.s_addr = htonl(INADDR_LOOPBACK);
     setsockopt(listener, SOL_SOCKET, SO_REUSEADDR, &on, sizeof on);
-    if (bind(listener, (struct sockaddr *)&at, sizeof at) || listen(listener, 511)) end("mux: listen");
-    return listener;
+    if (!bind(listener, (struct sockaddr *)&at, sizeof at) && !listen(listener, 511)) return listener;
+    if (errno == EADDRINUSE)
+        say("proxy: the port %u is taken", port);
+    else
+        say("proxy: no guest can be taken at the port %u: %s", port, strerror(errno));
+    exit(1);
 }
 
 /* The word with a program's number in the place of each %. */
 static char *numbered(const char *word, uint32_t which) {
     size_t room = strlen(word) * 3 + 1, at = 0;
     char *made = malloc(room);
-    if (!made) end("mux: memory");
+    if (!made) end("memory");
     for (; *word; word++) {
         if (*word == '%')
             at += (size_t)snprintf(made + at, room - at, "%u", which);
@@ -334,20 +388,39 @@ static char *numbered(const char *word, uint32_t which) {
     return made;
 }
 
+/* Becomes a program, which ends with its parent; where that fails, the reason goes into the pipe `failed`. */
+static void become(uint32_t which, char **words, pid_t parent, int failed) {
+    end_with_parent(parent, SIGKILL);
+    for (char **word = words; *word; word++) *word = numbered(*word, which);
+    execvp(words[0], words);
+    (void)!write(failed, &errno, sizeof errno);
+    _exit(1);
+}
+
+/* Waits until a program runs, which closes the pipe. */
+static void see_run(int failed, const char *name) {
+    ssize_t count;
+    while ((count = read(failed, &errno, sizeof errno)) < 0 && errno == EINTR) continue;
+    close(failed);
+    if (!count) return;
+    say("proxy: the program %s can not be run: %s", name, strerror(errno));
+    exit(1);
+}
+
 static void start(uint32_t which, char **words) {
     struct program *program = &programs[which];
-    int in[2], out[2];
-    if (pipe2(in, O_CLOEXEC) || pipe2(out, O_CLOEXEC)) end("mux: pipe");
+    pid_t parent = getpid();
+    int in[2], out[2], failed[2];
+    if (pipe2(in, O_CLOEXEC) || pipe2(out, O_CLOEXEC) || pipe2(failed, O_CLOEXEC)) end("pipe");
     program->process = fork();
-    if (program->process < 0) end("mux: fork");
+    if (program->process < 0) end("fork");
     if (!program->process) {
         dup2(in[0], 0);
         dup2(out[1], 1);
-        for (char **word = words; *word; word++) *word = numbered(*word, which);
-        execvp(words[0], words);
-        end("mux: exec");
+        become(which, words, parent, failed[1]);
     }
-    close(in[0]), close(out[1]);
+    close(in[0]), close(out[1]), close(failed[1]);
+    see_run(failed[0], words[0]);
     program->to = in[1], program->from = out[0];
     fcntl(program->to, F_SETFL, O_NONBLOCK);
     fcntl(program->from, F_SETFL, O_NONBLOCK);
@@ -377,16 +450,22 @@ static void take_event(int listener, uint32_t what) {
 }
 
 int main(int count, char **words) {
-    int programs_wanted = count < 4 ? 0 : atoi(words[2]);
-    if (programs_wanted < 1 || programs_wanted > MOST_PROGRAMS) {
+    end_with_parent(who_started(), SIGTERM);
+    program_count = count < 4 ? 0 : number_in(words[2], MOST_PROGRAMS);
+    if (!program_count) {
         fprintf(stderr, "mux PORT COUNT PROGRAM [ARGUMENT..], with 1 to %d programs\n", MOST_PROGRAMS);
+        return 1;
+    }
+    port = number_in(words[1], MOST_PORT);
+    if (!port) {
+        say("proxy: the port '%s' is no number of 1 to %d", words[1], MOST_PORT);
         return 1;
     }
     signal(SIGPIPE, SIG_IGN);
     waiting = epoll_create1(EPOLL_CLOEXEC), guests_waiting = epoll_create1(EPOLL_CLOEXEC);
-    int listener = listen_at(words[1]);
-    program_count = (uint32_t)programs_wanted;
+    int listener = listen_at_port();
     for (uint32_t which = 0; which < program_count; which++) start(which, words + 3);
+    late_at = now() + LATE;
     watch(waiting, listener, EPOLL_CTL_ADD, EPOLLIN, LISTENER);
     watch(waiting, guests_waiting, EPOLL_CTL_ADD, EPOLLIN, GUESTS);
     are_read = 1;
@@ -394,6 +473,7 @@ int main(int count, char **words) {
         struct epoll_event events[8];
         int ready = epoll_wait(waiting, events, 8, patience());
         for (int i = 0; i < ready; i++) take_event(listener, events[i].data.u32);
+        tell_late();
         ring();
         serve_programs();
     }
