@@ -249,3 +249,12 @@ module _ {T C V : Type 0} (w : Ways T C V) where
     rests_advances Taken r k e = absurd r
     rests_advances Full r k e = absurd r
     rests_advances NoGuest r k e = absurd r
+
+    -- a step before by which nothing was seen
+    pub advances_behind : (first : Connection T C V) (p : Progress) → AlwaysStays w first old
+        → Advances w command reply share is_there g old new qs qs' p → Advances w command reply share is_there g first new qs qs' p
+    advances_behind first Taken k a = (a.0, a.1, λ h s. a.2 h (k (queue_at qs g) h s))
+    advances_behind first Short k a = ((a.0.0, λ h s. a.0.1 h (k (queue_at qs g) h s)), λ h s. a.1 h (k (queue_at qs g) h s))
+    advances_behind first Full k a = ((a.0.0, λ h s. a.0.1 h (k (queue_at qs g) h s)), a.1, a.2, a.3)
+    advances_behind first Ended k a = ((a.0.0, λ h s. a.0.1 h (k (queue_at qs g) h s)), a.1, a.2)
+    advances_behind first NoGuest k a = ((a.0.0, λ h s. a.0.1 h (k (queue_at qs g) h s)), a.1)

@@ -115,23 +115,7 @@ impl<T: Translator<C, V>, C: Command, V: Written> Connection<T, C, V> {
             return Ok(progress);
         }
         self.understand(alloc)?;
-        match mem::replace(&mut self.pending, Pending::Nothing) {
-            Pending::Entry(entry) => match proxy.put(self.guest, entry) {
-                Ok(()) => Ok(Progress::Taken),
-                Err(refused) => {
-                    self.pending = Pending::Entry(refused.value);
-                    match refused.why {
-                        Refusal::NoGuest => Ok(Progress::NoGuest),
-                        Refusal::Full => Ok(Progress::Full),
-                        Refusal::NoMemory => Err(AllocError),
-                    }
-                }
-            },
-            other => {
-                self.pending = other;
-                Ok(Progress::Short)
-            }
-        }
+        self.put(proxy)
     }
 
     /// Reads the words of the next command, where nothing is pending; or why there are none.
@@ -150,18 +134,14 @@ impl<T: Translator<C, V>, C: Command, V: Written> Connection<T, C, V> {
         if self.is_refused || self.translator.has_ended() {
             return Ok(Some(Progress::Ended));
         }
-        match self.requests.take_command() {
-            Ok(Some(words)) => {
-                self.pending = Pending::Words(words);
-                Ok(None)
-            }
-            Ok(None) => Ok(Some(Progress::Short)),
-            Err(RequestError::Protocol(fault)) => {
-                self.pending = Pending::Fault(fault);
-                Ok(None)
-            }
-            Err(RequestError::Memory) => Err(AllocError),
-        }
+        let heard = match self.requests.take_command() {
+            Ok(Some(words)) => Pending::Words(words),
+            Ok(None) => return Ok(Some(Progress::Short)),
+            Err(RequestError::Protocol(fault)) => Pending::Fault(fault),
+            Err(RequestError::Memory) => return Err(AllocError),
+        };
+        self.pending = heard;
+        Ok(None)
     }
 
     /// What the words that were read mean, or what is answered to a fault.
@@ -184,6 +164,38 @@ impl<T: Translator<C, V>, C: Command, V: Written> Connection<T, C, V> {
         };
         self.pending = Pending::Entry(entry);
         Ok(())
+    }
+
+    /// Puts the entry that is pending into the guest's queue.
+    fn put(&mut self, proxy: &mut Proxy<C, V>) -> Result<Progress, AllocError>
+        requires { HoldsEntry self.old.pending }
+        ensures ok { IfOk result (λ progress. AdvancesIn (ways C.overlaps V.written T.Translator) C.bytes V.bytes
+            self.old self.new proxy.old proxy.new progress) }
+        ensures err { OnErr result (Keeps (ways C.overlaps V.written T.Translator)
+            self.old.guest self.old self.new proxy.old.queues proxy.new.queues) }
+        ensures due { OnErr result (IsUnderWayIn (ways C.overlaps V.written T.Translator) C.bytes V.bytes
+            self.old self.new proxy.old) }
+        ensures guest { self.new.guest ≡ self.old.guest }
+        ensures openings { proxy.new.openings ≡ proxy.old.openings }
+        ensures limits { proxy.new.limits ≡ proxy.old.limits }
+    {
+        match mem::replace(&mut self.pending, Pending::Nothing) {
+            Pending::Entry(entry) => match proxy.put(self.guest, entry) {
+                Ok(()) => Ok(Progress::Taken),
+                Err(refused) => {
+                    self.pending = Pending::Entry(refused.value);
+                    match refused.why {
+                        Refusal::NoGuest => Ok(Progress::NoGuest),
+                        Refusal::Full => Ok(Progress::Full),
+                        Refusal::NoMemory => Err(AllocError),
+                    }
+                }
+            },
+            other => {
+                self.pending = other;
+                Ok(Progress::Short)
+            }
+        }
     }
 
     /// Looks for bytes to write: those that are left of the reply that is going out, or, where none are, those of
