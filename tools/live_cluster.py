@@ -1,6 +1,7 @@
 """A Redis Cluster of six on this machine, clients of it, and slots that move, for tools/live-test and live-clients."""
 import binascii
 import os
+import re
 import shutil
 import subprocess
 import sys
@@ -108,13 +109,40 @@ def slot_of(key):
 def masters():
     """The masters with slots: port, id, and the ranges of slots."""
     found = []
-    for line in cli(PORTS[-1], "cluster", "nodes").splitlines():
+    told = next(filter(None, (cli(port, "cluster", "nodes") for port in reversed(PORTS))), "")
+    for line in told.splitlines():
         words = line.split()
         if "master" in words[2] and "fail" not in words[2] and len(words) > 8:
             ranges = [word.split("-") for word in words[8:] if not word.startswith("[")]
             port = int(words[1].split("@")[0].split(":")[1])
             found.append((port, words[0], [(int(r[0]), int(r[-1])) for r in ranges]))
     return found
+
+
+def has_recovered(dead, ports):
+    """Whether all slots have a primary again in place of the dead one, as all of these nodes see it."""
+    found = [port for port, _, _ in masters()]
+    return len(found) == 3 and dead not in found and all("cluster_state:ok" in cli(port, "cluster", "info") for port in ports)
+
+
+def is_replica(port):
+    """Whether a node has its primary's keys."""
+    told = cli(port, "info", "replication")
+    return "role:slave" in told and "master_link_status:up" in told
+
+
+def revive(servers, port):
+    """Whether a node that was killed comes back as a replica."""
+    servers[port].wait()
+    servers[port] = subprocess.Popen(servers[port].args, stdout=subprocess.DEVNULL, stderr=subprocess.DEVNULL)
+    return wait_for(30, lambda: is_replica(port))
+
+
+def hand_over_from(port):
+    """Whether the replica of a primary took its place when it was asked to, as all nodes see it."""
+    replicas = re.findall(rf"^\S+ {HOST}:(\d+)@\S+ slave ", cli(port, "cluster", "nodes"), re.M)
+    own = [replica for replica in replicas if f"master_port:{port}\n" in cli(replica, "info", "replication")]
+    return bool(own) and cli(own[0], "cluster", "failover") == "OK\n" and wait_for(20, lambda: has_recovered(port, PORTS))
 
 
 def move_slots(ended, count):

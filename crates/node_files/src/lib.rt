@@ -5,30 +5,66 @@
 //! socket of the node.
 #![tactic(auto)]
 
+mod learning;
+
 use anyhow::{Context, Result};
 use cluster_client::{
     ByteLink, ClusterClient, Cmd, ConnectionLike, FromRead, FromWrite, NodeAddress, Value,
 };
+pub use learning::{Learning, is_doubtful};
 use std::alloc::Global;
 use std::fs;
 use std::fs::OpenOptions;
-use std::rt::Files;
+use std::rt::{Clock, Files};
+use std::time::{Duration, Instant};
 
 /// A link over a pair of files.
 pub type Link<F> = ByteLink<FromRead<F>, FromWrite<F>>;
 
-// Behind so many greetings without an answer a node is not passed over for longer.
-const MOST_MISSES: u8 = 6;
+/// For so many milliseconds at least a node is passed over that did not answer a greeting.
+const LEAST_REST: u64 = 250;
+
+/// So many links to a node may be opened within a second of one another; before the next one it is passed over.
+const MOST_HASTY: u8 = 3;
 
 /// A node, and the number of the pair of files that is opened next.
 #[derive(Drop)]
 pub struct Peer {
     pub node: NodeAddress,
     round: u64,
-    /// How many greetings it did not answer, one after another.
-    misses: u8,
-    /// For how many calls it is passed over.
-    rests: u8,
+    /// Since when it is passed over, and for how long.
+    rest: Option<(Instant, Duration)>,
+    /// When its last link was opened, and how many before that, each within a second of the next.
+    opened_at: Option<Instant>,
+    hasty: u8,
+}
+
+impl Peer {
+    /// Takes note that a link to the node is open, of which it is not known whether the node answers.
+    fn note_opening(&mut self, now: Instant) {
+        let is_hasty = match self.opened_at {
+            Some(before) => now.duration_since(before) < Duration::from_secs(1),
+            None => false,
+        };
+        self.hasty = if is_hasty {
+            self.hasty.saturating_add(1)
+        } else {
+            0
+        };
+        self.opened_at = Some(now);
+        self.rest = if self.hasty < MOST_HASTY {
+            None
+        } else {
+            Some((now, Duration::from_millis(LEAST_REST)))
+        };
+    }
+
+    fn rests(&self, now: Instant) -> bool {
+        match self.rest {
+            Some((since, length)) => now.duration_since(since) < length,
+            None => false,
+        }
+    }
 }
 
 /// The nodes that a folder lists.
@@ -42,8 +78,9 @@ pub fn listed<R: Files + AllocGlobal>(rt: &R, folder: &str) -> Result<Vec<Peer>>
         peers.push(Peer {
             node,
             round: 0,
-            misses: 0,
-            rests: 0,
+            rest: None,
+            opened_at: None,
+            hasty: 0,
         })?;
     }
     Ok(peers)
@@ -74,50 +111,49 @@ fn is_answered<L: ConnectionLike>(alloc: Global, link: &mut L, greeting: &Cmd) -
     }
 }
 
-/// A link over a node's next pair of files, whose node answers the greeting where there is one.
-fn greeted_link<R: Files + AllocGlobal>(
+/// A link over a node's next pair of files, whose node answers the greeting where there is one. A node that does
+/// not is passed over for as long as it was waited for.
+fn greeted_link<R: Files + Clock + AllocGlobal>(
     rt: &R,
     folder: &str,
     peer: &mut Peer,
     greeting: Option<&Cmd>,
-) -> Option<Link<R::File>> {
+) -> Result<Option<Link<R::File>>> {
     let Ok(mut link) = open_link(rt, folder, peer) else {
-        return None;
+        return Ok(None);
     };
-    let is_good = match greeting {
-        Some(greeting) => is_answered(rt.alloc(), &mut link, greeting),
-        None => true,
+    let Some(greeting) = greeting else {
+        peer.note_opening(Instant::now(rt)?);
+        return Ok(Some(link));
     };
-    if is_good {
-        peer.misses = 0;
-        Some(link)
-    } else {
-        peer.misses = peer.misses.saturating_add(1).min(MOST_MISSES);
-        peer.rests = (1 << peer.misses) - 1;
-        None
+    let begun = Instant::now(rt)?;
+    if is_answered(rt.alloc(), &mut link, greeting) {
+        peer.rest = None;
+        return Ok(Some(link));
     }
+    let now = Instant::now(rt)?;
+    let waited = now.duration_since(begun);
+    peer.rest = Some((now, Duration::from_millis(LEAST_REST).max(waited)));
+    Ok(None)
 }
 
 /// Opens the next pair of files of each node without an open link, and tells whether there was one. With a
-/// greeting a link is taken only where its node answers that; a node that does not is passed over for a while,
-/// each time for twice as many of these calls, up to 63.
-pub fn relink<R: Files + AllocGlobal>(
+/// greeting a link is taken only where its node answers that; a node that does not is passed over for a while. So is
+/// one whose links fail at once, a few times a second.
+pub fn relink<R: Files + Clock + AllocGlobal>(
     rt: &R,
     folder: &str,
     peers: &mut [Peer],
     client: &mut ClusterClient<Link<R::File>>,
     greeting: Option<&Cmd>,
 ) -> Result<bool> {
+    let now = Instant::now(rt)?;
     let mut has_opened = false;
     for peer in peers.iter_mut() {
-        if client.link_state(&peer.node) == Some(true) {
+        if client.link_state(&peer.node) == Some(true) || peer.rests(now) {
             continue;
         }
-        if peer.rests > 0 {
-            peer.rests -= 1;
-            continue;
-        }
-        if let Some(link) = greeted_link(rt, folder, peer, greeting) {
+        if let Some(link) = greeted_link(rt, folder, peer, greeting)? {
             client.set_link(peer.node.clone()?, link)?;
             has_opened = true;
         }

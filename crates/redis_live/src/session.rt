@@ -6,10 +6,11 @@ use cluster_client::{
     ClusterClient, ClusterPipeline, Cmd, ConnectionLike, Directed, Direction, RedisError, Value,
     cluster_pipe,
 };
-use node_files::{Link, Peer, listed, relink};
+use node_files::{Learning, Link, Peer, is_doubtful, listed, relink};
 use std::alloc::{AllocError, Global};
 use std::io::{BufRead, BufReader, Write};
-use std::rt::{Env, Files};
+use std::rt::{Clock, Env, Files};
+use std::time::Instant;
 use std::{env, io};
 
 // How many redirects a request follows.
@@ -21,6 +22,8 @@ struct Session<L> {
     client: ClusterClient<L>,
     /// The nodes of the folder; the first is asked first for the slot map.
     peers: Vec<Peer>,
+    /// When it asked for the slot map.
+    learning: Learning,
     /// The commands since the line `pipeline`.
     pipeline: Option<ClusterPipeline>,
     style: Style,
@@ -102,6 +105,7 @@ impl<L: ConnectionLike + Drop> Session<L> {
 
     /// Tells why a pipeline is refused: by the errors of servers, each of them.
     fn tell_errors(&mut self, alloc: Global, error: RedisError) -> Result<()> {
+        self.hear(&error);
         if error.code().is_none() {
             return self.tell_refusal(&error);
         }
@@ -117,8 +121,16 @@ impl<L: ConnectionLike + Drop> Session<L> {
     }
 
     fn tell_refusal(&mut self, error: &RedisError) -> Result<()> {
+        self.hear(error);
         let node = self.client.asked().last().map(|asked| &asked.node);
         refusal(&mut self.output, self.style, error, node)
+    }
+
+    /// Takes note of an error that a new slot map may mend.
+    fn hear(&mut self, error: &RedisError) {
+        if is_doubtful(error) {
+            self.learning.doubt();
+        }
     }
 
     fn flush<R: Print>(&mut self, rt: &R) -> io::Result<()> {
@@ -155,16 +167,18 @@ fn ask<L: ConnectionLike + Drop>(
     }
 }
 
-/// Sees to it that links are open and the slot map is known.
-fn restore<R: Files + AllocGlobal>(
+/// Sees to it that links are open and the slot map is known. A map that is in doubt is learnt anew.
+fn restore<R: Files + Clock + AllocGlobal>(
     rt: &R,
     folder: &str,
     session: &mut Session<Link<R::File>>,
 ) -> Result<()> {
     let alloc = rt.alloc();
-    if relink(rt, folder, &mut session.peers, &mut session.client, None)?
-        || session.client.needs_refresh()
-    {
+    let has_opened = relink(rt, folder, &mut session.peers, &mut session.client, None)?;
+    let wants_map = session.client.needs_refresh();
+    let now = Instant::now(rt)?;
+    if has_opened || wants_map || session.learning.is_due(now) {
+        session.learning.note(now);
         session.refresh(alloc)?;
         session.tell_unlinked(alloc)?;
     }
@@ -172,7 +186,7 @@ fn restore<R: Files + AllocGlobal>(
 }
 
 /// Takes commands from the input, one a line, until it ends.
-pub(crate) fn serve<R: Files + Env + Input + Print + AllocGlobal>(rt: &R) -> Result<()> {
+pub(crate) fn serve<R: Files + Clock + Env + Input + Print + AllocGlobal>(rt: &R) -> Result<()> {
     let alloc = rt.alloc();
     let mut args = env::args(rt)?;
     let _program = args.next();
@@ -188,6 +202,7 @@ pub(crate) fn serve<R: Files + Env + Input + Print + AllocGlobal>(rt: &R) -> Res
     let mut session = Session {
         client: ClusterClient::new(alloc, Vec::new(alloc), Vec::new(alloc), BUDGET)?,
         peers: listed(rt, folder)?,
+        learning: Learning::new(),
         pipeline: None,
         style,
         output: Vec::new(alloc),

@@ -199,22 +199,67 @@ fn block_of_word(
     }))
 }
 
+/// How many arguments an option of a read of streams takes, with its word; none what is no option, as `STREAMS`.
+fn option_width(command: &Cmd, place: usize) -> usize {
+    if is_word(command, place, b"BLOCK") || is_word(command, place, b"COUNT") {
+        2
+    } else if is_word(command, place, b"GROUP") {
+        3
+    } else if is_word(command, place, b"NOACK") {
+        1
+    } else {
+        0
+    }
+}
+
+/// The place of the last `BLOCK` among the options of a read of streams, which is the one that counts.
+fn last_block(command: &Cmd) -> Option<usize> {
+    let mut found = None;
+    let mut place = 1usize;
+    for _ in 0..argument_count(command) {
+        if is_word(command, place, b"BLOCK") {
+            found = Some(place);
+        }
+        match option_width(command, place) {
+            0 => break,
+            width => place = place.saturating_add(width),
+        }
+    }
+    found
+}
+
+/// A read of streams without each `BLOCK` among its options.
+fn without_blocks(alloc: Global, command: &Cmd) -> Result<Cmd, AllocError> {
+    let count = argument_count(command);
+    let mut attempt = Cmd::new(alloc);
+    copy_args(&mut attempt, command, 0, 1)?;
+    let mut place = 1usize;
+    for _ in 0..count {
+        let behind = place.saturating_add(option_width(command, place));
+        if behind == place {
+            break;
+        }
+        if !is_word(command, place, b"BLOCK") {
+            copy_args(&mut attempt, command, place, behind.min(count))?;
+        }
+        place = behind;
+    }
+    copy_args(&mut attempt, command, place, count)?;
+    Ok(attempt)
+}
+
 /// A read of streams that has `BLOCK` at a place.
 fn block_of_read(
     alloc: Global,
     command: &Cmd,
     block: usize,
 ) -> Result<Result<Block, BlockFault>, AllocError> {
-    let behind = block.saturating_add(2);
     let timeout = match timeout_of(argument(command, block.saturating_add(1)), false) {
         Ok(timeout) => timeout,
         Err(fault) => return Ok(Err(fault)),
     };
-    let mut attempt = Cmd::new(alloc);
-    copy_args(&mut attempt, command, 0, block)?;
-    copy_args(&mut attempt, command, behind, argument_count(command))?;
     Ok(Ok(Block {
-        attempt,
+        attempt: without_blocks(alloc, command)?,
         depth: 0,
         timeout,
         has_destination: false,
@@ -235,11 +280,7 @@ pub(crate) fn waits(command: &Cmd) -> bool {
     if !name.eq_ignore_ascii_case(b"XREAD") && !name.eq_ignore_ascii_case(b"XREADGROUP") {
         return false;
     }
-    match (command.position(b"BLOCK"), command.position(b"STREAMS")) {
-        (Some(block), Some(streams)) => block < streams,
-        (block, None) => block.is_some(),
-        (None, _) => false,
-    }
+    last_block(command).is_some()
 }
 
 impl Block {
@@ -263,7 +304,7 @@ impl Block {
                 return block_of_word(alloc, command, other, *form, *least);
             }
         }
-        match command.position(b"BLOCK") {
+        match last_block(command) {
             Some(place) => block_of_read(alloc, command, place),
             None => Ok(Err(BlockFault::Count)),
         }

@@ -5,8 +5,10 @@ use crate::side::Side;
 use crate::unblock::unblock;
 use crate::waits::Waits;
 use crate::way::Way;
+use crate::words::SharedWords;
 use cluster_client::PipelinedLink;
 use cluster_servers::{GuestCommand, Reply};
+use proxy_connection::Written;
 use proxy_core::{Command, Fate, Outcome, Servers, Waiting};
 use resp_core::{Protocol, WriteError};
 use std::alloc::{AllocError, Global};
@@ -18,6 +20,8 @@ pub(crate) struct Cluster<L> {
     pub(crate) two: Side<L>,
     pub(crate) three: Side<L>,
     pub(crate) waits: Waits,
+    /// The words that the nodes know.
+    pub(crate) words: SharedWords,
     /// How many commands were asked by themselves, for what goes to the nodes in turn.
     pub(crate) alone: usize,
     /// Whether the last turn left nothing but commands that wait for what is not there yet, and what stands
@@ -95,6 +99,32 @@ fn part_of<'a>(
     Ok(part)
 }
 
+/// What begins a line where no node or no link was there, a link failed, or a node told that it is a replica or that the
+/// cluster is down.
+const DOUBTS: [&str; 4] = [
+    "-READONLY ",
+    "-CLUSTERDOWN ",
+    "-TRYAGAIN not sent",
+    "-ERR the link to the node failed",
+];
+
+/// Whether a new slot map, or a new link, may mend an outcome.
+fn is_doubtful(outcome: &Outcome<Reply>) -> bool {
+    if matches!(outcome.fate, Fate::NotAsked | Fate::Lost) {
+        return true;
+    }
+    let told = outcome.reply.written();
+    if told.first() != Some(&b'-') {
+        return false;
+    }
+    for start in &DOUBTS {
+        if told.starts_with(start.as_bytes()) {
+            return true;
+        }
+    }
+    false
+}
+
 /// That of a command for which nothing was sent.
 fn not_asked() -> Outcome<Reply> {
     Outcome {
@@ -113,18 +143,31 @@ impl<L: PipelinedLink + Drop> Side<L> {
         if part.is_empty() {
             return Ok(VecDeque::new(alloc));
         }
-        Ok(VecDeque::from_vec(self.servers.ask(alloc, part)?))
+        let outcomes = self.servers.ask(alloc, part)?;
+        self.hear_of(&outcomes);
+        Ok(VecDeque::from_vec(outcomes))
+    }
+}
+
+impl<L> Side<L> {
+    /// Takes note where one of the outcomes is what a new map may mend.
+    fn hear_of(&mut self, outcomes: &[Outcome<Reply>]) {
+        for outcome in outcomes {
+            if is_doubtful(outcome) {
+                self.learning.doubt();
+            }
+        }
+    }
+}
+
+impl<L> Cluster<L> {
+    /// Whether a slot map is in doubt that guests' commands go by.
+    pub(crate) fn is_in_doubt(&self) -> bool {
+        self.two.learning.is_in_doubt() || self.three.learning.is_in_doubt()
     }
 }
 
 impl<L: PipelinedLink + Drop> Cluster<L> {
-    pub(crate) fn side(&mut self, protocol: Protocol) -> &mut Side<L> {
-        match protocol {
-            Protocol::Resp2 => &mut self.two,
-            Protocol::Resp3 => &mut self.three,
-        }
-    }
-
     /// Asks each that is asked by itself.
     fn ask_each_alone(
         &mut self,
@@ -141,18 +184,37 @@ impl<L: PipelinedLink + Drop> Cluster<L> {
                 How::Alone(Way::Unblock) => {
                     unblock(alloc, &mut self.waits, asked.command.command.command())
                 }
-                _ => {
-                    let around = Around {
-                        waiting: self.waits.count(),
-                        number: self.alone,
-                    };
-                    self.alone = self.alone.wrapping_add(1);
-                    let client = &mut self.side(asked.command.protocol).servers.client;
-                    ask_alone(alloc, client, asked.command, around)
-                }
+                _ => self.ask_alone(alloc, asked.command),
             };
             let _full = alone.push_back(outcome);
         }
+    }
+
+    /// Asks a command by itself.
+    fn ask_alone(&mut self, alloc: Global, ask: &Ask) -> Outcome<Reply> {
+        let Cluster {
+            two,
+            three,
+            waits,
+            words,
+            alone,
+            ..
+        } = self;
+        let around = Around {
+            waiting: waits.count(),
+            number: *alone,
+            words,
+        };
+        *alone = alone.wrapping_add(1);
+        let side = match ask.protocol {
+            Protocol::Resp2 => two,
+            Protocol::Resp3 => three,
+        };
+        let outcome = ask_alone(alloc, &mut side.servers.client, ask, around);
+        if is_doubtful(&outcome) {
+            side.learning.doubt();
+        }
+        outcome
     }
 
     /// Takes note of those that wait: those that are new are tried, and behind the others of the batch also
@@ -187,7 +249,7 @@ impl<L: PipelinedLink + Drop> Cluster<L> {
             waits,
             ..
         } = self;
-        waits.try_all(alloc, &mut two.servers.client, &mut three.servers.client);
+        waits.try_all(alloc, two, three);
     }
 
     /// Puts the outcomes of all behind one another, as the batch stands.

@@ -4,6 +4,9 @@ use std::alloc::{AllocError, Global};
 /// The number by which the clock is asked and tells the time. No guest has it.
 pub(crate) const CLOCK: u32 = u32::MAX;
 
+/// The number by which the program says that it knows the slot map. No guest has it.
+const READY: u32 = u32::MAX - 1;
+
 /// Bytes of a guest, none where it ends.
 #[derive(Clone, Copy)]
 pub(crate) struct Frame<'a> {
@@ -42,6 +45,11 @@ pub(crate) fn put_frames(out: &mut Vec<u8>, guest: u32, bytes: &[u8]) -> Result<
 /// Appends the frame that ends a guest.
 pub(crate) fn put_end(out: &mut Vec<u8>, guest: u32) -> Result<(), AllocError> {
     put_head(out, guest, 0)
+}
+
+/// Appends the frame that says that the slot map is known.
+pub(crate) fn put_ready(out: &mut Vec<u8>) -> Result<(), AllocError> {
+    put_head(out, READY, 0)
 }
 
 /// Appends the frame that asks the clock to tell the time behind so many milliseconds.

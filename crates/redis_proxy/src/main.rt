@@ -4,7 +4,8 @@
 //! `redis_proxy FOLDER` serves one guest, whose bytes these are. `redis_proxy FOLDER --frames` serves many:
 //! the bytes are frames, each of a guest's number and a length, of four bytes with the lowest first, and so
 //! many bytes of that guest. A frame of none ends the guest. A frame for the number 4294967295 asks for the
-//! time behind so many milliseconds, and one of that number tells it.
+//! time behind so many milliseconds, and one of that number tells it. A frame of none for the number 4294967294
+//! says that the program knows the slot map.
 //!
 //! `redis_proxy FOLDER --frames NUMBER PROGRAMS` is the program of this number, from 0, of so many that stand
 //! side by side, each with guests and a folder of its own. Their guests have different ids.
@@ -14,10 +15,12 @@
 //! joins each pair to a socket of the node.
 #![tactic(auto)]
 
+mod along;
 mod ask;
 mod block;
 mod cluster;
 mod frames;
+mod guarded;
 mod guest;
 mod held;
 mod ids;
@@ -33,6 +36,7 @@ mod talk;
 mod unblock;
 mod waits;
 mod way;
+mod words;
 
 use anyhow::Result;
 

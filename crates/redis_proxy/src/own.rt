@@ -3,7 +3,7 @@ ghost use Rattle.std.specs.Prelude.{◌≡◌, OnErr};
 
 use crate::queued::Queued;
 use crate::talk::Talk;
-use crate::way::{Own, argument, is_word};
+use crate::way::{Own, argument, argument_count, is_word};
 use cluster_client::{Cmd, Routable, Value};
 use cluster_servers::Reply;
 use resp_core::Protocol;
@@ -55,12 +55,17 @@ pub(crate) fn answer(
         }
         Own::Reset => {
             let reply = line(alloc, b"+RESET")?;
-            *talk = Talk::new(alloc, talk.id, talk.has_clock);
+            talk.reset(alloc);
             Ok(reply)
         }
         Own::Multi => {
             let reply = line(alloc, b"+OK")?;
             talk.queued = Some(Queued::new(alloc));
+            Ok(reply)
+        }
+        Own::Http => {
+            let reply = line(alloc, b"-ERR proxy: POST and Host: are words of HTTP")?;
+            talk.has_ended = true;
             Ok(reply)
         }
         Own::Exec => line(alloc, b"-ERR EXEC without MULTI"),
@@ -180,4 +185,35 @@ pub(crate) fn refuse(alloc: Global, command: &Cmd) -> Result<Reply, AllocError> 
     }
     bytes.extend_from_slice(b"\r\n")?;
     Ok(Reply::Written(bytes))
+}
+
+/// How much of a word, and of all arguments, is shown where a word is not known.
+const SHOWN: usize = 128;
+
+/// Appends bytes as far as there is room for so many, without the end of a line.
+fn put_shown(to: &mut Vec<u8>, bytes: &[u8], most: usize) -> Result<(), AllocError> {
+    for byte in bytes.iter().take(most) {
+        let is_end = *byte == b'\r' || *byte == b'\n' || *byte == 0;
+        to.push(if is_end { b' ' } else { *byte })?;
+    }
+    Ok(())
+}
+
+/// What a server answers to a word that it does not know.
+pub(crate) fn unknown(alloc: Global, command: &Cmd) -> Result<Vec<u8>, AllocError> {
+    let mut told = Vec::from_slice(alloc, b"-ERR unknown command '")?;
+    put_shown(&mut told, argument(command, 0), SHOWN)?;
+    told.extend_from_slice(b"', with args beginning with: ")?;
+    let mut args = Vec::new(alloc);
+    for place in 1..argument_count(command) {
+        if args.len() >= SHOWN {
+            break;
+        }
+        args.push(b'\'')?;
+        let room = SHOWN.saturating_sub(args.len()).saturating_add(1);
+        put_shown(&mut args, argument(command, place), room)?;
+        args.extend_from_slice(b"' ")?;
+    }
+    told.extend_from_slice(&args)?;
+    Ok(told)
 }

@@ -4,9 +4,34 @@ ghost use Rattle.std.specs.Prelude.{◌≡◌, ◌<◌, ◌∷◌, ◌++◌, [],
 ghost use Rattle.cluster_routing.specs.Directions.{direction as direction_of, shown_direction};
 ghost use Rattle.cluster_client.specs.InParts.{AreDirected};
 
+use crate::along::ask_along;
 use crate::block::flat_by;
 use cluster_client::{ClusterClient, Cmd, ConnectionLike, Direction, RedisError, Value};
 use std::alloc::{AllocError, Global};
+
+/// Where a command of a transaction goes.
+#[derive(Clone, Copy, Debug, PartialEq, Eq)]
+pub(crate) enum Place {
+    /// To the primary of this slot.
+    Slot(u16),
+    /// To that of several slots, which no transaction has.
+    Several,
+    /// Along with the others, or to any primary.
+    Any,
+}
+
+/// Where a command goes in a transaction; `None` where it goes to several nodes.
+pub(crate) fn place_of(direction: &Direction) -> Option<Place> {
+    match direction {
+        Direction::Slot(route) => Some(Place::Slot(route.slot())),
+        Direction::Parts(parts) => match parts.routes.as_slice() {
+            [(route, _)] => Some(Place::Slot(route.slot())),
+            _ => Some(Place::Several),
+        },
+        Direction::AnyNode | Direction::Nowhere(_) => Some(Place::Any),
+        Direction::AllNodes(_) | Direction::AllPrimaries(_) => None,
+    }
+}
 
 /// Commands since MULTI, in the form in which they wait for nothing, each with where it goes.
 #[derive(Drop)]
@@ -19,6 +44,10 @@ pub(crate) struct Queued {
     pub(crate) bytes: usize,
     /// Whether one behind MULTI was refused.
     pub(crate) is_aborted: bool,
+    /// The slot of those that have keys.
+    slot: Option<u16>,
+    /// Whether one goes along, so that it has no slot of its own.
+    goes_along: bool,
     ghost directed: { AreDirected commands.items directions.items } by { Prim.hlevel props },
     ghost direction_count: { vec_len directions ≡ vec_len commands } by { Prim.hlevel props },
     ghost depth_count: { vec_len depths ≡ vec_len commands } by { Prim.hlevel props },
@@ -32,11 +61,22 @@ impl Queued {
             depths: Vec::new(alloc),
             bytes: 0,
             is_aborted: false,
+            slot: None,
+            goes_along: false,
         }
     }
 
     pub(crate) fn is_empty(&self) -> bool {
         self.commands.is_empty()
+    }
+
+    /// Whether a command may stand behind these: it has their slot, if it has one.
+    pub(crate) fn agrees(&self, place: Place) -> bool {
+        match (place, self.slot) {
+            (Place::Several, _) => false,
+            (Place::Slot(slot), Some(known)) => slot == known,
+            _ => true,
+        }
     }
 
     /// Makes room for one more. Where memory is refused nothing changes.
@@ -74,6 +114,7 @@ impl Queued {
         alloc: Global,
         command: Cmd,
         direction: Direction,
+        place: Place,
         depth: u8,
     ) -> Result<(), AllocError>
         requires { shown_direction direction ≡ direction_of command.args [] }
@@ -87,6 +128,10 @@ impl Queued {
         self.directions.push(direction).unwrap();
         self.depths.push(depth).unwrap();
         self.bytes = self.bytes.saturating_add(bytes);
+        match place {
+            Place::Slot(slot) => self.slot = Some(slot),
+            Place::Several | Place::Any => self.goes_along = true,
+        }
         Ok(())
     }
 
@@ -100,13 +145,25 @@ impl Queued {
         false
     }
 
+    fn ask_all<L: ConnectionLike + Drop>(
+        &self,
+        alloc: Global,
+        client: &mut ClusterClient<L>,
+    ) -> Result<Value, RedisError> {
+        if self.goes_along {
+            ask_along(alloc, client, &self.commands, self.slot)
+        } else {
+            client.transaction_directed(alloc, &self.commands, &self.directions)
+        }
+    }
+
     /// Asks them as one transaction.
     pub(crate) fn ask<L: ConnectionLike + Drop>(
         &self,
         alloc: Global,
         client: &mut ClusterClient<L>,
     ) -> Result<Value, RedisError> {
-        let told: Value = client.transaction_directed(alloc, &self.commands, &self.directions)?;
+        let told = self.ask_all(alloc, client)?;
         if !self.has_depth() {
             return Ok(told);
         }

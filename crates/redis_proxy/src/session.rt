@@ -1,6 +1,6 @@
 //! Guests' bytes in, replies out.
 use crate::cluster::Cluster;
-use crate::frames::{CLOCK, first_frame, kept, put_alarm, put_end, time_of};
+use crate::frames::{CLOCK, first_frame, kept, put_alarm, put_end, put_ready, time_of};
 use crate::guest::{Guest, Guests};
 use crate::ids::Ids;
 use crate::side::{LIMITS, MOST_GUESTS};
@@ -27,7 +27,16 @@ pub(crate) struct Session<L> {
     /// Bytes of a frame that is not whole.
     frames: Vec<u8>,
     pub(crate) output: Vec<u8>,
+    /// How many milliseconds behind its asking the clock is to tell the time, where it was asked to.
+    alarm: Option<u32>,
+    /// Whether it was said that the slot map is known.
+    is_ready: bool,
 }
+
+/// So often the clock is to tell the time where nothing is awaited, and where a slot map is in doubt, in milliseconds.
+const IDLE: u32 = 3000;
+
+const IN_DOUBT: u32 = 250;
 
 impl<L: ConnectionLike + Drop> Session<L> {
     pub(crate) fn new(
@@ -46,6 +55,8 @@ impl<L: ConnectionLike + Drop> Session<L> {
             ids,
             frames: Vec::new(alloc),
             output: Vec::new(alloc),
+            alarm: None,
+            is_ready: false,
         }
     }
 
@@ -70,6 +81,7 @@ impl<L: ConnectionLike + Drop> Session<L> {
 
     fn take_frame(&mut self, alloc: Global, number: u32, bytes: &[u8]) -> Result<()> {
         if number == CLOCK {
+            self.alarm = None;
             if let Some(now) = time_of(bytes) {
                 self.cluster.waits.tick(now);
             }
@@ -124,7 +136,7 @@ impl<L: ConnectionLike + Drop> Session<L> {
     /// A new guest; where there is no room for it one that reads so, and has ended.
     fn let_in(&mut self, alloc: Global) -> Result<Guest, AllocError> {
         let id = self.ids.take();
-        let talk = Talk::new(alloc, id, self.is_framed);
+        let talk = Talk::new(alloc, id, self.is_framed, self.cluster.words.clone()?);
         let number = self.frontend.join(alloc, talk).ok();
         let mut guest = Guest::new(alloc, number);
         if guest.has_ended {
@@ -197,12 +209,41 @@ impl<L: ConnectionLike + Drop> Session<L> {
         Ok(())
     }
 
-    /// Asks the clock for the time where a guest waits: the more wait, the later.
-    pub(crate) fn set_alarm(&mut self) -> Result<(), AllocError> {
-        match self.cluster.waits.count() {
-            0 => Ok(()),
-            count => put_alarm(&mut self.output, count.clamp(10, 1000) as u32),
+    /// How soon the time is wanted: where guests wait, the later the more of them.
+    fn delay(&self) -> u32 {
+        let of_waits = match self.cluster.waits.count() {
+            0 => IDLE,
+            count => count.clamp(10, 1000) as u32,
+        };
+        if self.cluster.is_in_doubt() {
+            of_waits.min(IN_DOUBT)
+        } else {
+            of_waits
         }
+    }
+
+    /// Asks the clock for the time, unless it was asked to tell it as soon.
+    pub(crate) fn set_alarm(&mut self) -> Result<(), AllocError> {
+        let delay = self.delay();
+        let is_set = match self.alarm {
+            Some(asked) => asked <= delay,
+            None => false,
+        };
+        if is_set || !self.is_framed {
+            return Ok(());
+        }
+        put_alarm(&mut self.output, delay)?;
+        self.alarm = Some(delay);
+        Ok(())
+    }
+
+    /// Says that the slot map is known, once it is.
+    pub(crate) fn say_ready(&mut self) -> Result<(), AllocError> {
+        if self.is_framed && self.cluster.two.has_map && !self.is_ready {
+            put_ready(&mut self.output)?;
+            self.is_ready = true;
+        }
+        Ok(())
     }
 
     /// Whether the one guest without frames has ended.

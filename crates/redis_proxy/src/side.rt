@@ -1,13 +1,13 @@
 //! The cluster as guests of one protocol see it.
 use cluster_client::{ClusterClient, Cmd, ConnectionLike, RedisError, command};
 use cluster_servers::ClusterServers;
-use node_files::Peer;
+use node_files::{Learning, Peer};
 use proxy_core::{Limits, Room};
 use resp_core::Protocol;
 use std::alloc::{AllocError, Global};
 
-// How many redirects a request follows.
-const BUDGET: u16 = 5;
+/// How many redirects a request follows.
+pub(crate) const BUDGET: u16 = 5;
 
 /// How many guests there may be.
 pub(crate) const MOST_GUESTS: usize = 10_000;
@@ -29,6 +29,10 @@ pub(crate) struct Side<L> {
     pub(crate) greeting: Cmd,
     /// Whether a guest has spoken the protocol.
     pub(crate) is_used: bool,
+    /// When it asked for the slot map.
+    pub(crate) learning: Learning,
+    /// Whether a node told the slot map.
+    pub(crate) has_map: bool,
 }
 
 fn greeting_of(alloc: Global, protocol: Protocol) -> Result<Cmd, AllocError> {
@@ -50,6 +54,8 @@ impl<L: ConnectionLike + Drop> Side<L> {
             servers: ClusterServers::new(client),
             greeting: greeting_of(alloc, protocol)?,
             is_used: false,
+            learning: Learning::new(),
+            has_map: false,
         })
     }
 
@@ -63,10 +69,12 @@ impl<L: ConnectionLike + Drop> Side<L> {
                 break;
             }
         }
-        if let Some(place) = answered
-            && place < peers.len()
-        {
-            peers.swap(0, place);
+        match answered {
+            Some(place) if place < peers.len() => {
+                self.has_map = true;
+                peers.swap(0, place);
+            }
+            _ => self.learning.doubt(),
         }
     }
 }

@@ -4,9 +4,10 @@ ghost use Rattle.cluster_routing.specs.Directions.{direction as direction_of, sh
 
 use crate::ask::Ask;
 use crate::block::Block;
-use crate::own::{self, line, refuse};
-use crate::queued::Queued;
-use crate::way::{Own, Way, way_by_table, way_of};
+use crate::own::{self, line, refuse, unknown};
+use crate::queued::{Place, Queued, place_of};
+use crate::way::{Own, Way, is_word, way_by_table, way_of};
+use crate::words::{SharedWords, is_known};
 use cluster_client::{Cmd, Direction};
 use cluster_servers::Reply;
 use proxy_connection::Translator;
@@ -28,13 +29,18 @@ pub(crate) struct Talk {
     /// The commands since MULTI.
     pub(crate) queued: Option<Queued>,
     pub(crate) has_ended: bool,
+    /// The words that the nodes know.
+    words: SharedWords,
 }
+
+/// What a guest reads where a command behind MULTI has another slot than those before.
+const CROSSES_SLOTS: &[u8] = b"-CROSSSLOT Keys in request don't hash to the same slot";
 
 /// What a guest reads where a command has no place behind MULTI.
 const NOT_IN_TRANSACTION: &[u8] = b"-ERR proxy: this command is not served behind MULTI";
 
 impl Talk {
-    pub(crate) fn new(alloc: Global, id: i64, has_clock: bool) -> Talk {
+    pub(crate) fn new(alloc: Global, id: i64, has_clock: bool, words: SharedWords) -> Talk {
         Talk {
             id,
             has_clock,
@@ -42,7 +48,15 @@ impl Talk {
             name: Vec::new(alloc),
             queued: None,
             has_ended: false,
+            words,
         }
+    }
+
+    /// Forgets what the guest said, as RESET does.
+    pub(crate) fn reset(&mut self, alloc: Global) {
+        self.protocol = Protocol::Resp2;
+        self.name = Vec::new(alloc);
+        self.queued = None;
     }
 
     /// What a command outside a transaction puts into the queue.
@@ -104,40 +118,75 @@ impl Talk {
                 alloc,
                 b"-ERR MULTI calls can not be nested",
             )?)),
-            Way::Own(Own::Reset | Own::Quit) => self.plain(alloc, way, command),
-            Way::ByTable => {
-                let direction = Direction::for_routable(alloc, &command, &[])?;
-                match way_by_table(&direction) {
-                    Way::Keyed => self.queue(alloc, command, direction, 0),
-                    _ => self.abort(alloc, NOT_IN_TRANSACTION),
-                }
+            Way::Own(Own::Reset | Own::Quit | Own::Http) => self.plain(alloc, way, command),
+            Way::Refused if is_word(&command, 0, b"WATCH") => Ok(Entry::Reads(line(
+                alloc,
+                b"-ERR WATCH inside MULTI is not allowed",
+            )?)),
+            Way::Own(Own::Ping | Own::Echo) | Way::FirstNode => self.queue_along(alloc, command),
+            Way::Own(Own::Select) if is_word(&command, 1, b"0") => {
+                self.queue_along(alloc, command)
             }
+            Way::NewWord => {
+                let why = unknown(alloc, &command)?;
+                self.abort(alloc, &why)
+            }
+            Way::ByTable => self.queue_command(alloc, command, 0),
             Way::Wait => match Block::new(alloc, &command)? {
-                Ok(Block { attempt, depth, .. }) => {
-                    let direction = Direction::for_routable(alloc, &attempt, &[])?;
-                    self.queue(alloc, attempt, direction, depth)
-                }
+                Ok(Block { attempt, depth, .. }) => self.queue_command(alloc, attempt, depth),
                 Err(fault) => self.abort(alloc, &fault.line(alloc, &command)?),
             },
             _ => self.abort(alloc, NOT_IN_TRANSACTION),
         }
     }
 
-    /// Puts a command with its direction to those since MULTI; so many lists in its reply give way to their
-    /// items.
+    /// Puts a command that any node may serve to those since MULTI.
+    fn queue_along(&mut self, alloc: Global, command: Cmd) -> Result<Entry<Ask, Reply>, AllocError>
+        ensures err { OnErr result (self.new ≡ self.old) }
+    {
+        let direction = Direction::for_routable(alloc, &command, &[])?;
+        self.queue(alloc, command, direction, Place::Any, 0)
+    }
+
+    /// Puts a command to those since MULTI, if one node may serve it.
+    fn queue_command(
+        &mut self,
+        alloc: Global,
+        command: Cmd,
+        depth: u8,
+    ) -> Result<Entry<Ask, Reply>, AllocError>
+        ensures err { OnErr result (self.new ≡ self.old) }
+    {
+        let direction = Direction::for_routable(alloc, &command, &[])?;
+        match place_of(&direction) {
+            Some(place) => self.queue(alloc, command, direction, place, depth),
+            None => self.abort(alloc, NOT_IN_TRANSACTION),
+        }
+    }
+
+    /// Puts a command with its direction to those since MULTI, unless it goes to another slot; so many lists in its
+    /// reply give way to their items.
     fn queue(
         &mut self,
         alloc: Global,
         command: Cmd,
         direction: Direction,
+        place: Place,
         depth: u8,
     ) -> Result<Entry<Ask, Reply>, AllocError>
         requires { shown_direction direction ≡ direction_of command.args [] }
         ensures err { OnErr result (self.new ≡ self.old) }
     {
         let reply = line(alloc, b"+QUEUED")?;
+        let agrees = match &self.queued {
+            Some(queued) => queued.agrees(place),
+            None => true,
+        };
+        if !agrees {
+            return self.abort(alloc, CROSSES_SLOTS);
+        }
         if let Some(queued) = &mut self.queued {
-            queued.add(alloc, command, direction, depth)?;
+            queued.add(alloc, command, direction, place, depth)?;
         }
         Ok(Entry::Reads(reply))
     }
@@ -204,6 +253,11 @@ impl Translator<Ask, Reply> for Talk {
             command.arg(word.as_slice())?;
         }
         let way = way_of(&command);
+        let way = if way.needs_word() && !is_known(&self.words, &command) {
+            Way::NewWord
+        } else {
+            way
+        };
         if self.queued.is_some() {
             return self.behind_multi(alloc, way, command);
         }

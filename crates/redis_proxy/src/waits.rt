@@ -4,8 +4,10 @@ use crate::block::Block;
 use crate::held::ask_first;
 use crate::last_ids::with_last_ids;
 use crate::own::line;
+use crate::side::Side;
 use cluster_client::{Cause, ClusterClient, Cmd, ConnectionLike, RedisError, Value};
 use cluster_servers::{GuestCommand, Reply};
+use node_files::is_doubtful;
 use proxy_core::{Fate, Outcome};
 use resp_core::{Protocol, WriteError};
 use std::alloc::{AllocError, Global};
@@ -133,7 +135,8 @@ impl Wait {
     }
 
     /// Asks once.
-    fn ask<L: ConnectionLike + Drop>(&mut self, alloc: Global, client: &mut ClusterClient<L>) {
+    fn ask<L: ConnectionLike + Drop>(&mut self, alloc: Global, side: &mut Side<L>) {
+        let client = &mut side.servers.client;
         let has_begun = self.attempt.is_some();
         if !has_begun {
             match self.begin(alloc, client) {
@@ -148,6 +151,11 @@ impl Wait {
             return;
         };
         let told = ask_once(alloc, client, attempt);
+        if let Err(error) = &told
+            && is_doubtful(error)
+        {
+            side.learning.doubt();
+        }
         self.outcome = match told {
             Ok(reply) => self.outcome_of(alloc, reply),
             Err(error) => self.outcome_by(alloc, error, has_begun),
@@ -291,8 +299,8 @@ impl Waits {
     fn try_each<L: ConnectionLike + Drop>(
         &mut self,
         alloc: Global,
-        two: &mut ClusterClient<L>,
-        three: &mut ClusterClient<L>,
+        two: &mut Side<L>,
+        three: &mut Side<L>,
     ) -> bool {
         let mut has_got = false;
         for wait in &mut self.waits {
@@ -329,8 +337,8 @@ impl Waits {
     pub(crate) fn try_all<L: ConnectionLike + Drop>(
         &mut self,
         alloc: Global,
-        two: &mut ClusterClient<L>,
-        three: &mut ClusterClient<L>,
+        two: &mut Side<L>,
+        three: &mut Side<L>,
     ) {
         for _ in 0..self.waits.len() {
             if !self.try_each(alloc, two, three) {

@@ -1,5 +1,6 @@
 //! Which way a command goes.
 use crate::block::waits;
+use crate::guarded::{is_guarded, way_of_debug};
 use cluster_client::{Cmd, Direction, Routable};
 
 /// How a command is answered.
@@ -25,6 +26,8 @@ pub(crate) enum Way {
     Wait,
     /// By the end of another guest's wait.
     Unblock,
+    /// As the routing table says, once a node knows its word.
+    NewWord,
     /// By the proxy.
     Own(Own),
     /// It is not served.
@@ -44,11 +47,14 @@ pub(crate) enum Own {
     Multi,
     Exec,
     Discard,
+    /// A word of HTTP, which ends the guest.
+    Http,
 }
 
 const OF_3: [(&str, Way); 1] = [("ACL", Way::Refused)];
 
-const OF_4: [(&str, Way); 11] = [
+const OF_4: [(&str, Way); 12] = [
+    ("POST", Way::Own(Own::Http)),
     ("PING", Way::Own(Own::Ping)),
     ("ECHO", Way::Own(Own::Echo)),
     ("QUIT", Way::Own(Own::Quit)),
@@ -62,7 +68,8 @@ const OF_4: [(&str, Way); 11] = [
     ("SYNC", Way::Refused),
 ];
 
-const OF_5: [(&str, Way); 5] = [
+const OF_5: [(&str, Way); 6] = [
+    ("HOST:", Way::Own(Own::Http)),
     ("HELLO", Way::Own(Own::Hello)),
     ("RESET", Way::Own(Own::Reset)),
     ("MULTI", Way::Own(Own::Multi)),
@@ -111,8 +118,10 @@ const OF_12: [(&str, Way); 2] = [
     ("SUNSUBSCRIBE", Way::Refused),
 ];
 
+const OF_14: [(&str, Way); 1] = [("RESTORE-ASKING", Way::Refused)];
+
 /// The words that the routing table does not decide, by their lengths.
-const WORDS: [&[(&str, Way)]; 13] = [
+const WORDS: [&[(&str, Way)]; 15] = [
     &[],
     &[],
     &[],
@@ -126,6 +135,8 @@ const WORDS: [&[(&str, Way)]; 13] = [
     &OF_10,
     &OF_11,
     &OF_12,
+    &[],
+    &OF_14,
 ];
 
 /// How a command is answered.
@@ -142,6 +153,9 @@ pub(crate) fn way_of(command: &Cmd) -> Way {
                 return *way;
             }
         }
+    }
+    if is_guarded(command) {
+        return Way::Refused;
     }
     if waits(command) {
         return Way::Wait;
@@ -164,32 +178,37 @@ pub(crate) fn way_by_table(direction: &Direction) -> Way {
     }
 }
 
-/// A DEBUG command about a key goes to the key's node, any other to all primaries.
-fn way_of_debug(command: &Cmd) -> Way {
-    for word in [
-        b"OBJECT".as_slice(),
-        b"LISTPACK",
-        b"ZIPLIST",
-        b"QUICKLIST",
-        b"HTSTATS-KEY",
-        b"DIGEST-VALUE",
-    ] {
-        if is_word(command, 1, word) {
-            return Way::ThirdWord;
-        }
-    }
-    Way::Primaries
-}
-
 /// What changes the libraries of functions goes to all primaries, which have the same ones; what asks for them,
 /// to one.
 fn way_of_function(command: &Cmd) -> Way {
-    for word in [b"LOAD".as_slice(), b"DELETE", b"FLUSH", b"RESTORE"] {
-        if is_word(command, 1, word) {
-            return Way::Primaries;
+    if is_among(
+        &["LOAD", "DELETE", "FLUSH", "RESTORE"],
+        argument(command, 1),
+    ) {
+        Way::Primaries
+    } else {
+        Way::FirstNode
+    }
+}
+
+impl Way {
+    /// Whether the command goes to a node as its guest wrote it, so that a node is to know its word.
+    pub(crate) fn needs_word(self) -> bool {
+        !matches!(
+            self,
+            Way::Wait | Way::Unblock | Way::NewWord | Way::Own(_) | Way::Refused
+        )
+    }
+}
+
+/// Whether a word is one of these, whatever the case of its letters.
+pub(crate) fn is_among(names: &[&str], word: &[u8]) -> bool {
+    for name in names {
+        if name.as_bytes().eq_ignore_ascii_case(word) {
+            return true;
         }
     }
-    Way::FirstNode
+    false
 }
 
 /// How many arguments a command has, with its word.
